@@ -1,0 +1,13 @@
+pub mod Laws
+pub mod Begun
+pub mod Framing
+pub mod Stuffed
+pub mod Fronts
+pub mod Writing
+pub mod Unframing
+pub mod Steps
+pub mod After
+pub mod Runs
+pub mod RoundTrip
+pub mod Sound
+pub mod Examples
