@@ -1,0 +1,80 @@
+-- The bytes that an event takes: how many, one more, and whole packets of them. Assumes nothing.
+use mathlib.Core.Path.{_≡_, refl, sym, ap, _∙_}
+use mathlib.Core.List.{List, [], _∷_, _++_}
+use Prim.Native.Nat.{ℕ, zero, suc, _+_, _*_, _≤_, _<_, _%_, _/_}
+use native.Mathlib.Nat.{add-zero, add-suc, suc-add}
+use native.Mathlib.Numerals.{add-one}
+use native.Mathlib.Omega.{arith}
+use lib.ListN.{length, set, length-append}
+use lib.Seq.{sets}
+use Rattle.line.proofs.Laws.{sets-append}
+use Rattle.session.specs.Bytes.{put16}
+use Rattle.session.specs.Layout.{entries, sampleAt}
+use Rattle.session.specs.Memory.{pick, byteOf, bytesOf}
+use Rattle.session.specs.Lists.{sizeOf, extensionOf, addressOf, odtBytes}
+use Rattle.session.specs.Event.{entryBytes, gathered, stored}
+use Rattle.session.proofs.Entries.{Alike, sets-alike, size-most, entry-alike, gathered-alike}
+
+pub bytes-next : (mem : List ℕ) (a n : ℕ) → bytesOf mem a (suc n) ≡ bytesOf mem a n ++ byteOf mem (a + n) ∷ []
+unfolding bytesOf
+bytes-next mem a zero = rw add-zero
+bytes-next mem a (suc n) = rw (add-suc, ← suc-add) (ap (λ (l : List ℕ). byteOf mem a ∷ l) (bytes-next mem (suc a) n))
+
+pub bytes-length : (mem : List ℕ) (a n : ℕ) → length (bytesOf mem a n) ≡ n
+unfolding bytesOf
+bytes-length mem a zero = refl
+bytes-length mem a (suc n) = ap suc (bytes-length mem (suc a) n)
+
+-- a byte and a number after it
+put16-sets : (s : List ℕ) (i a x : ℕ) → put16 (set s i a) (i + 1) x ≡ sets s i (a ∷ x % 256 ∷ x / 256 % 256 ∷ [])
+unfolding put16
+put16-sets s i a x = simp add-one
+
+module _ (s : List ℕ) (k : ℕ) (cal meas : List ℕ) where
+  entry-length : (e : ℕ) → length (entryBytes s k e cal meas) ≡ sizeOf s k e
+  unfolding entryBytes
+  entry-length e = bytes-length (pick (extensionOf s k e) cal meas) (addressOf s k e) (sizeOf s k e)
+
+  pub gathered-length : (n : ℕ) → length (gathered s k cal meas (suc n)) ≡ length (gathered s k cal meas n) + sizeOf s k n
+  unfolding gathered
+  gathered-length n = length-append (gathered s k cal meas n) (entryBytes s k n cal meas) ∙ ap (λ (m : ℕ). length (gathered s k cal meas n) + m) (entry-length n)
+
+  pub gathered-most : (n : ℕ) → length (gathered s k cal meas n) ≤ 4 * n
+  unfolding gathered
+  gathered-most zero = omega arith
+  gathered-most (suc n) = omega (arith, gathered-length n, gathered-most n, size-most s k n)
+
+  pub gathered-odt : length (gathered s k cal meas entries) ≡ odtBytes s k
+  unfolding gathered odtBytes
+  gathered-odt = omega (arith, gathered-length 0, gathered-length 1, gathered-length 2, gathered-length 3)
+
+  -- entries are read as they were, with bytes stored past them already
+  module _ (odt : k < 8) (at : ℕ) (past : sampleAt 0 ≤ at) where
+    pub gathered-next : (n : ℕ) → n < 4 → sets (sets s at (gathered s k cal meas n)) (at + length (gathered s k cal meas n)) (entryBytes (sets s at (gathered s k cal meas n)) k n cal meas) ≡ sets s at (gathered s k cal meas (suc n))
+    unfolding gathered
+    gathered-next n h =
+        let same : Alike (sets s at (gathered s k cal meas n)) s = sets-alike (gathered s k cal meas n) s at past in
+        rw (entry-alike (sets s at (gathered s k cal meas n)) s same k odt cal meas n h) (sets-append (gathered s k cal meas n) (entryBytes s k n cal meas) s at)
+
+    pub gathered-after : (xs : List ℕ) → sets (sets s at xs) (at + length xs) (gathered (sets s at xs) k cal meas entries) ≡ sets s at (xs ++ gathered s k cal meas entries)
+    gathered-after xs = rw (gathered-alike (sets s at xs) s (sets-alike xs s at past) k odt cal meas entries (omega arith)) (sets-append xs (gathered s k cal meas entries) s at)
+
+module _ (s : List ℕ) (k : ℕ) (cal meas : List ℕ) (odt : k < 8) (n : ℕ) (bytes : n ≡ odtBytes s k) where
+  pub stored-second : sets (set s (sampleAt k) n) (sampleAt k + 1) (gathered (set s (sampleAt k) n) k cal meas entries) ≡ stored s k (gathered s k cal meas entries)
+  unfolding stored
+  stored-second =
+      gathered-after s k cal meas odt (sampleAt k) (omega arith) (n ∷ [])
+      ∙ ap (λ (m : ℕ). sets s (sampleAt k) (m ∷ gathered s k cal meas entries)) (bytes ∙ sym (gathered-odt s k cal meas))
+
+  pub stored-first : (clock : ℕ) → sets (put16 (set s (sampleAt k) (n + 2)) (sampleAt k + 1) clock) (sampleAt k + 3) (gathered (put16 (set s (sampleAt k) (n + 2)) (sampleAt k + 1) clock) k cal meas entries) ≡ stored s k (clock % 256 ∷ clock / 256 % 256 ∷ gathered s k cal meas entries)
+  unfolding stored
+  stored-first clock =
+      rw (put16-sets s (sampleAt k) (n + 2) clock)
+      (gathered-after s k cal meas odt (sampleAt k) (omega arith) ((n + 2) ∷ clock % 256 ∷ clock / 256 % 256 ∷ [])
+      ∙ ap (λ (m : ℕ). sets s (sampleAt k) (m ∷ clock % 256 ∷ clock / 256 % 256 ∷ gathered s k cal meas entries)) (omega (arith, gathered-odt s k cal meas)))
+
+-- a packet in store does not change what is gathered
+pub gathered-stored : (s : List ℕ) (k : ℕ) (bs : List ℕ) (j : ℕ) (cal meas : List ℕ) → j < 8 → gathered (stored s k bs) j cal meas entries ≡ gathered s j cal meas entries
+unfolding stored
+gathered-stored s k bs j cal meas h =
+    gathered-alike (sets s (sampleAt k) (length bs ∷ bs)) s (sets-alike (length bs ∷ bs) s (sampleAt k) (omega arith)) j h cal meas entries (omega arith)

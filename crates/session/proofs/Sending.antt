@@ -1,0 +1,55 @@
+-- What a slot sends: the packet that it lends to the line, and that its ODT is one of the eight. Assumes nothing.
+use mathlib.Core.Path.{_≡_}
+use mathlib.Core.List.{List, _∷_}
+use Prim.Native.Nat.{ℕ, zero, suc, _+_, _%_, _<_}
+use native.Mathlib.Numerals.{add-one}
+use native.Mathlib.Omega.{arith}
+use lib.Dec.{ltb}
+use lib.ListN.{length, getD, set, take, drop, length-set}
+use lib.Seq.{drop-cons, getD-set-same, drop-set-lt}
+use Rattle.line.proofs.Laws.{cond-ind}
+use Rattle.session.specs.Layout.{lists, servedAt, lastAt, firstOdt}
+use Rattle.session.specs.Bytes.{block}
+use Rattle.session.specs.State.{flagOf, answerLength}
+use Rattle.session.specs.Lists.{runsOf, storedLength}
+use Rattle.session.specs.Slot.{packetIn, orElse, roundFrom, turnOf}
+use Rattle.session.specs.declared.Turn.{Turn}
+use Rattle.session.specs.declared.Turn.the-variants.{Nobody, Answer, Packet}
+
+-- a number put before n bytes
+pub numbered : (s : List ℕ) (at k n : ℕ) → at < length s → take (suc n) (drop at (set s at k)) ≡ k ∷ block s (at + 1) n
+numbered s at k n h =
+    let i : at < length (set s at k) = rw length-set h in
+    rw (drop-cons (set s at k) at 0 i, getD-set-same s at k 0 h, drop-set-lt (suc at) s at k (omega arith), add-one)
+
+-- a packet's ODT is one of the eight
+abbrev pub Within : Turn → Type 0
+Within Nobody = Unit
+Within Answer = Unit
+Within (Packet k) = k < 8
+
+packet-within : (s : List ℕ) (l : ℕ) → l < lists → Within (packetIn s l)
+unfolding packetIn
+packet-within s l h =
+    cond-ind Within (runsOf s l)
+    (λ _. cond-ind Within (ltb 0 (storedLength s (firstOdt l))) (λ _. omega arith)
+    (λ _. cond-ind Within (ltb 0 (storedLength s (firstOdt l + 1))) (λ _. omega arith) (λ _. tt)))
+    (λ _. tt)
+
+or-within : (t u : Turn) → Within t → Within u → Within (orElse t u)
+or-within Nobody u p q = q
+or-within Answer u p q = tt
+or-within (Packet k) u p q = p
+
+round-within : (s : List ℕ) (l n : ℕ) → Within (roundFrom s l n)
+unfolding roundFrom
+round-within s l zero = tt
+round-within s l (suc n) = or-within (packetIn s (l % lists)) (roundFrom s (l + 1) n) (packet-within s (l % lists) (omega arith)) (round-within s (l + 1) n)
+
+pub turn-within : (s : List ℕ) → Within (turnOf s)
+unfolding turnOf
+turn-within s =
+    let round = round-within s (getD s servedAt 0 + 1) lists in
+    cond-ind Within (ltb 0 (answerLength s))
+    (λ _. cond-ind Within (flagOf s lastAt) (λ _. or-within (roundFrom s (getD s servedAt 0 + 1) lists) Answer round tt) (λ _. tt))
+    (λ _. round)

@@ -1,0 +1,46 @@
+use native.Mathlib.Omega.{arith}
+use mathlib.Core.Path.{_∙_}
+use lib.ListN.{length-set}
+use Rattle.session.specs.Bytes.{put32}
+use Rattle.session.specs.State.{answered}
+use borrow.Author.Needs.{needs}
+use Rattle.session.proofs.answer.seed.Statement.{statement}
+use Rattle.session.proofs.answer.seed.Tie as tie
+
+slice-write-s : tie.Need-slice-write-s
+slice-write-s c = search needs
+
+slice-write-s-2 : tie.Need-slice-write-s-2
+slice-write-s-2 c = search needs
+
+add-s : tie.Need-add-s
+add-s c = search needs
+
+slice-write-s-3 : tie.Need-slice-write-s-3
+slice-write-s-3 c = search needs
+
+add-store32 : tie.Need-add-store32
+add-store32 c = search needs
+
+store32-requires : tie.Need-store32-requires
+store32-requires c κs = simp length-set (omega arith)
+
+same-length : tie.Need-same-length
+same-length c = c .before .before .store32 .kept .0 ∙ simp length-set
+
+returns : tie.Need-returns
+unfolding answered put32
+returns c = c .before .before .store32 .ensures
+
+pub seed-spec : {M : Type 1} → statement M
+seed-spec =
+    tie.close
+    (tie.spec
+    slice-write-s
+    slice-write-s-2
+    add-s
+    slice-write-s-3
+    add-store32
+    store32-requires
+    same-length
+    returns)

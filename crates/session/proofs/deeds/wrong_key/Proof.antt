@@ -1,0 +1,21 @@
+use mathlib.Core.Path.{_∙_}
+use Rattle.session.specs.Perform.{effect, reply}
+use borrow.Author.Needs.{needs}
+use Rattle.session.proofs.deeds.wrong_key.Statement.{statement}
+use Rattle.session.proofs.deeds.wrong_key.Tie as tie
+
+close-requires : tie.Need-close-requires
+close-requires c κs = search needs
+
+refusal-requires : tie.Need-refusal-requires
+refusal-requires c κs = search needs
+
+same-length : tie.Need-same-length
+same-length c = search needs
+
+returns : tie.Need-returns
+unfolding effect reply
+returns c = c .before .before .refusal .ensures ∙ rw (c .before .before .before .before .before .before .close .ensures)
+
+pub wrong-key-spec : {M : Type 1} → statement M
+wrong-key-spec = tie.close (tie.spec close-requires refusal-requires same-length returns)

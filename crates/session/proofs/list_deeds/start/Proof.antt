@@ -1,0 +1,24 @@
+use mathlib.Core.Path.{_∙_}
+use Rattle.session.specs.Perform.{effect, reply}
+use borrow.Author.Needs.{needs}
+use Rattle.session.proofs.list_deeds.start.Statement.{statement}
+use Rattle.session.proofs.list_deeds.start.Tie as tie
+
+start-requires : tie.Need-start-requires
+start-requires c κs = search needs
+
+mul-two : tie.Need-mul-two
+mul-two c = search needs
+
+two-requires : tie.Need-two-requires
+two-requires c κs = search needs
+
+same-length : tie.Need-same-length
+same-length c = search needs
+
+returns : tie.Need-returns
+unfolding effect reply
+returns c = c .before .before .two .ensures ∙ rw (c .before .before .before .before .before .before .start .ensures)
+
+pub start-spec : {M : Type 1} → statement M
+start-spec = tie.close (tie.spec start-requires mul-two two-requires same-length returns)

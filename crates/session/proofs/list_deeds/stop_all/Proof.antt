@@ -1,0 +1,21 @@
+use mathlib.Core.Path.{_∙_}
+use Rattle.session.specs.Perform.{effect, reply}
+use borrow.Author.Needs.{needs}
+use Rattle.session.proofs.list_deeds.stop_all.Statement.{statement}
+use Rattle.session.proofs.list_deeds.stop_all.Tie as tie
+
+stop-all-requires : tie.Need-stop-all-requires
+stop-all-requires c κs = search needs
+
+ok-requires : tie.Need-ok-requires
+ok-requires c κs = search needs
+
+same-length : tie.Need-same-length
+same-length c = search needs
+
+returns : tie.Need-returns
+unfolding effect reply
+returns c = c .before .before .ok .ensures ∙ rw (c .before .before .before .before .before .before .stop-all .ensures)
+
+pub stop-all-spec : {M : Type 1} → statement M
+stop-all-spec = tie.close (tie.spec stop-all-requires ok-requires same-length returns)

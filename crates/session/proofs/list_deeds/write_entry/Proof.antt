@@ -1,0 +1,35 @@
+use mathlib.Core.Path.{_∙_}
+use Rattle.session.specs.Perform.{effect, reply}
+use borrow.Author.Needs.{needs}
+use Rattle.session.proofs.list_deeds.write_entry.Statement.{statement}
+use Rattle.session.proofs.list_deeds.write_entry.Tie as tie
+
+set-entry-requires : tie.Need-set-entry-requires
+set-entry-requires c κs = search needs
+
+next-entry-requires : tie.Need-next-entry-requires
+next-entry-requires c κs = search needs
+
+set-pointer-requires : tie.Need-set-pointer-requires
+set-pointer-requires c κs = search needs
+
+ok-requires : tie.Need-ok-requires
+ok-requires c κs = search needs
+
+same-length : tie.Need-same-length
+same-length c = search needs
+
+returns : tie.Need-returns
+unfolding effect reply
+returns c = c .before .before .ok .ensures ∙ rw (c .before .before .before .before .before .before .set-pointer .ensures, c .before .before .before .before .before .before .before .before .before .before .before .set-entry .ensures, c .before .before .before .before .before .before .before .next-entry .ensures .0)
+
+pub write-entry-spec : {M : Type 1} → statement M
+write-entry-spec =
+    tie.close
+    (tie.spec
+    set-entry-requires
+    next-entry-requires
+    set-pointer-requires
+    ok-requires
+    same-length
+    returns)

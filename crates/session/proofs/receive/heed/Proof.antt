@@ -1,0 +1,83 @@
+use mathlib.Core.Path.{refl, sym, _∙_}
+use borrow.Author.Tests.{lt-ltb, le-ltb}
+use lib.ListN.{length}
+use Rattle.session.specs.Bytes.{block}
+use Rattle.session.specs.Receive.{heeded}
+use Rattle.session.proofs.Packet.{packet-length}
+use Rattle.session.proofs.Doable.{judge-doable}
+use borrow.Author.Needs.{needs}
+use Rattle.session.proofs.receive.heed.Statement.{statement}
+use Rattle.session.proofs.receive.heed.Tie as tie
+
+answer-length-requires : tie.Need-answer-length-requires
+answer-length-requires c κs = search needs
+
+same-length : tie.Need-same-length
+same-length c = search needs
+
+returns : tie.Need-returns
+unfolding heeded
+returns c = simp (← (c .before .answer-length .ensures .0), lt-ltb _ _ (c .if1 .taken)) (record { result = refl; state = refl; memory = refl })
+
+flag-requires : tie.Need-flag-requires
+flag-requires c κs = search needs
+
+judge-requires : tie.Need-judge-requires
+judge-requires c κs = search needs
+
+perform-requires : tie.Need-perform-requires
+perform-requires c κs = (c .before .before .before .before .before .before .before .before .before .before .before .before .before .pre .0, c .before .before .before .before .before .before .before .before .before .before .before .before .before .pre .2, rw (c .before .before .judge .ensures) (rw (packet-length (c .before .before .before .before .before .before .before .before .before .before .before .before .before .args .s .now) (c .before .before .before .before .before .before .before .before .before .before .before .before .before .args .n) (c .before .before .before .before .before .before .before .before .before .before .before .before .before .pre .2) (c .before .before .before .before .before .before .before .before .before .before .before .before .before .pre .0)) at (judge-doable (block (c .before .before .before .before .before .before .before .before .before .before .before .before .before .args .s .now) 229 (c .before .before .before .before .before .before .before .before .before .before .before .before .before .args .n)) (c .before .before .before .before .before .before .before .before .before .before .before .before .before .args .s .now) (length (c .before .before .before .before .before .before .before .before .before .before .before .before .before .args .cal .now)) (length (c .before .before .before .before .before .before .before .before .before .before .before .before .before .args .meas .now)))))
+
+same-length-2 : tie.Need-same-length-2
+same-length-2 c = search needs
+
+same-length-3 : tie.Need-same-length-3
+same-length-3 c = search needs
+
+returns-2 : tie.Need-returns-2
+unfolding heeded
+returns-2 c = simp (← (c .before .before .before .before .before .before .before .before .before .before .before .before .before .answer-length .ensures .0), le-ltb _ _ (c .before .before .before .before .before .before .before .before .before .before .before .before .if1 .left), sym (c .before .before .before .before .before .before .before .before .before .before .flag .ensures) ∙ c .before .before .before .before .before .before .before .before .before .if2 .taken, ← (c .before .before .before .before .before .before .before .judge .ensures)) (record { result = refl; state = c .before .before .before .before .perform .ensures .state; memory = c .before .before .before .before .perform .ensures .memory })
+
+is-greeting-requires : tie.Need-is-greeting-requires
+is-greeting-requires c κs = search needs
+
+perform-requires-2 : tie.Need-perform-requires-2
+perform-requires-2 c κs = search needs
+
+same-length-4 : tie.Need-same-length-4
+same-length-4 c = search needs
+
+same-length-5 : tie.Need-same-length-5
+same-length-5 c = search needs
+
+returns-3 : tie.Need-returns-3
+unfolding heeded
+returns-3 c = simp (← (c .before .before .before .before .before .before .before .before .before .before .before .before .before .before .answer-length .ensures .0), le-ltb _ _ (c .before .before .before .before .before .before .before .before .before .before .before .before .before .if1 .left), sym (c .before .before .before .before .before .before .before .before .before .before .before .flag .ensures) ∙ c .before .before .before .before .before .before .before .before .before .before .if2 .left, sym (c .before .before .before .before .before .before .before .before .is-greeting .ensures) ∙ c .before .before .before .before .before .before .before .if3 .taken) (record { result = refl; state = c .before .before .before .before .perform2 .ensures .state; memory = c .before .before .before .before .perform2 .ensures .memory })
+
+same-length-6 : tie.Need-same-length-6
+same-length-6 c = search needs
+
+returns-4 : tie.Need-returns-4
+unfolding heeded
+returns-4 c = simp (← (c .before .before .before .before .before .before .before .answer-length .ensures .0), le-ltb _ _ (c .before .before .before .before .before .before .if1 .left), sym (c .before .before .before .before .flag .ensures) ∙ c .before .before .before .if2 .left, sym (c .before .is-greeting .ensures) ∙ c .if3 .left) (record { result = refl; state = refl; memory = refl })
+
+pub heed-spec : {M : Type 1} → statement M
+heed-spec =
+    tie.close
+    (tie.spec
+    answer-length-requires
+    same-length
+    returns
+    flag-requires
+    judge-requires
+    perform-requires
+    same-length-2
+    same-length-3
+    returns-2
+    is-greeting-requires
+    perform-requires-2
+    same-length-4
+    same-length-5
+    returns-3
+    same-length-6
+    returns-4)

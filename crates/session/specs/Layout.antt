@@ -1,0 +1,122 @@
+-- Where everything lies in the lent state. Limits and places have one name each; later limits change numbers here.
+use Prim.Native.Nat.{ℕ, _+_, _*_, _/_}
+
+-- four lists, each two ODTs of four entries
+abbrev pub lists : ℕ
+lists = 4
+
+abbrev pub odts : ℕ
+odts = 2
+
+abbrev pub entries : ℕ
+entries = 4
+
+-- most bytes of an entry, and of each ODT in a packet
+abbrev pub entryMost : ℕ
+entryMost = 4
+
+abbrev pub odt0Most : ℕ
+odt0Most = 5
+
+abbrev pub odt1Most : ℕ
+odt1Most = 7
+
+-- the first 4,096 bytes of a memory at most can be addressed
+abbrev pub addressable : ℕ
+addressable = 4096
+
+-- the mark that power-up writes
+abbrev pub mark : ℕ
+mark = 0x31504358
+
+abbrev pub markAt : ℕ
+markAt = 0
+
+-- what runs on across sessions
+abbrev pub generatorAt : ℕ
+generatorAt = 4
+
+abbrev pub ctrAt : ℕ
+ctrAt = 8
+
+abbrev pub servedAt : ℕ
+servedAt = 9
+
+abbrev pub lastAt : ℕ
+lastAt = 10
+
+-- the session's own bytes, all 0 in a closed one
+abbrev pub sessionAt : ℕ
+sessionAt = 11
+
+abbrev pub sessionSize : ℕ
+sessionSize = 214
+
+abbrev pub openAt : ℕ
+openAt = 11
+
+abbrev pub calibrationAt : ℕ
+calibrationAt = 12
+
+abbrev pub listsAt : ℕ
+listsAt = 13
+
+abbrev pub seedAt : ℕ
+seedAt = 14
+
+abbrev pub mtaAt : ℕ
+mtaAt = 15
+
+abbrev pub addressAt : ℕ
+addressAt = 16
+
+abbrev pub pointerAt : ℕ
+pointerAt = 20
+
+-- of each list: mode, selected, running
+abbrev pub modeAt : ℕ → ℕ
+modeAt l = 21 + 3 * l
+
+abbrev pub selectedAt : ℕ → ℕ
+selectedAt l = 22 + 3 * l
+
+abbrev pub runningAt : ℕ → ℕ
+runningAt l = 23 + 3 * l
+
+-- of each ODT, by its absolute number: four entries of size, extension, address
+abbrev pub entriesAt : ℕ → ℕ
+entriesAt k = 33 + 16 * k
+
+abbrev pub entryAt : ℕ → ℕ → ℕ
+entryAt k e = entriesAt k + 4 * e
+
+-- of each ODT: the length of its waiting packet without the number, and seven bytes
+abbrev pub sampleAt : ℕ → ℕ
+sampleAt k = 161 + 8 * k
+
+-- the reader's place with its message buffer
+abbrev pub placeAt : ℕ
+placeAt = 225
+
+abbrev pub countAt : ℕ
+countAt = 226
+
+abbrev pub messageAt : ℕ
+messageAt = 227
+
+abbrev pub packetAt : ℕ
+packetAt = 229
+
+-- the waiting answer: its length, and eight bytes
+abbrev pub answerAt : ℕ
+answerAt = 238
+
+abbrev pub size : ℕ
+size = 247
+
+-- a list's first ODT, and an ODT's list
+abbrev pub firstOdt : ℕ → ℕ
+firstOdt l = odts * l
+
+abbrev pub listOf : ℕ → ℕ
+listOf k = k / odts

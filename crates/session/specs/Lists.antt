@@ -1,0 +1,117 @@
+-- How the lists read: their modes, entries and waiting packets.
+use Prim.Native.Nat.{ℕ, zero, suc, _+_, _%_}
+use mathlib.Core.Bool.{Bool, true, false, cond}
+use mathlib.Core.List.{List}
+use lib.Dec.{eqb, ltb}
+use lib.ListN.{getD, set}
+use Rattle.session.specs.Layout.{entryMost, odt0Most, odt1Most, modeAt, selectedAt, runningAt, entriesAt, entryAt, sampleAt, firstOdt}
+use Rattle.session.specs.Bytes.{u16At, put16, cleared}
+use Rattle.session.specs.State.{flagOf, openOf}
+use Rattle.session.specs.declared.Extension.{Extension}
+use Rattle.session.specs.declared.Extension.the-variants.{Calibration, Measured}
+
+-- ---- entries
+-- a size above 4 reads as 0
+unfoldable pub sizeOf : List ℕ → ℕ → ℕ → ℕ
+sizeOf s k e = cond (ltb entryMost (getD s (entryAt k e) 0)) 0 (getD s (entryAt k e) 0)
+
+unfoldable pub extensionOf : List ℕ → ℕ → ℕ → Extension
+extensionOf s k e = cond (flagOf s (entryAt k e + 1)) Measured Calibration
+
+unfoldable pub addressOf : List ℕ → ℕ → ℕ → ℕ
+addressOf s k e = u16At s (entryAt k e + 2)
+
+-- the bytes of an ODT
+unfoldable pub odtBytes : List ℕ → ℕ → ℕ
+odtBytes s k = sizeOf s k 0 + sizeOf s k 1 + sizeOf s k 2 + sizeOf s k 3
+
+-- ---- lists
+-- mode never set, or set for event 0 or event 1
+unfoldable pub modeOf : List ℕ → ℕ → ℕ
+modeOf s l = cond (ltb 2 (getD s (modeAt l) 0)) 0 (getD s (modeAt l) 0)
+
+-- whether a list can be started
+unfoldable pub fitOf : List ℕ → ℕ → Bool
+fitOf s l =
+    cond (eqb (modeOf s l) 0) false
+    (cond (eqb (odtBytes s (firstOdt l) + odtBytes s (firstOdt l + 1)) 0) false
+    (cond (ltb odt0Most (odtBytes s (firstOdt l))) false
+    (cond (ltb odt1Most (odtBytes s (firstOdt l + 1))) false true)))
+
+-- a list runs if a session is open, its flag says so and it could be started
+unfoldable pub runsOf : List ℕ → ℕ → Bool
+runsOf s l = cond (openOf s) (cond (flagOf s (runningAt l)) (fitOf s l) false) false
+
+-- some of the first n lists runs
+unfoldable pub anyRuns : List ℕ → ℕ → Bool
+anyRuns s zero = false
+anyRuns s (suc n) = cond (anyRuns s n) true (runsOf s n)
+
+-- list l, if it is selected, can be started
+unfoldable pub mayStart : List ℕ → ℕ → Bool
+mayStart s l = cond (flagOf s (selectedAt l)) (fitOf s l) true
+
+-- every selected one of the first n lists can be started
+unfoldable pub allFit : List ℕ → ℕ → Bool
+allFit s zero = true
+allFit s (suc n) = cond (allFit s n) (mayStart s n) false
+
+-- ---- packets
+-- the length of ODT k's packet in store, without its number: the clock at least for an ODT 0, 1 at least for an ODT 1
+unfoldable pub leastOf : ℕ → ℕ
+leastOf k = cond (eqb (k % 2) 0) 2 1
+
+unfoldable pub storedLength : List ℕ → ℕ → ℕ
+storedLength s k = cond (ltb (getD s (sampleAt k) 0) (leastOf k)) 0 (cond (ltb 7 (getD s (sampleAt k) 0)) 0 (getD s (sampleAt k) 0))
+
+-- ---- changes
+-- the running flag, with both packets dropped
+unfoldable pub restarted : List ℕ → ℕ → ℕ → List ℕ
+restarted s l on = set (set (set s (runningAt l) on) (sampleAt (firstOdt l)) 0) (sampleAt (firstOdt l + 1)) 0
+
+abbrev pub stopped : List ℕ → ℕ → List ℕ
+stopped s l = restarted s l 0
+
+abbrev pub started : List ℕ → ℕ → List ℕ
+started s l = restarted s l 1
+
+-- as after E3
+unfoldable pub listCleared : List ℕ → ℕ → List ℕ
+listCleared s l = cleared (cleared s (modeAt l) 3) (entriesAt (firstOdt l)) 32
+
+unfoldable pub modeSet : List ℕ → ℕ → ℕ → List ℕ
+modeSet s l event = set (set s (modeAt l) (event + 1)) (runningAt l) 0
+
+abbrev pub tagOf : Extension → ℕ
+tagOf Calibration = 0
+tagOf Measured = 1
+
+-- an entry of ODT k, whose list is l; one of size 0 is all zeros
+unfoldable pub entryCleared : List ℕ → ℕ → ℕ → ℕ → List ℕ
+entryCleared s l k e = cleared (set s (runningAt l) 0) (entryAt k e) 4
+
+unfoldable pub entrySet : List ℕ → ℕ → ℕ → ℕ → ℕ → Extension → ℕ → List ℕ
+entrySet s l k e n ext a =
+    put16 (set (set (set s (runningAt l) 0) (entryAt k e) n) (entryAt k e + 1) (tagOf ext)) (entryAt k e + 2) a
+
+-- START_STOP_SYNCH, list by list
+abbrev pub deselected : List ℕ → ℕ → List ℕ
+deselected s l = set s (selectedAt l) 0
+
+unfoldable pub stopEach : List ℕ → ℕ → List ℕ
+stopEach s zero = s
+stopEach s (suc n) = deselected (stopped (stopEach s n) n) n
+
+abbrev pub startOne : List ℕ → ℕ → List ℕ
+startOne s l = cond (flagOf s (selectedAt l)) (cond (runsOf s l) s (started s l)) s
+
+unfoldable pub startSelected : List ℕ → ℕ → List ℕ
+startSelected s zero = s
+startSelected s (suc n) = deselected (startOne (startSelected s n) n) n
+
+abbrev pub stopOne : List ℕ → ℕ → List ℕ
+stopOne s l = cond (flagOf s (selectedAt l)) (stopped s l) s
+
+unfoldable pub stopSelected : List ℕ → ℕ → List ℕ
+stopSelected s zero = s
+stopSelected s (suc n) = deselected (stopOne (stopSelected s n) n) n

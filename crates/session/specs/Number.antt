@@ -1,0 +1,62 @@
+-- The paper's number and value for each answer of a call.
+use Prim.Native.Nat.{ℕ, _+_, _*_, _≤_}
+use Rattle.line.specs.Message.{room}
+use Rattle.session.specs.declared.Received.{Received}
+use Rattle.session.specs.declared.Received.the-variants.{Nothing, Answered, Silent, BadLength, BadEscape, BadChecksum, Unread, CutOff, NoState}
+use Rattle.session.specs.declared.Evented.{Evented}
+use Rattle.session.specs.declared.Evented.the-variants as event
+use Rattle.session.specs.declared.Slotted.{Slotted}
+use Rattle.session.specs.declared.Slotted.the-variants as slot
+use Rattle.session.specs.declared.PoweredUp.{PoweredUp}
+use Rattle.session.specs.declared.PoweredUp.the-variants as power
+
+abbrev pub receivedNumber : Received → ℕ
+receivedNumber Nothing = 0
+receivedNumber Answered = 1
+receivedNumber Silent = 2
+receivedNumber BadLength = 3
+receivedNumber BadEscape = 4
+receivedNumber BadChecksum = 5
+receivedNumber Unread = 6
+receivedNumber CutOff = 7
+receivedNumber NoState = 10
+
+abbrev pub eventedNumber : Evented → ℕ
+eventedNumber (event.Done sampled missed) = 0
+eventedNumber event.BadEvent = 8
+eventedNumber event.NoState = 10
+
+abbrev pub slottedNumber : Slotted → ℕ
+slottedNumber slot.Idle = 0
+slottedNumber (slot.Sent size) = 0
+slottedNumber slot.NoRoom = 9
+slottedNumber slot.NoState = 10
+
+abbrev pub poweredUpNumber : PoweredUp → ℕ
+poweredUpNumber power.Done = 0
+poweredUpNumber power.NoState = 10
+
+-- to C: 65,536 times the number, plus a slot's size, or 256 times the sampled lists plus the missed
+abbrev pub receivedC : Received → ℕ
+receivedC r = 65536 * receivedNumber r
+
+abbrev pub eventedC : Evented → ℕ
+eventedC (event.Done sampled missed) = 256 * sampled + missed
+eventedC event.BadEvent = 65536 * 8
+eventedC event.NoState = 65536 * 10
+
+abbrev pub slottedC : Slotted → ℕ
+slottedC slot.Idle = 0
+slottedC (slot.Sent size) = size
+slottedC slot.NoRoom = 65536 * 9
+slottedC slot.NoState = 65536 * 10
+
+abbrev pub poweredUpC : PoweredUp → ℕ
+poweredUpC r = 65536 * poweredUpNumber r
+
+-- a frame's size is at most the room
+abbrev pub Small : Slotted → Type 0
+Small slot.Idle = Unit
+Small (slot.Sent size) = size ≤ room
+Small slot.NoRoom = Unit
+Small slot.NoState = Unit

@@ -1,0 +1,32 @@
+-- Power-up: it judges the size alone, writes every byte and reads none.
+use Prim.Native.Nat.{ℕ}
+use mathlib.Core.Path.{_≡_}
+use mathlib.Core.Bool.{cond}
+use mathlib.Core.List.{List}
+use lib.Dec.{eqb}
+use lib.ListN.{length, set, replicate}
+use Rattle.session.specs.Layout.{mark, markAt, servedAt, size}
+use Rattle.session.specs.Bytes.{put32}
+use Rattle.session.specs.Generator.{startOf}
+use Rattle.session.specs.State.{setGenerator}
+use Rattle.session.specs.declared.PoweredUp.{PoweredUp}
+use Rattle.session.specs.declared.PoweredUp.the-variants.{Done, NoState}
+
+-- list 3 counts as last served; all else is 0
+unfoldable pub powered : ℕ → List ℕ
+powered start = set (setGenerator (put32 (replicate size 0) markAt mark) (startOf start)) servedAt 3
+
+pub record Power : Type 0 where
+  pub poweredUp : PoweredUp
+  pub state : List ℕ
+
+unfoldable pub powerUpOf : List ℕ → ℕ → Power
+powerUpOf s start =
+    cond (eqb (length s) size)
+    (record { poweredUp = Done; state = powered start })
+    (record { poweredUp = NoState; state = s })
+
+-- a function that answers r and leaves s does what p says
+pub record Powers (p : Power) (r : PoweredUp) (s : List ℕ) : Type 0 where
+  pub result : r ≡ p .poweredUp
+  pub state : s ≡ p .state

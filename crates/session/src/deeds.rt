@@ -1,0 +1,153 @@
+// The deeds of a session and of memory access: of each its effect, then its answer.
+ghost use mathlib.Core.Path.{_≡_};
+ghost use mathlib.Core.Bool.{cond};
+ghost use mathlib.Core.List.{[], _∷_};
+ghost use Prim.Native.Nat.{_+_, _≤_};
+ghost use lib.ListN.{length};
+ghost use Rattle.session.specs.Layout.{size, addressable, packetAt};
+ghost use Rattle.session.specs.Bytes.{block};
+ghost use Rattle.session.specs.Memory.{pick, blockSum};
+ghost use Rattle.session.specs.State.{answered};
+ghost use Rattle.session.specs.Perform.{after, written};
+ghost use Rattle.session.specs.Doable.{Inside};
+use crate::Deed;
+use crate::Extension;
+use crate::Mta;
+use crate::Resource;
+use crate::Seed;
+use crate::answer;
+use crate::bytes::copy;
+use crate::layout;
+use crate::lists::any_runs;
+use crate::memory::block_sum;
+use crate::state;
+
+// BUILD_CHECKSUM's refusal of a size names the most that it sums.
+pub fn refuse_size(s: &mut [u8])
+    requires { ⌜ length (now s) ≡ size ⌝ }
+    ensures { λ _. ⌜ now (s .exit) ≡ after Deed.RefuseSize (now (s .entry)) [] [] ⌝ }
+{
+    answer::eight(s, 0xFE, 0x22, 0x00, 0x00, 0x00, 0x10, 0x00, 0x00);
+}
+
+pub fn connect(s: &mut [u8])
+    requires { ⌜ length (now s) ≡ size ⌝ }
+    ensures { λ _. ⌜ now (s .exit) ≡ after Deed.Connect (now (s .entry)) [] [] ⌝ }
+{
+    state::begin(s);
+    answer::eight(s, 0xFF, 0x05, 0x00, 0x08, 0x08, 0x00, 0x01, 0x01);
+}
+
+pub fn disconnect(s: &mut [u8])
+    requires { ⌜ length (now s) ≡ size ⌝ }
+    ensures { λ _. ⌜ now (s .exit) ≡ after Deed.Disconnect (now (s .entry)) [] [] ⌝ }
+{
+    state::close(s);
+    answer::ok(s);
+}
+
+// A wrong key ends the session.
+pub fn wrong_key(s: &mut [u8])
+    requires { ⌜ length (now s) ≡ size ⌝ }
+    ensures { λ _. ⌜ now (s .exit) ≡ after Deed.WrongKey (now (s .entry)) [] [] ⌝ }
+{
+    state::close(s);
+    answer::refusal(s, crate::Reason::WrongKey);
+}
+
+fn running_bit(runs: bool) -> u8
+    ensures { λ r. ⌜ r ≡ cond runs 0x40 0x00 ⌝ }
+{
+    if runs { 0x40 } else { 0x00 }
+}
+
+pub fn status(s: &mut [u8])
+    requires { ⌜ length (now s) ≡ size ⌝ }
+    ensures { λ _. ⌜ now (s .exit) ≡ after Deed.Status (now (s .entry)) [] [] ⌝ }
+{
+    let running = running_bit(any_runs(s));
+    let mask = state::mask(s);
+    answer::six(s, 0xFF, running, mask, 0x00, 0x00, 0x00);
+}
+
+// Each seed given is the generator's next state.
+pub fn give_seed(s: &mut [u8], resource: Resource)
+    requires { ⌜ length (now s) ≡ size ⌝ }
+    ensures { λ _. ⌜ now (s .exit) ≡ after (Deed.GiveSeed resource) (now (s .entry)) [] [] ⌝ }
+{
+    let g = state::generator(s).next();
+    state::set_generator(s, g);
+    state::set_seed(s, Seed::For(resource));
+    answer::seed(s, g.x);
+}
+
+// The seed is used up.
+pub fn unlock(s: &mut [u8], resource: Resource)
+    requires { ⌜ length (now s) ≡ size ⌝ }
+    ensures { λ _. ⌜ now (s .exit) ≡ after (Deed.Unlock resource) (now (s .entry)) [] [] ⌝ }
+{
+    state::unlock(s, resource);
+    state::set_seed(s, Seed::None);
+    let mask = state::mask(s);
+    answer::two(s, 0xFF, mask);
+}
+
+pub fn set_mta(s: &mut [u8], extension: Extension, address: u32)
+    requires { ⌜ length (now s) ≡ size ⌝ }
+    ensures { λ _. ⌜ now (s .exit) ≡ after (Deed.SetMta extension address) (now (s .entry)) [] [] ⌝ }
+{
+    state::set_mta(s, Mta::At(extension, address));
+    answer::ok(s);
+}
+
+// FF and a block of the memory that the extension stands for. MTA stays.
+pub fn read(s: &mut [u8], cal: &[u8], meas: &[u8], extension: Extension, address: u32, n: u8)
+    requires { ⌜ (length (now s) ≡ size) × Inside 7 address n (pick extension (length (now cal)) (length (now meas))) ⌝ }
+    ensures { λ _. ⌜ now (s .exit) ≡ answered (now (s .entry)) (0xFF ∷ block (pick extension (now (cal .entry)) (now (meas .entry))) address n) ⌝ }
+{
+    match extension {
+        Extension::Calibration => {
+            answer::bytes(s, cal, address as usize, n);
+        }
+        Extension::Measured => {
+            answer::bytes(s, meas, address as usize, n);
+        }
+    }
+}
+
+pub fn upload(s: &mut [u8], cal: &[u8], meas: &[u8], extension: Extension, address: u32, n: u8)
+    requires { ⌜ (length (now s) ≡ size) × Inside 7 address n (pick extension (length (now cal)) (length (now meas))) ⌝ }
+    ensures { λ _. ⌜ now (s .exit) ≡ after (Deed.Upload extension address n) (now (s .entry)) (now (cal .entry)) (now (meas .entry)) ⌝ }
+{
+    state::set_mta(s, Mta::At(extension, address + n as u32));
+    read(s, cal, meas, extension, address, n);
+}
+
+fn sum_of(cal: &[u8], meas: &[u8], extension: Extension, address: u32, n: u32) -> u32
+    requires { ⌜ Inside addressable address n (pick extension (length (now cal)) (length (now meas))) ⌝ }
+    ensures { λ r. ⌜ r ≡ blockSum (pick extension (now (cal .entry)) (now (meas .entry))) address n ⌝ }
+{
+    match extension {
+        Extension::Calibration => block_sum(cal, address as usize, n as usize),
+        Extension::Measured => block_sum(meas, address as usize, n as usize),
+    }
+}
+
+pub fn checksum(s: &mut [u8], cal: &[u8], meas: &[u8], extension: Extension, address: u32, n: u32)
+    requires { ⌜ (length (now s) ≡ size) × Inside addressable address n (pick extension (length (now cal)) (length (now meas))) ⌝ }
+    ensures { λ _. ⌜ now (s .exit) ≡ after (Deed.Checksum extension address n) (now (s .entry)) (now (cal .entry)) (now (meas .entry)) ⌝ }
+{
+    let sum = sum_of(cal, meas, extension, address, n);
+    state::set_mta(s, Mta::At(extension, address + n));
+    answer::sum(s, sum);
+}
+
+// The data lies in the packet from its third byte on.
+pub fn download(s: &mut [u8], cal: &mut [u8], address: u32, n: u8, len: u8)
+    requires { ⌜ (length (now s) ≡ size) × (len ≤ 8) × (n + 2 ≤ len) × Inside 6 address n (length (now cal)) ⌝ }
+    ensures { λ _. ⌜ (now (s .exit) ≡ after (Deed.Download address n) (now (s .entry)) [] []) × (now (cal .exit) ≡ written (Deed.Download address n) (block (now (s .entry)) packetAt len) (now (cal .entry))) ⌝ }
+{
+    copy(cal, address as usize, s, layout::PACKET + 2, n as usize);
+    state::set_mta(s, Mta::At(Extension::Calibration, address + n as u32));
+    answer::ok(s);
+}

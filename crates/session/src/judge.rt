@@ -1,0 +1,504 @@
+// What a command leads to. Of each command the checks stand in the paper's order, one line a check.
+ghost use mathlib.Core.Path.{_≡_};
+ghost use Prim.Native.Nat.{_+_, _≤_, _<_};
+ghost use lib.ListN.{length};
+ghost use Rattle.session.specs.Layout.{lists, size, packetAt};
+ghost use Rattle.session.specs.Bytes.{block};
+ghost use Rattle.session.specs.State.{seedOf, pointerOf};
+ghost use Rattle.session.specs.Command.{commandOf, fewest, needsOf, lockedOf};
+ghost use Rattle.session.specs.Judge.{extensionFrom, connectDeed, seedDeed, getSeedDeed, unlockBy, setMtaDeed, uploadDeed, shortUploadDeed, checksumDeed, downloadTo, downloadDeed, clearDeed, pointerDeed, writeBlock, writeDeed, modeDeed, startDeed, startStopDeed, synchDeed, judgeThe, judge};
+use crate::Command;
+use crate::Deed;
+use crate::Extension;
+use crate::Mta;
+use crate::Needs;
+use crate::Pointer;
+use crate::Reason;
+use crate::Resource;
+use crate::Seed;
+use crate::bytes::get16;
+use crate::bytes::get32;
+use crate::layout;
+use crate::lists::all_fit;
+use crate::lists::fit;
+use crate::lists::runs;
+use crate::memory::inside;
+use crate::memory::length_of;
+use crate::seeds::key_for;
+use crate::state;
+
+// The dispatch: every other code is unknown.
+fn command(code: u8) -> Command
+    ensures { λ r. ⌜ r ≡ commandOf code ⌝ }
+{
+    match code {
+        0xFF => Command::Connect,
+        0xFE => Command::Disconnect,
+        0xFD => Command::GetStatus,
+        0xFC => Command::Synch,
+        0xF9..=0xFB => Command::Unknown,
+        0xF8 => Command::GetSeed,
+        0xF7 => Command::Unlock,
+        0xF6 => Command::SetMta,
+        0xF5 => Command::Upload,
+        0xF4 => Command::ShortUpload,
+        0xF3 => Command::BuildChecksum,
+        0xF1..=0xF2 => Command::Unknown,
+        0xF0 => Command::Download,
+        0xE4..=0xEF => Command::Unknown,
+        0xE3 => Command::ClearDaqList,
+        0xE2 => Command::SetDaqPtr,
+        0xE1 => Command::WriteDaq,
+        0xE0 => Command::SetDaqListMode,
+        0xDF => Command::Unknown,
+        0xDE => Command::StartStopDaqList,
+        0xDD => Command::StartStopSynch,
+        0xDB..=0xDC => Command::Unknown,
+        0xDA => Command::GetDaqProcessorInfo,
+        0xD9 => Command::GetDaqResolutionInfo,
+        _ => Command::Unknown,
+    }
+}
+
+// The fewest bytes of a command.
+fn fewest(command: Command) -> u8
+    ensures { λ r. ⌜ r ≡ fewest command ⌝ }
+{
+    match command {
+        Command::Unknown => 0,
+        Command::Connect => 2,
+        Command::Disconnect => 1,
+        Command::GetStatus => 1,
+        Command::Synch => 1,
+        Command::GetSeed => 3,
+        Command::Unlock => 2,
+        Command::SetMta => 8,
+        Command::Upload => 2,
+        Command::ShortUpload => 8,
+        Command::BuildChecksum => 8,
+        Command::Download => 2,
+        Command::ClearDaqList => 4,
+        Command::SetDaqPtr => 6,
+        Command::WriteDaq => 8,
+        Command::SetDaqListMode => 8,
+        Command::StartStopDaqList => 4,
+        Command::StartStopSynch => 2,
+        Command::GetDaqProcessorInfo => 1,
+        Command::GetDaqResolutionInfo => 1,
+    }
+}
+
+// The lock that must be open for a command.
+fn needs(command: Command) -> Needs
+    ensures { λ r. ⌜ r ≡ needsOf command ⌝ }
+{
+    match command {
+        Command::Unknown => Needs::Nothing,
+        Command::Connect => Needs::Nothing,
+        Command::Disconnect => Needs::Nothing,
+        Command::GetStatus => Needs::Nothing,
+        Command::Synch => Needs::Nothing,
+        Command::GetSeed => Needs::Nothing,
+        Command::Unlock => Needs::Nothing,
+        Command::SetMta => Needs::Nothing,
+        Command::Upload => Needs::Nothing,
+        Command::ShortUpload => Needs::Nothing,
+        Command::BuildChecksum => Needs::Nothing,
+        Command::Download => Needs::Unlocked(Resource::Calibration),
+        Command::ClearDaqList => Needs::Unlocked(Resource::Lists),
+        Command::SetDaqPtr => Needs::Unlocked(Resource::Lists),
+        Command::WriteDaq => Needs::Unlocked(Resource::Lists),
+        Command::SetDaqListMode => Needs::Unlocked(Resource::Lists),
+        Command::StartStopDaqList => Needs::Unlocked(Resource::Lists),
+        Command::StartStopSynch => Needs::Unlocked(Resource::Lists),
+        Command::GetDaqProcessorInfo => Needs::Unlocked(Resource::Lists),
+        Command::GetDaqResolutionInfo => Needs::Unlocked(Resource::Lists),
+    }
+}
+
+fn locked(s: &[u8], needs: Needs) -> bool
+    requires { ⌜ length (now s) ≡ size ⌝ }
+    ensures { λ r. ⌜ r ≡ lockedOf (now (s .entry)) needs ⌝ }
+{
+    match needs {
+        Needs::Nothing => false,
+        Needs::Unlocked(resource) => !state::unlocked(s, resource),
+    }
+}
+
+// 0 is calibration; a number above 1 was refused before.
+fn extension_from(n: u8) -> Extension
+    ensures { λ r. ⌜ r ≡ extensionFrom n ⌝ }
+{
+    if n == 0 {
+        Extension::Calibration
+    } else {
+        Extension::Measured
+    }
+}
+
+fn connect(mode: u8) -> Deed
+    ensures { λ r. ⌜ r ≡ connectDeed mode ⌝ }
+{
+    if mode == 0 {
+        Deed::Connect
+    } else {
+        Deed::Refuse(Reason::OutOfRange)
+    }
+}
+
+fn seed_for(s: &[u8], resource: Resource) -> Deed
+    requires { ⌜ length (now s) ≡ size ⌝ }
+    ensures { λ r. ⌜ r ≡ seedDeed (now (s .entry)) resource ⌝ }
+{
+    if state::unlocked(s, resource) {
+        Deed::NoSeed
+    } else {
+        Deed::GiveSeed(resource)
+    }
+}
+
+fn get_seed(s: &[u8], mode: u8, resource: u8) -> Deed
+    requires { ⌜ length (now s) ≡ size ⌝ }
+    ensures { λ r. ⌜ r ≡ getSeedDeed (now (s .entry)) mode resource ⌝ }
+{
+    if mode == 1 {
+        return Deed::Refuse(Reason::Sequence);
+    }
+    if 1 < mode {
+        return Deed::Refuse(Reason::OutOfRange);
+    }
+    if resource == 0x01 {
+        return seed_for(s, Resource::Calibration);
+    }
+    if resource == 0x04 {
+        return seed_for(s, Resource::Lists);
+    }
+    Deed::Refuse(Reason::OutOfRange)
+}
+
+fn unlock(s: &[u8], n: u8) -> Deed
+    requires { ⌜ (length (now s) ≡ size) × (2 ≤ n) × (n ≤ 8) ⌝ }
+    ensures { λ r. ⌜ r ≡ unlockBy (seedOf (now (s .entry))) (block (now (s .entry)) packetAt n) (now (s .entry)) ⌝ }
+{
+    let seed = state::seed(s);
+    match seed {
+        Seed::None => Deed::Refuse(Reason::Sequence),
+        Seed::For(resource) => {
+            if s[layout::PACKET + 1] != 4 {
+                return Deed::Refuse(Reason::OutOfRange);
+            }
+            if n < 6 {
+                return Deed::Refuse(Reason::DataMissing);
+            }
+            let g = state::generator(s);
+            if get32(s, layout::PACKET + 2) == key_for(resource, g.x) {
+                Deed::Unlock(resource)
+            } else {
+                Deed::WrongKey
+            }
+        }
+    }
+}
+
+fn set_mta(extension: u8, address: u32) -> Deed
+    ensures { λ r. ⌜ r ≡ setMtaDeed extension address ⌝ }
+{
+    if 1 < extension {
+        return Deed::Refuse(Reason::OutOfRange);
+    }
+    Deed::SetMta(extension_from(extension), address)
+}
+
+fn upload(mta: Mta, n: u8, nc: usize, nm: usize) -> Deed
+    ensures { λ r. ⌜ r ≡ uploadDeed mta n nc nm ⌝ }
+{
+    match mta {
+        Mta::Unset => Deed::Refuse(Reason::Sequence),
+        Mta::At(extension, address) => {
+            if n == 0 {
+                return Deed::Refuse(Reason::OutOfRange);
+            }
+            if 7 < n {
+                return Deed::Refuse(Reason::OutOfRange);
+            }
+            if inside(address, n as u32, length_of(extension, nc, nm)) {
+                Deed::Upload(extension, address, n)
+            } else {
+                Deed::Refuse(Reason::NotInside)
+            }
+        }
+    }
+}
+
+fn short_upload(n: u8, extension: u8, address: u32, nc: usize, nm: usize) -> Deed
+    ensures { λ r. ⌜ r ≡ shortUploadDeed n extension address nc nm ⌝ }
+{
+    if n == 0 {
+        return Deed::Refuse(Reason::OutOfRange);
+    }
+    if 7 < n {
+        return Deed::Refuse(Reason::OutOfRange);
+    }
+    if 1 < extension {
+        return Deed::Refuse(Reason::OutOfRange);
+    }
+    let from = extension_from(extension);
+    if inside(address, n as u32, length_of(from, nc, nm)) {
+        Deed::ShortUpload(from, address, n)
+    } else {
+        Deed::Refuse(Reason::NotInside)
+    }
+}
+
+fn build_checksum(mta: Mta, n: u32, nc: usize, nm: usize) -> Deed
+    ensures { λ r. ⌜ r ≡ checksumDeed mta n nc nm ⌝ }
+{
+    match mta {
+        Mta::Unset => Deed::Refuse(Reason::Sequence),
+        Mta::At(extension, address) => {
+            if n == 0 {
+                return Deed::RefuseSize;
+            }
+            if 4096 < n {
+                return Deed::RefuseSize;
+            }
+            if inside(address, n, length_of(extension, nc, nm)) {
+                Deed::Checksum(extension, address, n)
+            } else {
+                Deed::Refuse(Reason::NotInside)
+            }
+        }
+    }
+}
+
+fn download_to(extension: Extension, address: u32, n: u8, nc: usize) -> Deed
+    ensures { λ r. ⌜ r ≡ downloadTo extension address n nc ⌝ }
+{
+    match extension {
+        Extension::Measured => Deed::Refuse(Reason::ReadOnly),
+        Extension::Calibration => {
+            if inside(address, n as u32, nc) {
+                Deed::Download(address, n)
+            } else {
+                Deed::Refuse(Reason::NotInside)
+            }
+        }
+    }
+}
+
+fn download(mta: Mta, n: u8, length: u8, nc: usize) -> Deed
+    ensures { λ r. ⌜ r ≡ downloadDeed mta n length nc ⌝ }
+{
+    match mta {
+        Mta::Unset => Deed::Refuse(Reason::Sequence),
+        Mta::At(extension, address) => {
+            if n == 0 {
+                return Deed::Refuse(Reason::OutOfRange);
+            }
+            if 6 < n {
+                return Deed::Refuse(Reason::OutOfRange);
+            }
+            if length < n + 2 {
+                return Deed::Refuse(Reason::DataMissing);
+            }
+            download_to(extension, address, n, nc)
+        }
+    }
+}
+
+fn clear_list(s: &[u8], l: u16) -> Deed
+    requires { ⌜ length (now s) ≡ size ⌝ }
+    ensures { λ r. ⌜ r ≡ clearDeed (now (s .entry)) l ⌝ }
+{
+    if layout::LISTS <= l {
+        return Deed::Refuse(Reason::OutOfRange);
+    }
+    if runs(s, l as usize) {
+        return Deed::Refuse(Reason::ListRuns);
+    }
+    Deed::ClearList(l as u8)
+}
+
+fn set_pointer(l: u16, odt: u8, entry: u8) -> Deed
+    ensures { λ r. ⌜ r ≡ pointerDeed l odt entry ⌝ }
+{
+    if layout::LISTS <= l {
+        return Deed::Refuse(Reason::OutOfRange);
+    }
+    if layout::ODTS <= odt {
+        return Deed::Refuse(Reason::OutOfRange);
+    }
+    if layout::ENTRIES <= entry {
+        return Deed::Refuse(Reason::OutOfRange);
+    }
+    Deed::SetPointer(layout::ODTS * l as u8 + odt, entry)
+}
+
+// A block of size 0 is always inside.
+fn write_block(k: u8, e: u8, n: u8, extension: Extension, address: u32, length: usize) -> Deed
+    ensures { λ r. ⌜ r ≡ writeBlock k e n extension address length ⌝ }
+{
+    if n == 0 {
+        return Deed::ClearEntry(k, e);
+    }
+    if inside(address, n as u32, length) {
+        Deed::WriteEntry(k, e, n, extension, address)
+    } else {
+        Deed::Refuse(Reason::NotInside)
+    }
+}
+
+fn write_entry(s: &[u8], bit: u8, n: u8, extension: u8, address: u32, nc: usize, nm: usize) -> Deed
+    requires { ⌜ length (now s) ≡ size ⌝ }
+    ensures { λ r. ⌜ r ≡ writeDeed (pointerOf (now (s .entry))) (now (s .entry)) bit n extension address nc nm ⌝ }
+{
+    let pointer = state::pointer(s);
+    match pointer {
+        Pointer::Unset => Deed::Refuse(Reason::Sequence),
+        Pointer::At { odt, entry } => {
+            if bit != 0xFF {
+                return Deed::Refuse(Reason::OutOfRange);
+            }
+            if layout::ENTRY_MOST < n {
+                return Deed::Refuse(Reason::OutOfRange);
+            }
+            if 1 < extension {
+                return Deed::Refuse(Reason::OutOfRange);
+            }
+            if runs(s, (odt / 2) as usize) {
+                return Deed::Refuse(Reason::ListRuns);
+            }
+            let from = extension_from(extension);
+            write_block(odt, entry, n, from, address, length_of(from, nc, nm))
+        }
+    }
+}
+
+fn set_mode(s: &[u8], mode: u8, l: u16, event: u16, prescaler: u8, priority: u8) -> Deed
+    requires { ⌜ length (now s) ≡ size ⌝ }
+    ensures { λ r. ⌜ r ≡ modeDeed (now (s .entry)) mode l event prescaler priority ⌝ }
+{
+    if mode != 0x10 {
+        return Deed::Refuse(Reason::OutOfRange);
+    }
+    if layout::LISTS <= l {
+        return Deed::Refuse(Reason::OutOfRange);
+    }
+    if 1 < event {
+        return Deed::Refuse(Reason::OutOfRange);
+    }
+    if prescaler != 1 {
+        return Deed::Refuse(Reason::OutOfRange);
+    }
+    if priority != 0 {
+        return Deed::Refuse(Reason::OutOfRange);
+    }
+    if runs(s, l as usize) {
+        return Deed::Refuse(Reason::ListRuns);
+    }
+    Deed::SetMode(l as u8, event as u8)
+}
+
+fn start(s: &[u8], l: u8) -> Deed
+    requires { ⌜ (length (now s) ≡ size) × (l < lists) ⌝ }
+    ensures { λ r. ⌜ r ≡ startDeed (now (s .entry)) l ⌝ }
+{
+    if runs(s, l as usize) {
+        return Deed::KeepRunning(l);
+    }
+    if fit(s, l as usize) {
+        return Deed::Start(l);
+    }
+    Deed::Refuse(Reason::CannotStart)
+}
+
+fn start_stop(s: &[u8], mode: u8, l: u16) -> Deed
+    requires { ⌜ length (now s) ≡ size ⌝ }
+    ensures { λ r. ⌜ r ≡ startStopDeed (now (s .entry)) mode l ⌝ }
+{
+    if 2 < mode {
+        return Deed::Refuse(Reason::OutOfRange);
+    }
+    if layout::LISTS <= l {
+        return Deed::Refuse(Reason::OutOfRange);
+    }
+    if mode == 0 {
+        return Deed::Stop(l as u8);
+    }
+    if mode == 1 {
+        return start(s, l as u8);
+    }
+    Deed::Select(l as u8)
+}
+
+fn start_stop_synch(s: &[u8], mode: u8) -> Deed
+    requires { ⌜ length (now s) ≡ size ⌝ }
+    ensures { λ r. ⌜ r ≡ synchDeed (now (s .entry)) mode ⌝ }
+{
+    if 2 < mode {
+        return Deed::Refuse(Reason::OutOfRange);
+    }
+    if mode == 0 {
+        return Deed::StopAll;
+    }
+    if mode == 1 {
+        if all_fit(s) {
+            return Deed::StartSelected;
+        }
+        return Deed::Refuse(Reason::CannotStart);
+    }
+    Deed::StopSelected
+}
+
+// Each command's own checks, on the n bytes of its packet.
+fn judge_the(command: Command, s: &[u8], n: u8, nc: usize, nm: usize) -> Deed
+    requires { ⌜ (length (now s) ≡ size) × (fewest command ≤ n) × (n ≤ 8) ⌝ }
+    ensures { λ r. ⌜ r ≡ judgeThe command (block (now (s .entry)) packetAt n) (now (s .entry)) nc nm ⌝ }
+{
+    let p = layout::PACKET;
+    match command {
+        Command::Unknown => Deed::Refuse(Reason::Unknown),
+        Command::Connect => connect(s[p + 1]),
+        Command::Disconnect => Deed::Disconnect,
+        Command::GetStatus => Deed::Status,
+        Command::Synch => Deed::Synch,
+        Command::GetSeed => get_seed(s, s[p + 1], s[p + 2]),
+        Command::Unlock => unlock(s, n),
+        Command::SetMta => set_mta(s[p + 3], get32(s, p + 4)),
+        Command::Upload => upload(state::mta(s), s[p + 1], nc, nm),
+        Command::ShortUpload => short_upload(s[p + 1], s[p + 3], get32(s, p + 4), nc, nm),
+        Command::BuildChecksum => build_checksum(state::mta(s), get32(s, p + 4), nc, nm),
+        Command::Download => download(state::mta(s), s[p + 1], n, nc),
+        Command::ClearDaqList => clear_list(s, get16(s, p + 2)),
+        Command::SetDaqPtr => set_pointer(get16(s, p + 2), s[p + 4], s[p + 5]),
+        Command::WriteDaq => write_entry(s, s[p + 1], s[p + 2], s[p + 3], get32(s, p + 4), nc, nm),
+        Command::SetDaqListMode => set_mode(
+            s,
+            s[p + 1],
+            get16(s, p + 2),
+            get16(s, p + 4),
+            s[p + 6],
+            s[p + 7],
+        ),
+        Command::StartStopDaqList => start_stop(s, s[p + 1], get16(s, p + 2)),
+        Command::StartStopSynch => start_stop_synch(s, s[p + 1]),
+        Command::GetDaqProcessorInfo => Deed::ProcessorInfo,
+        Command::GetDaqResolutionInfo => Deed::ResolutionInfo,
+    }
+}
+
+// The command in the n bytes of the packet; unknown, too short and locked are judged once for all.
+pub fn judge(s: &[u8], n: u8, nc: usize, nm: usize) -> Deed
+    requires { ⌜ (length (now s) ≡ size) × (1 ≤ n) × (n ≤ 8) ⌝ }
+    ensures { λ r. ⌜ r ≡ judge (block (now (s .entry)) packetAt n) (now (s .entry)) nc nm ⌝ }
+{
+    let c = command(s[layout::PACKET]);
+    if n < fewest(c) {
+        return Deed::Refuse(Reason::TooShort);
+    }
+    if locked(s, needs(c)) {
+        return Deed::Refuse(Reason::Locked);
+    }
+    judge_the(c, s, n, nc, nm)
+}

@@ -1,0 +1,118 @@
+// The deeds of the lists: of each its effect, then its answer.
+ghost use mathlib.Core.Path.{_≡_};
+ghost use mathlib.Core.List.{[]};
+ghost use Prim.Native.Nat.{_≤_, _<_};
+ghost use lib.ListN.{length};
+ghost use Rattle.session.specs.Layout.{lists, size};
+ghost use Rattle.session.specs.Perform.{nextEntry, after};
+ghost use Rattle.session.specs.State.{Pointed};
+use crate::Deed;
+use crate::Extension;
+use crate::Pointer;
+use crate::answer;
+use crate::changes;
+use crate::state;
+
+pub fn clear_list(s: &mut [u8], l: u8)
+    requires { ⌜ (length (now s) ≡ size) × (l < lists) ⌝ }
+    ensures { λ _. ⌜ now (s .exit) ≡ after (Deed.ClearList l) (now (s .entry)) [] [] ⌝ }
+{
+    changes::clear_list(s, l as usize);
+    answer::ok(s);
+}
+
+pub fn set_pointer(s: &mut [u8], k: u8, e: u8)
+    requires { ⌜ (length (now s) ≡ size) × (k < 8) × (e < 4) ⌝ }
+    ensures { λ _. ⌜ now (s .exit) ≡ after (Deed.SetPointer k e) (now (s .entry)) [] [] ⌝ }
+{
+    state::set_pointer(s, Pointer::At { odt: k, entry: e });
+    answer::ok(s);
+}
+
+// After an ODT's last entry the pointer is unset.
+fn next_entry(k: u8, e: u8) -> Pointer
+    requires { ⌜ (k < 8) × (e < 4) ⌝ }
+    ensures { λ r. ⌜ (r ≡ nextEntry k e) × Pointed r ⌝ }
+{
+    if e == 3 {
+        return Pointer::Unset;
+    }
+    Pointer::At {
+        odt: k,
+        entry: e + 1,
+    }
+}
+
+pub fn clear_entry(s: &mut [u8], k: u8, e: u8)
+    requires { ⌜ (length (now s) ≡ size) × (k < 8) × (e < 4) ⌝ }
+    ensures { λ _. ⌜ now (s .exit) ≡ after (Deed.ClearEntry k e) (now (s .entry)) [] [] ⌝ }
+{
+    changes::clear_entry(s, k as usize, e as usize);
+    state::set_pointer(s, next_entry(k, e));
+    answer::ok(s);
+}
+
+pub fn write_entry(s: &mut [u8], k: u8, e: u8, n: u8, extension: Extension, address: u32)
+    requires { ⌜ (length (now s) ≡ size) × (k < 8) × (e < 4) ⌝ }
+    ensures { λ _. ⌜ now (s .exit) ≡ after (Deed.WriteEntry k e n extension address) (now (s .entry)) [] [] ⌝ }
+{
+    changes::set_entry(s, k as usize, e as usize, n, extension, address);
+    state::set_pointer(s, next_entry(k, e));
+    answer::ok(s);
+}
+
+pub fn set_mode(s: &mut [u8], l: u8, event: u8)
+    requires { ⌜ (length (now s) ≡ size) × (l < lists) × (event ≤ 1) ⌝ }
+    ensures { λ _. ⌜ now (s .exit) ≡ after (Deed.SetMode l event) (now (s .entry)) [] [] ⌝ }
+{
+    changes::set_mode(s, l as usize, event);
+    answer::ok(s);
+}
+
+pub fn stop(s: &mut [u8], l: u8)
+    requires { ⌜ (length (now s) ≡ size) × (l < lists) ⌝ }
+    ensures { λ _. ⌜ now (s .exit) ≡ after (Deed.Stop l) (now (s .entry)) [] [] ⌝ }
+{
+    changes::stop(s, l as usize);
+    answer::two(s, 0xFF, 2 * l);
+}
+
+pub fn start(s: &mut [u8], l: u8)
+    requires { ⌜ (length (now s) ≡ size) × (l < lists) ⌝ }
+    ensures { λ _. ⌜ now (s .exit) ≡ after (Deed.Start l) (now (s .entry)) [] [] ⌝ }
+{
+    changes::start(s, l as usize);
+    answer::two(s, 0xFF, 2 * l);
+}
+
+pub fn select(s: &mut [u8], l: u8)
+    requires { ⌜ (length (now s) ≡ size) × (l < lists) ⌝ }
+    ensures { λ _. ⌜ now (s .exit) ≡ after (Deed.Select l) (now (s .entry)) [] [] ⌝ }
+{
+    changes::select(s, l as usize, 1);
+    answer::two(s, 0xFF, 2 * l);
+}
+
+pub fn stop_all(s: &mut [u8])
+    requires { ⌜ length (now s) ≡ size ⌝ }
+    ensures { λ _. ⌜ now (s .exit) ≡ after Deed.StopAll (now (s .entry)) [] [] ⌝ }
+{
+    changes::stop_all(s);
+    answer::ok(s);
+}
+
+pub fn start_selected(s: &mut [u8])
+    requires { ⌜ length (now s) ≡ size ⌝ }
+    ensures { λ _. ⌜ now (s .exit) ≡ after Deed.StartSelected (now (s .entry)) [] [] ⌝ }
+{
+    changes::start_selected(s);
+    answer::ok(s);
+}
+
+pub fn stop_selected(s: &mut [u8])
+    requires { ⌜ length (now s) ≡ size ⌝ }
+    ensures { λ _. ⌜ now (s .exit) ≡ after Deed.StopSelected (now (s .entry)) [] [] ⌝ }
+{
+    changes::stop_selected(s);
+    answer::ok(s);
+}

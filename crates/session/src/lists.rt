@@ -1,0 +1,176 @@
+// The lists: how they read.
+ghost use mathlib.Core.Path.{_≡_};
+ghost use Prim.Native.Nat.{_≤_, _<_};
+ghost use lib.ListN.{length};
+ghost use Rattle.session.specs.Layout.{lists, size, selectedAt};
+ghost use Rattle.session.specs.State.{flagOf};
+ghost use Rattle.session.specs.Lists.{sizeOf, extensionOf, addressOf, odtBytes, modeOf, fitOf, runsOf, anyRuns, mayStart, allFit, leastOf, storedLength};
+use crate::Extension;
+use crate::bytes::get16;
+use crate::layout;
+use crate::state::flag;
+
+// ---- entries
+
+// An entry's size; above 4 it reads as 0.
+pub fn entry_size(s: &[u8], k: usize, e: usize) -> u8
+    requires { ⌜ (length (now s) ≡ size) × (k < 8) × (e < 4) ⌝ }
+    ensures { λ r. ⌜ (r ≡ sizeOf (now (s .entry)) k e) × (r ≤ 4) ⌝ }
+{
+    let n = s[layout::ENTRY + layout::ODT_SIZE * k + layout::ENTRY_SIZE * e];
+    if layout::ENTRY_MOST < n {
+        return 0;
+    }
+    n
+}
+
+pub fn entry_extension(s: &[u8], k: usize, e: usize) -> Extension
+    requires { ⌜ (length (now s) ≡ size) × (k < 8) × (e < 4) ⌝ }
+    ensures { λ r. ⌜ r ≡ extensionOf (now (s .entry)) k e ⌝ }
+{
+    if flag(
+        s,
+        layout::ENTRY + layout::ODT_SIZE * k + layout::ENTRY_SIZE * e + 1,
+    ) {
+        Extension::Measured
+    } else {
+        Extension::Calibration
+    }
+}
+
+pub fn entry_address(s: &[u8], k: usize, e: usize) -> u16
+    requires { ⌜ (length (now s) ≡ size) × (k < 8) × (e < 4) ⌝ }
+    ensures { λ r. ⌜ r ≡ addressOf (now (s .entry)) k e ⌝ }
+{
+    get16(
+        s,
+        layout::ENTRY + layout::ODT_SIZE * k + layout::ENTRY_SIZE * e + 2,
+    )
+}
+
+// The bytes of an ODT.
+pub fn odt_bytes(s: &[u8], k: usize) -> u8
+    requires { ⌜ (length (now s) ≡ size) × (k < 8) ⌝ }
+    ensures { λ r. ⌜ (r ≡ odtBytes (now (s .entry)) k) × (r ≤ 16) ⌝ }
+{
+    entry_size(s, k, 0) + entry_size(s, k, 1) + entry_size(s, k, 2) + entry_size(s, k, 3)
+}
+
+// ---- lists
+
+// 0 where a list's mode was never set, else 1 more than its event.
+pub fn mode(s: &[u8], l: usize) -> u8
+    requires { ⌜ (length (now s) ≡ size) × (l < lists) ⌝ }
+    ensures { λ r. ⌜ (r ≡ modeOf (now (s .entry)) l) × (r ≤ 2) ⌝ }
+{
+    let n = s[layout::MODE + layout::LIST_SIZE * l];
+    if 2 < n {
+        return 0;
+    }
+    n
+}
+
+pub fn selected(s: &[u8], l: usize) -> bool
+    requires { ⌜ (length (now s) ≡ size) × (l < lists) ⌝ }
+    ensures { λ r. ⌜ r ≡ flagOf (now (s .entry)) (selectedAt l) ⌝ }
+{
+    flag(s, layout::SELECTED + layout::LIST_SIZE * l)
+}
+
+// Whether a list can be started.
+pub fn fit(s: &[u8], l: usize) -> bool
+    requires { ⌜ (length (now s) ≡ size) × (l < lists) ⌝ }
+    ensures { λ r. ⌜ r ≡ fitOf (now (s .entry)) l ⌝ }
+{
+    if mode(s, l) == 0 {
+        return false;
+    }
+    let first = odt_bytes(s, 2 * l);
+    let second = odt_bytes(s, 2 * l + 1);
+    if first + second == 0 {
+        return false;
+    }
+    if layout::ODT0_MOST < first {
+        return false;
+    }
+    if layout::ODT1_MOST < second {
+        return false;
+    }
+    true
+}
+
+pub fn runs(s: &[u8], l: usize) -> bool
+    requires { ⌜ (length (now s) ≡ size) × (l < lists) ⌝ }
+    ensures { λ r. ⌜ r ≡ runsOf (now (s .entry)) l ⌝ }
+{
+    if flag(s, layout::OPEN) {
+        if flag(s, layout::RUNNING + layout::LIST_SIZE * l) {
+            return fit(s, l);
+        }
+        return false;
+    }
+    false
+}
+
+pub fn any_runs(s: &[u8]) -> bool
+    requires { ⌜ length (now s) ≡ size ⌝ }
+    ensures { λ r. ⌜ r ≡ anyRuns (now (s .entry)) lists ⌝ }
+{
+    let mut l = 0;
+    while l < 4 {
+        if runs(s, l) {
+            return true;
+        }
+        l += 1;
+    }
+    false
+}
+
+// Whether a list that is selected can be started.
+fn may_start(s: &[u8], l: usize) -> bool
+    requires { ⌜ (length (now s) ≡ size) × (l < lists) ⌝ }
+    ensures { λ r. ⌜ r ≡ mayStart (now (s .entry)) l ⌝ }
+{
+    if selected(s, l) {
+        return fit(s, l);
+    }
+    true
+}
+
+// Whether every selected list can be started.
+pub fn all_fit(s: &[u8]) -> bool
+    requires { ⌜ length (now s) ≡ size ⌝ }
+    ensures { λ r. ⌜ r ≡ allFit (now (s .entry)) lists ⌝ }
+{
+    let mut l = 0;
+    while l < 4 {
+        if !may_start(s, l) {
+            return false;
+        }
+        l += 1;
+    }
+    true
+}
+
+// ---- packets
+
+fn least(k: usize) -> u8
+    ensures { λ r. ⌜ r ≡ leastOf k ⌝ }
+{
+    if k % 2 == 0 { 2 } else { 1 }
+}
+
+// The length of an ODT's packet in store, without its number; 0 where there is none.
+pub fn stored_length(s: &[u8], k: usize) -> u8
+    requires { ⌜ (length (now s) ≡ size) × (k < 8) ⌝ }
+    ensures { λ r. ⌜ (r ≡ storedLength (now (s .entry)) k) × (r ≤ 7) ⌝ }
+{
+    let n = s[layout::SAMPLE + layout::SAMPLE_SIZE * k];
+    if n < least(k) {
+        return 0;
+    }
+    if 7 < n {
+        return 0;
+    }
+    n
+}

@@ -1,0 +1,69 @@
+// A received byte in a consistent state.
+ghost use mathlib.Core.Path.{_≡_};
+ghost use Prim.Native.Nat.{_≤_};
+ghost use lib.ListN.{length};
+ghost use Rattle.session.specs.Layout.{size, packetAt};
+ghost use Rattle.session.specs.Bytes.{block};
+ghost use Rattle.session.specs.Receive.{Receives, greets, heeded, fedOf, receivedBy};
+use crate::Deed;
+use crate::Received;
+use crate::judge::judge;
+use crate::layout;
+use crate::perform::perform;
+use crate::state;
+use line::Outcome;
+
+// Whether the packet of n bytes is a good CONNECT.
+fn is_greeting(s: &[u8], n: u8) -> bool
+    requires { ⌜ (length (now s) ≡ size) × (1 ≤ n) × (n ≤ 8) ⌝ }
+    ensures { λ r. ⌜ r ≡ greets (block (now (s .entry)) packetAt n) ⌝ }
+{
+    if s[layout::PACKET] != 0xFF {
+        return false;
+    }
+    if n < 2 {
+        return false;
+    }
+    s[layout::PACKET + 1] == 0
+}
+
+// A good message, whose packet has n bytes.
+fn heed(s: &mut [u8], cal: &mut [u8], meas: &[u8], n: u8) -> Received
+    requires { ⌜ (length (now s) ≡ size) × (1 ≤ n) × (n ≤ 8) ⌝ }
+    ensures { λ r. ⌜ Receives (heeded (block (now (s .entry)) packetAt n) (now (s .entry)) (now (cal .entry)) (now (meas .entry))) r (now (s .exit)) (now (cal .exit)) ⌝ }
+{
+    if 0 < state::answer_length(s) {
+        return Received::Unread;
+    }
+    if state::flag(s, layout::OPEN) {
+        let deed = judge(s, n, cal.len(), meas.len());
+        perform(deed, s, cal, meas, n);
+        return Received::Answered;
+    }
+    if is_greeting(s, n) {
+        perform(Deed::Connect, s, cal, meas, n);
+        return Received::Answered;
+    }
+    Received::Silent
+}
+
+// The line says what ended, then the session says what it means.
+pub fn receive(s: &mut [u8], cal: &mut [u8], meas: &[u8], byte: u8) -> Received
+    requires { ⌜ length (now s) ≡ size ⌝ }
+    ensures { λ r. ⌜ Receives (receivedBy (fedOf (now (s .entry)) byte) (now (s .entry)) (now (cal .entry)) (now (meas .entry))) r (now (s .exit)) (now (cal .exit)) ⌝ }
+{
+    let place = state::place(s);
+    let taken = line::take(place, &mut s[layout::MESSAGE..layout::ANSWER], byte);
+    let next = taken.place;
+    state::set_place(s, next);
+    let outcome = taken.outcome;
+    match outcome {
+        Outcome::Nothing => Received::Nothing,
+        Outcome::Good { ctr: _, at: _, len } => heed(s, cal, meas, len as u8),
+        Outcome::BadLength => Received::BadLength,
+        Outcome::BadEscape => Received::BadEscape,
+        Outcome::BadChecksum => Received::BadChecksum,
+        Outcome::CutOff => Received::CutOff,
+        Outcome::NoRoom => Received::NoState,
+    }
+}

@@ -1,0 +1,277 @@
+// The state's fields: how each byte reads, and how it is written.
+ghost use mathlib.Core.Path.{_≡_};
+ghost use Prim.Native.Nat.{_≤_, _<_};
+ghost use lib.ListN.{length, set};
+ghost use Rattle.session.specs.Layout.{size};
+ghost use Rattle.session.specs.State.{consistent, flagOf, generatorOf, setGenerator, lockAt, bitOf, maskOf, seedOf, setSeed, mtaTag, mtaOf, setMta, pointerOf, setPointer, Pointed, closed, fresh, placeOf, setPlace, answerLength, answerKind};
+use crate::Extension;
+use crate::Generator;
+use crate::Mta;
+use crate::Pointer;
+use crate::Resource;
+use crate::Seed;
+use crate::bytes::clear;
+use crate::bytes::get32;
+use crate::bytes::store32;
+use crate::layout;
+use line::Place;
+
+// Size and mark are the whole test of a state.
+pub fn is_consistent(s: &[u8]) -> bool
+    ensures { λ r. ⌜ r ≡ consistent (now (s .entry)) ⌝ }
+{
+    if s.len() != layout::STATE {
+        return false;
+    }
+    get32(s, layout::MARK_AT) == layout::MARK
+}
+
+pub fn flag(s: &[u8], at: usize) -> bool
+    requires { ⌜ at < length (now s) ⌝ }
+    ensures { λ r. ⌜ r ≡ flagOf (now (s .entry)) at ⌝ }
+{
+    s[at] == 1
+}
+
+pub fn generator(s: &[u8]) -> Generator
+    requires { ⌜ length (now s) ≡ size ⌝ }
+    ensures { λ r. ⌜ r .x ≡ generatorOf (now (s .entry)) ⌝ }
+{
+    Generator::new(get32(s, layout::GENERATOR))
+}
+
+pub fn set_generator(s: &mut [u8], g: Generator)
+    requires { ⌜ length (now s) ≡ size ⌝ }
+    ensures { λ _. ⌜ now (s .exit) ≡ setGenerator (now (s .entry)) (g .x) ⌝ }
+{
+    store32(s, layout::GENERATOR, g.x);
+}
+
+fn lock_at(resource: Resource) -> usize
+    ensures { λ r. ⌜ (r ≡ lockAt resource) × (r < size) ⌝ }
+{
+    match resource {
+        Resource::Calibration => layout::CALIBRATION,
+        Resource::Lists => layout::LISTS_LOCK,
+    }
+}
+
+pub fn unlocked(s: &[u8], resource: Resource) -> bool
+    requires { ⌜ length (now s) ≡ size ⌝ }
+    ensures { λ r. ⌜ r ≡ flagOf (now (s .entry)) (lockAt resource) ⌝ }
+{
+    flag(s, lock_at(resource))
+}
+
+pub fn unlock(s: &mut [u8], resource: Resource)
+    requires { ⌜ length (now s) ≡ size ⌝ }
+    ensures { λ _. ⌜ now (s .exit) ≡ set (now (s .entry)) (lockAt resource) 1 ⌝ }
+{
+    let at = lock_at(resource);
+    s[at] = 1;
+}
+
+fn bit(resource: Resource) -> u8
+    ensures { λ r. ⌜ r ≡ bitOf resource ⌝ }
+{
+    match resource {
+        Resource::Calibration => 0x01,
+        Resource::Lists => 0x04,
+    }
+}
+
+// The bits of the locked mask: 01 calibration, 04 lists.
+pub fn mask(s: &[u8]) -> u8
+    requires { ⌜ length (now s) ≡ size ⌝ }
+    ensures { λ r. ⌜ r ≡ maskOf (now (s .entry)) ⌝ }
+{
+    if flag(s, layout::CALIBRATION) {
+        if flag(s, layout::LISTS_LOCK) {
+            return 0x00;
+        }
+        return 0x04;
+    }
+    if flag(s, layout::LISTS_LOCK) {
+        return 0x01;
+    }
+    0x05
+}
+
+pub fn seed(s: &[u8]) -> Seed
+    requires { ⌜ length (now s) ≡ size ⌝ }
+    ensures { λ r. ⌜ r ≡ seedOf (now (s .entry)) ⌝ }
+{
+    let resource = s[layout::SEED];
+    if resource == 0x01 {
+        return Seed::For(Resource::Calibration);
+    }
+    if resource == 0x04 {
+        return Seed::For(Resource::Lists);
+    }
+    Seed::None
+}
+
+pub fn set_seed(s: &mut [u8], seed: Seed)
+    requires { ⌜ length (now s) ≡ size ⌝ }
+    ensures { λ _. ⌜ now (s .exit) ≡ setSeed (now (s .entry)) seed ⌝ }
+{
+    match seed {
+        Seed::None => {
+            s[layout::SEED] = 0;
+        }
+        Seed::For(resource) => {
+            s[layout::SEED] = bit(resource);
+        }
+    }
+}
+
+fn mta_tag(extension: Extension) -> u8
+    ensures { λ r. ⌜ r ≡ mtaTag extension ⌝ }
+{
+    match extension {
+        Extension::Calibration => 1,
+        Extension::Measured => 2,
+    }
+}
+
+pub fn mta(s: &[u8]) -> Mta
+    requires { ⌜ length (now s) ≡ size ⌝ }
+    ensures { λ r. ⌜ r ≡ mtaOf (now (s .entry)) ⌝ }
+{
+    let tag = s[layout::MTA];
+    if tag == 1 {
+        return Mta::At(Extension::Calibration, get32(s, layout::ADDRESS));
+    }
+    if tag == 2 {
+        return Mta::At(Extension::Measured, get32(s, layout::ADDRESS));
+    }
+    Mta::Unset
+}
+
+pub fn set_mta(s: &mut [u8], mta: Mta)
+    requires { ⌜ length (now s) ≡ size ⌝ }
+    ensures { λ _. ⌜ now (s .exit) ≡ setMta (now (s .entry)) mta ⌝ }
+{
+    match mta {
+        Mta::Unset => {
+            s[layout::MTA] = 0;
+        }
+        Mta::At(extension, address) => {
+            s[layout::MTA] = mta_tag(extension);
+            store32(s, layout::ADDRESS, address);
+        }
+    }
+}
+
+pub fn pointer(s: &[u8]) -> Pointer
+    requires { ⌜ length (now s) ≡ size ⌝ }
+    ensures { λ r. ⌜ r ≡ pointerOf (now (s .entry)) ⌝ }
+{
+    let n = s[layout::POINTER];
+    if n == 0 {
+        return Pointer::Unset;
+    }
+    if 32 < n {
+        return Pointer::Unset;
+    }
+    Pointer::At {
+        odt: (n - 1) / 4,
+        entry: (n - 1) % 4,
+    }
+}
+
+pub fn set_pointer(s: &mut [u8], pointer: Pointer)
+    requires { ⌜ (length (now s) ≡ size) × Pointed pointer ⌝ }
+    ensures { λ _. ⌜ now (s .exit) ≡ setPointer (now (s .entry)) pointer ⌝ }
+{
+    match pointer {
+        Pointer::Unset => {
+            s[layout::POINTER] = 0;
+        }
+        Pointer::At { odt, entry } => {
+            s[layout::POINTER] = 4 * odt + entry + 1;
+        }
+    }
+}
+
+// The session's end: everything in it as in a fresh one.
+pub fn close(s: &mut [u8])
+    requires { ⌜ length (now s) ≡ size ⌝ }
+    ensures { λ _. ⌜ now (s .exit) ≡ closed (now (s .entry)) ⌝ }
+{
+    clear(s, layout::SESSION, layout::SESSION_SIZE);
+}
+
+pub fn begin(s: &mut [u8])
+    requires { ⌜ length (now s) ≡ size ⌝ }
+    ensures { λ _. ⌜ now (s .exit) ≡ fresh (now (s .entry)) ⌝ }
+{
+    close(s);
+    s[layout::OPEN] = 1;
+}
+
+pub fn place(s: &[u8]) -> Place
+    requires { ⌜ length (now s) ≡ size ⌝ }
+    ensures { λ r. ⌜ r ≡ placeOf (now (s .entry)) ⌝ }
+{
+    let tag = s[layout::PLACE];
+    if tag == 1 {
+        return Place::Inside(s[layout::COUNT] as usize);
+    }
+    if tag == 2 {
+        return Place::Escaped(s[layout::COUNT] as usize);
+    }
+    Place::Outside
+}
+
+pub fn set_place(s: &mut [u8], place: Place)
+    requires { ⌜ length (now s) ≡ size ⌝ }
+    ensures { λ _. ⌜ now (s .exit) ≡ setPlace (now (s .entry)) place ⌝ }
+{
+    match place {
+        Place::Outside => {
+            s[layout::PLACE] = 0;
+        }
+        Place::Inside(k) => {
+            s[layout::PLACE] = 1;
+            s[layout::COUNT] = (k % 256) as u8;
+        }
+        Place::Escaped(k) => {
+            s[layout::PLACE] = 2;
+            s[layout::COUNT] = (k % 256) as u8;
+        }
+    }
+}
+
+// The length of the waiting answer, 0 where none waits.
+pub fn answer_length(s: &[u8]) -> u8
+    requires { ⌜ length (now s) ≡ size ⌝ }
+    ensures { λ r. ⌜ (r ≡ answerLength (now (s .entry))) × (r ≤ 8) ⌝ }
+{
+    let n = s[layout::ANSWER];
+    if n == 0 {
+        return 0;
+    }
+    if 8 < n {
+        return 0;
+    }
+    n
+}
+
+// The waiting answer's first byte.
+pub fn answer_kind(s: &[u8]) -> u8
+    requires { ⌜ length (now s) ≡ size ⌝ }
+    ensures { λ r. ⌜ r ≡ answerKind (now (s .entry)) ⌝ }
+{
+    let n = answer_length(s);
+    if s[layout::ANSWER_BYTES] == 0xFE {
+        if n == 2 {
+            return 0xFE;
+        }
+        if n == 8 {
+            return 0xFE;
+        }
+        return 0xFF;
+    }
+    0xFF
+}
