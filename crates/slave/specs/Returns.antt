@@ -1,0 +1,27 @@
+-- What each C function returns and leaves: what the session's call comes to, as one number.
+use Prim.Native.Nat.{ℕ}
+use mathlib.Core.Path.{_≡_}
+use mathlib.Core.List.{List}
+use Rattle.session.specs.Number.{receivedC, eventedC, slottedC, poweredUpC}
+use Rattle.session.specs.Receive.{Step}
+use Rattle.session.specs.Event.{Happened}
+use Rattle.session.specs.Slot.{Slot}
+use Rattle.session.specs.PowerUp.{Power}
+
+pub record PowersUp (p : Power) (r : ℕ) (s : List ℕ) : Type 0 where
+  pub result : r ≡ poweredUpC (p .poweredUp)
+  pub state : s ≡ p .state
+
+pub record Receives (o : Step) (r : ℕ) (s cal : List ℕ) : Type 0 where
+  pub result : r ≡ receivedC (o .received)
+  pub state : s ≡ o .state
+  pub memory : cal ≡ o .cal
+
+pub record Happens (h : Happened) (r : ℕ) (s : List ℕ) : Type 0 where
+  pub result : r ≡ eventedC (h .evented)
+  pub state : s ≡ h .state
+
+pub record Sends (o : Slot) (r : ℕ) (s out : List ℕ) : Type 0 where
+  pub result : r ≡ slottedC (o .slotted)
+  pub state : s ≡ o .state
+  pub bytes : out ≡ o .out

@@ -1,0 +1,111 @@
+/* The C interface of the XCP slave, libslave.a: C99 or later, and C++.
+ *
+ * The slave keeps no memory of its own and calls nothing. Each call is lent what it works on, for
+ * that call only: the state, the two memories, the room for a frame. Another address at the next
+ * call is fine, and so are a memory of another length, any alignment, and NULL with length 0.
+ *
+ * What a host owes, because no call can test it:
+ *  - Every pointer and length name real memory, and no two slices of one call overlap.
+ *  - No call begins while another on the same state runs, and nothing else (an interrupt, DMA, a
+ *    second core) writes lent bytes meanwhile. Let the receive interrupt only fill a ring buffer
+ *    that the main loop drains, as below; or mask that interrupt around every other call.
+ * All else may be anything: every call has a defined outcome, and each refusal its number (below).
+ *
+ * Seed and key are a guard against mistakes. They are no security: who listens can compute the key.
+ *
+ * The longest call is xcp_receive_byte at the last byte of BUILD_CHECKSUM: it reads up to 4,096
+ * bytes of memory. Let the ring buffer hold what can arrive in that time. Bytes lost there are
+ * damage on the line like any other: the message is dropped and the master repeats it.
+ *
+ * A main loop:
+ *
+ *   static uint8_t state[XCP_STATE_SIZE], room[XCP_SLOT_ROOM];
+ *   static uint8_t settings[4096], values[64];     // calibration, measured values
+ *   static volatile uint8_t ring[256], head;       // the interrupt writes these two, and no other
+ *   static uint8_t tail;                           // 256 bytes: the indexes wrap by themselves
+ *
+ *   void uart_received(uint8_t byte) { ring[head] = byte; head++; }
+ *
+ *   void run(void)
+ *   {
+ *       xcp_power_up(state, sizeof state, number_that_differs_each_time());
+ *       for (;;) {
+ *           for (uint8_t end = head; tail != end; tail++)   // what has come until now, no more
+ *               xcp_receive_byte(state, sizeof state, settings, sizeof settings,
+ *                                values, sizeof values, ring[tail]);
+ *           if (weight_is_ready()) {
+ *               copy_weight_to(values);
+ *               xcp_event(state, sizeof state, settings, sizeof settings,
+ *                         values, sizeof values, 0, milliseconds());
+ *           }
+ *           if (uart_is_idle())
+ *               uart_send(room, XCP_SIZE(xcp_slot(state, sizeof state, room, sizeof room)));
+ *       }
+ *   }
+ */
+#ifndef XCP_SLAVE_H
+#define XCP_SLAVE_H
+
+#include <stddef.h>
+#include <stdint.h>
+
+#ifdef __cplusplus
+extern "C" {
+#endif
+
+/* The state's one size: a shorter or longer buffer is refused. */
+#define XCP_STATE_SIZE 247
+
+/* The room that a slot needs, whatever waits: the longest frame. */
+#define XCP_SLOT_ROOM 23
+
+/* What a call returns is its number and, when it is done, a value beside it. */
+#define XCP_NUMBER(r) ((uint32_t)(r) >> 16)
+#define XCP_SIZE(r) ((uint32_t)(r) & 0xFFFFu)         /* a slot: bytes of the frame, 0 for none */
+#define XCP_SAMPLED(r) (((uint32_t)(r) >> 8) & 0xFFu) /* an event: lists that took a sample */
+#define XCP_MISSED(r) ((uint32_t)(r) & 0xFFu)         /* an event: lists that missed it */
+
+/* The numbers. Only 1 takes a command; 2 to 7 drop a message; 8 to 10 change nothing at all. */
+enum xcp_number {
+    XCP_DONE = 0,         /* a byte: nothing to report; an event, slot or power-up: done */
+    XCP_TAKEN = 1,        /* a byte: a command was taken, its answer (FF or FE) waits for a slot */
+    XCP_NO_SESSION = 2,   /* a byte: a good message, but no session and no good CONNECT: silence */
+    XCP_BAD_LENGTH = 3,   /* a byte: LEN is 0 or above 8 */
+    XCP_BAD_ESCAPE = 4,   /* a byte: ESC was followed by neither 00, 01 nor SYNC */
+    XCP_BAD_CHECKSUM = 5, /* a byte: the checksum differs */
+    XCP_ANSWER_WAITS = 6, /* a byte: a good message, but an answer waits: dropped unread */
+    XCP_CUT_OFF = 7,      /* a byte: this SYNC cut off a message; it has begun the next one */
+    XCP_BAD_EVENT = 8,    /* an event: its number is above 1 */
+    XCP_NO_ROOM = 9,      /* a slot: lent fewer than XCP_SLOT_ROOM bytes */
+    XCP_BAD_STATE = 10    /* any call: the state has the wrong size, or was never powered up */
+};
+
+/* The archive is built for a size_t of 8 bytes; elsewhere this line does not compile. */
+typedef char xcp_size_t_must_have_8_bytes[sizeof(size_t) == 8 ? 1 : -1];
+
+/* Makes the state anew, whatever it held: no session, nothing waits, the slave's CTR is 0. Seeds
+ * follow from start; a start of 0 becomes a default. Refuses with 10 by the size alone. */
+uint32_t xcp_power_up(uint8_t *state, size_t state_len, uint32_t start);
+
+/* Takes one byte from the wire. At most the first 4,096 bytes of each memory can be addressed:
+ * cal is read and, once it is unlocked, written; meas is only read. Returns 0 to 7, or 10. */
+uint32_t xcp_receive_byte(uint8_t *state, size_t state_len, uint8_t *cal, size_t cal_len,
+                          const uint8_t *meas, size_t meas_len, uint8_t byte);
+
+/* Event 0 or 1: each running list of that event takes its sample within this call, or misses it
+ * while packets of its last one are unsent. Returns 0 with both counts, 8, or 10. */
+uint32_t xcp_event(uint8_t *state, size_t state_len, const uint8_t *cal, size_t cal_len,
+                   const uint8_t *meas, size_t meas_len, uint32_t event, uint16_t clock);
+
+/* Writes the next frame to send, if one waits, at the front of out; the rest of out stays. That
+ * frame counts as sent. Returns 0 with the frame's size, 9, or 10. */
+uint32_t xcp_slot(uint8_t *state, size_t state_len, uint8_t *out, size_t out_len);
+
+/* XCP_STATE_SIZE as the archive has it, for a check at start-up. */
+uint32_t xcp_state_size(void);
+
+#ifdef __cplusplus
+}
+#endif
+
+#endif

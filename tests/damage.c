@@ -1,0 +1,319 @@
+/* A wet plug: frames cut off, bits flipped, bytes added and lost, at every place of a session.
+ * After each, the next whole command is answered within two slots and memory holds only what was
+ * acknowledged. Prints what failed, then 'N passed, M failed'. */
+#include "rig.h"
+
+#include <string.h>
+
+#define COUNT(table) (sizeof(table) / sizeof(table)[0])
+
+enum { MEMORY = 512, GOOD = 1 };
+
+/* The session that is damaged; its keys follow from start 1. An event comes before each frame. */
+static const char *const session[] = {
+    "FF 00",                   /* CONNECT */
+    "F8 00 01",                /* calibration: seed, key */
+    "F7 04 00 7F F0 04",
+    "F6 00 00 00 9A 00 00 00", /* SET_MTA to 0x9A, which is sent as a pair */
+    "F0 06 01 02 9A 9B 05 06", /* DOWNLOAD of bytes that are sent as pairs */
+    "F0 03 9B 00 9A",
+    "F4 07 00 00 9A 00 00 00",
+    "F8 00 04",                /* lists: seed, key */
+    "F7 04 04 01 E0 08",
+    "E2 00 01 00 00 00",
+    "E1 FF 04 01 10 00 00 00",
+    "E2 00 01 00 01 00",
+    "E1 FF 02 00 9A 00 00 00",
+    "E0 10 01 00 00 00 01 00",
+    "DE 01 01 00",             /* from here on samples wait at every frame */
+    "F0 02 11 22",
+    "F5 02",
+    "F6 00 00 00 00 01 00 00",
+    "F0 01 9B",
+    "F3 00 00 00 10 00 00 00",
+    "FD",
+    "FC",
+    "DD 00",
+    "FE",
+};
+
+/* One who listens to both directions: it reads the wire by the paper's rules, and knows from the
+ * answers which writes were acknowledged. */
+struct witness {
+    int inside, begun, escaped; /* begun: a byte has come after SYNC */
+    uint8_t message[PACKET + 3];
+    size_t count;
+    int open, waits;            /* a session is open; an answer waits */
+    uint8_t command[PACKET];    /* the command whose answer waits */
+    size_t command_len;
+    int mta_set, mta_ext;
+    uint32_t mta;
+    uint8_t cal[MEMORY];
+};
+
+/* All of a moment, to come back to. */
+struct moment {
+    struct rig rig;
+    struct witness witness;
+    uint8_t state[XCP_STATE_SIZE], cal[MEMORY];
+};
+
+static int hear_message_byte(struct witness *w, uint8_t byte)
+{
+    w->message[w->count++] = byte;
+    if (w->count == 1) {
+        w->inside = byte >= 1 && byte <= PACKET;
+        return w->inside ? 0 : XCP_BAD_LENGTH;
+    }
+    if (w->count < (size_t)w->message[0] + 3)
+        return 0;
+    uint8_t sum = 0;
+    for (size_t i = 0; i + 1 < w->count; i++)
+        sum = (uint8_t)(sum + w->message[i]);
+    w->inside = 0;
+    return sum == byte ? GOOD : XCP_BAD_CHECKSUM;
+}
+
+/* The line's rules: 0, 3, 4, 5, 7, or GOOD for a whole message. */
+static int hear(struct witness *w, uint8_t byte)
+{
+    if (byte == SYNC) {
+        int cut = w->inside && w->begun;
+        w->inside = 1;
+        w->begun = w->escaped = 0;
+        w->count = 0;
+        return cut ? XCP_CUT_OFF : 0;
+    }
+    if (!w->inside)
+        return 0;
+    w->begun = 1;
+    if (w->escaped) {
+        w->escaped = 0;
+        w->inside = byte <= 1;
+        return w->inside ? hear_message_byte(w, byte == 1 ? SYNC : ESC) : XCP_BAD_ESCAPE;
+    }
+    if (byte == ESC) {
+        w->escaped = 1;
+        return 0;
+    }
+    return hear_message_byte(w, byte);
+}
+
+static void send_byte(struct rig *r, struct witness *w, uint8_t byte)
+{
+    int heard = hear(w, byte);
+    uint32_t number = feed(r, byte), expected = (uint32_t)heard;
+    if (heard == GOOD) {
+        int connect = w->message[0] >= 2 && w->message[2] == 0xFF && w->message[3] == 0;
+        expected = w->waits ? XCP_ANSWER_WAITS : w->open || connect ? XCP_TAKEN : XCP_NO_SESSION;
+    }
+    insist("the number of a byte", expected, number);
+    if (number == XCP_TAKEN) {
+        w->waits = 1;
+        w->command_len = w->message[0];
+        memcpy(w->command, w->message + 2, w->command_len);
+    }
+}
+
+/* A write counts once its answer FF has left, at the MTA that earlier answers tell. */
+static void acknowledge(struct witness *w, const uint8_t *answer, size_t len)
+{
+    const uint8_t *c = w->command;
+    int done = answer[0] == 0xFF;
+    w->waits = 0;
+    if ((done && c[0] == 0xFE) || (c[0] == 0xF7 && !done && answer[1] == 0x25))
+        w->open = w->mta_set = 0;
+    if (!done)
+        return;
+    if (c[0] == 0xFF) {
+        w->open = 1;
+        w->mta_set = 0;
+    } else if (c[0] == 0xF6) {
+        w->mta_set = 1;
+        w->mta_ext = c[3];
+        w->mta = c[4] | (uint32_t)c[5] << 8 | (uint32_t)c[6] << 16 | (uint32_t)c[7] << 24;
+    } else if (c[0] == 0xF5) {
+        w->mta += (uint32_t)len - 1;
+    } else if (c[0] == 0xF3) {
+        w->mta += c[4] | (uint32_t)c[5] << 8;
+    } else if (c[0] == 0xF0) {
+        insist("a write goes where an MTA was set", 1,
+               w->mta_set && w->mta_ext == 0 && w->mta + c[1] <= MEMORY);
+        memcpy(w->cal + w->mta % MEMORY, c + 2, c[1]);
+        w->mta += c[1];
+    }
+}
+
+/* One slot; gives 1 if it sent the answer. */
+static int one_slot(struct rig *r, struct witness *w)
+{
+    uint8_t packet[PACKET] = {0};
+    size_t len = slot(r, packet);
+    if (len == 0 || packet[0] < 0xFE)
+        return 0;
+    insist("an answer only where a command was taken", 1, (uint32_t)w->waits);
+    acknowledge(w, packet, len);
+    return 1;
+}
+
+static void send_bytes(struct rig *r, struct witness *w, const uint8_t *bytes, size_t count)
+{
+    for (size_t i = 0; i < count; i++)
+        send_byte(r, w, bytes[i]);
+}
+
+static void send_packet(struct rig *r, struct witness *w, const char *hex)
+{
+    uint8_t packet[PACKET], frame[FRAME];
+    size_t len = bytes_of(hex, packet, sizeof packet);
+    send_bytes(r, w, frame, frame_of(r->master_ctr++, packet, len, frame));
+}
+
+/* The answer that waits leaves; whatever else waits may stay. */
+static void fetch(struct rig *r, struct witness *w)
+{
+    for (int slots = 0; slots < 2 && w->waits; slots++)
+        one_slot(r, w);
+}
+
+/* A whole command, with samples waiting if a list runs: taken, and answered within two slots. */
+static void answered(struct rig *r, struct witness *w, const char *hex)
+{
+    event(r, 0, 0x9A9B);
+    send_packet(r, w, hex);
+    check_numbers("the next command is taken", 1, (uint32_t)w->waits);
+    int sent = one_slot(r, w) || one_slot(r, w);
+    check_numbers("and answered within two slots", 1, (uint32_t)sent);
+    check_bytes("memory", w->cal, MEMORY, r->cal, MEMORY);
+}
+
+/* A new session that writes and reads back. */
+static void new_session(struct rig *r, struct witness *w)
+{
+    uint8_t packet[PACKET] = {0};
+    answered(r, w, "FF 00");
+    get_seed(r, CALIBRATION);
+    uint32_t key = key_of(r->seed, CALIBRATION);
+    insist("UNLOCK", XCP_TAKEN, give(r, "F7 04 %02X %02X %02X %02X", LE32(key)));
+    slot(r, packet);
+    check_numbers("a new session unlocks", 0x04FF, (uint32_t)(packet[0] | packet[1] << 8));
+    answered(r, w, "F6 00 00 00 80 00 00 00");
+    answered(r, w, "F0 04 9A 9B 9A 9B");
+    ask(r, "FF 9A 9B 9A 9B", "F4 04 00 00 80 00 00 00");
+}
+
+static void go_back(struct rig *r, struct witness *w, const struct moment *m)
+{
+    *r = m->rig;
+    *w = m->witness;
+    memcpy(r->state, m->state, sizeof m->state);
+    memcpy(r->cal, m->cal, sizeof m->cal);
+}
+
+/* These bytes in place of a frame, from this moment on; then a command at once, and a session. */
+static void damaged(const struct moment *m, const uint8_t *bytes, size_t count)
+{
+    struct rig r;
+    struct witness w;
+    go_back(&r, &w, m);
+    send_bytes(&r, &w, bytes, count);
+    fetch(&r, &w);
+    check_bytes("memory", w.cal, MEMORY, r.cal, MEMORY);
+    answered(&r, &w, w.open ? "FD" : "FF 00");
+    go_back(&r, &w, m);
+    send_bytes(&r, &w, bytes, count);
+    fetch(&r, &w);
+    new_session(&r, &w);
+}
+
+/* One way to damage a frame, at every place where it can be done. */
+typedef void damage(const struct moment *m, const uint8_t *frame, size_t size);
+
+static void cut_off(const struct moment *m, const uint8_t *frame, size_t size)
+{
+    for (size_t at = 0; at <= size; at++) {
+        check_note("cut off after byte %zu", at);
+        damaged(m, frame, at);
+    }
+}
+
+static void flip_bits(const struct moment *m, const uint8_t *frame, size_t size)
+{
+    uint8_t bytes[FRAME];
+    for (size_t bit = 0; bit < 8 * size; bit++) {
+        memcpy(bytes, frame, size);
+        bytes[bit / 8] ^= (uint8_t)(1 << bit % 8);
+        check_note("bit %zu of byte %zu flipped", bit % 8, bit / 8);
+        damaged(m, bytes, size);
+    }
+}
+
+static void insert_bytes(const struct moment *m, const uint8_t *frame, size_t size)
+{
+    static const uint8_t inserted[] = {SYNC, ESC, 0x00, 0x01, 0xFF};
+    uint8_t bytes[FRAME + 1];
+    for (size_t at = 0; at <= size; at++)
+        for (size_t i = 0; i < COUNT(inserted); i++) {
+            memcpy(bytes, frame, at);
+            bytes[at] = inserted[i];
+            memcpy(bytes + at + 1, frame + at, size - at);
+            check_note("%02X inserted before byte %zu", inserted[i], at);
+            damaged(m, bytes, size + 1);
+        }
+}
+
+static void lose_bytes(const struct moment *m, const uint8_t *frame, size_t size)
+{
+    uint8_t bytes[FRAME];
+    for (size_t at = 0; at < size; at++) {
+        memcpy(bytes, frame, at);
+        memcpy(bytes + at, frame + at + 1, size - at - 1);
+        check_note("byte %zu lost", at);
+        damaged(m, bytes, size - 1);
+    }
+}
+
+/* Runs the session whole, and at each of its frames goes through every damage first. */
+static void whole_session(damage *by)
+{
+    static const uint8_t written[] = {1, 2, 0x9A, 0x9B, 5, 6, 0x9B, 0, 0x9A, 0x11, 0x22};
+    struct rig r;
+    struct witness w;
+    struct moment m;
+    uint8_t packet[PACKET], frame[FRAME];
+    memset(&w, 0, sizeof w);
+    rig_start(&r, MEMORY, MEMORY, 1);
+    memcpy(w.cal, r.cal, MEMORY);
+    for (size_t step = 0; step < COUNT(session); step++) {
+        size_t len = bytes_of(session[step], packet, sizeof packet);
+        size_t size = frame_of(r.master_ctr++, packet, len, frame);
+        HERE();
+        event(&r, 0, (uint16_t)step);
+        m.rig = r;
+        m.witness = w;
+        memcpy(m.state, r.state, sizeof m.state);
+        memcpy(m.cal, r.cal, sizeof m.cal);
+        by(&m, frame, size);
+        go_back(&r, &w, &m);
+        check_note("step %zu, whole", step);
+        send_bytes(&r, &w, frame, size);
+        check_numbers("a whole frame is taken", 1, (uint32_t)w.waits);
+        fetch(&r, &w);
+        check_numbers("a whole frame is answered", 0, (uint32_t)w.waits);
+        check_bytes("memory", w.cal, MEMORY, r.cal, MEMORY);
+    }
+    check_note("%s", "");
+    check_bytes("what the session wrote", written, sizeof written, r.cal + 0x9A, sizeof written);
+    rig_end(&r);
+}
+
+static void cuts(void) { whole_session(cut_off); }
+static void flips(void) { whole_session(flip_bits); }
+static void insertions(void) { whole_session(insert_bytes); }
+static void losses(void) { whole_session(lose_bytes); }
+
+int main(void)
+{
+    static void (*const tests[])(void) = {cuts, flips, insertions, losses};
+    return check_main(tests, COUNT(tests));
+}

@@ -1,0 +1,11 @@
+/* The slave as a C host sees it. Prints what failed, then 'N passed, M failed'. */
+#include "host.h"
+
+int main(void)
+{
+    static void (*const tests[])(void) = {
+        test_calls, test_line,   test_session, test_commands,
+        test_memory, test_lists, test_events,  test_bench,
+    };
+    return check_main(tests, COUNT(tests));
+}

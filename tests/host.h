@@ -1,0 +1,27 @@
+/* The tests of the slave as a C host sees it, one function for each part. */
+#ifndef HOST_H
+#define HOST_H
+
+#include "probe.h"
+
+#include <string.h>
+
+#define COUNT(table) (sizeof(table) / sizeof(table)[0])
+
+void test_calls(void);    /* the calls themselves: sizes, states, NULL, numbers 8 to 10 */
+void test_line(void);     /* bytes to messages: numbers 0, 3, 4, 5, 7 */
+void test_session(void);  /* whole messages: numbers 1, 2, 6; a session from end to end; keys */
+void test_commands(void); /* every command's checks, in order, and that a refusal changes nothing */
+void test_memory(void);   /* reading and writing, at memories of any length */
+void test_lists(void);    /* lists: set up, selected, started, stopped */
+void test_events(void);   /* events and slots: samples, whose turn it is */
+void test_bench(void);    /* the bench sheet, byte for byte */
+
+/* Situations, each from a power-up with the same memories. */
+void powered(struct rig *r);          /* no session */
+void connected(struct rig *r);        /* a session, both resources locked */
+void unlocked(struct rig *r);         /* both unlocked; MTA and pointer unset */
+void closed_waiting(struct rig *r);   /* DISCONNECT's answer still waits */
+void busy(struct rig *r);             /* all settings in use: see host_situations.c */
+
+#endif

@@ -1,0 +1,503 @@
+#include "host.h"
+
+/* Every check of every command, in order: each packet fails the named check and, as far as one
+ * packet can, all later ones too, so that only the right order gives the right code. */
+
+/* Situations for MTA and pointer; in the last three the MTA is where no block is inside. */
+static void reading(struct rig *r)
+{
+    connected(r);
+    ask(r, "FF", "F6 00 00 00 08 00 00 00");
+}
+
+static void reading_outside(struct rig *r)
+{
+    connected(r);
+    ask(r, "FF", "F6 00 00 01 FF FF FF FF");
+}
+
+static void writing(struct rig *r)
+{
+    unlocked(r);
+    ask(r, "FF", "F6 00 00 00 08 00 00 00");
+}
+
+static void writing_outside(struct rig *r)
+{
+    unlocked(r);
+    ask(r, "FF", "F6 00 00 00 FE FF FF FF");
+}
+
+static void writing_measured(struct rig *r)
+{
+    unlocked(r);
+    ask(r, "FF", "F6 00 00 01 08 00 00 00");
+}
+
+static void measured_outside(struct rig *r)
+{
+    unlocked(r);
+    ask(r, "FF", "F6 00 00 01 FE FF FF FF");
+}
+
+/* Calibration locked, but the MTA set: only the lock stands before a write. */
+static void locked_writing(struct rig *r)
+{
+    connected(r);
+    unlock(r, LISTS);
+    ask(r, "FF", "F6 00 00 00 08 00 00 00");
+}
+
+/* Lists locked, but calibration open. */
+static void lists_locked(struct rig *r)
+{
+    connected(r);
+    unlock(r, CALIBRATION);
+}
+
+static void seeded(struct rig *r)
+{
+    connected(r);
+    get_seed(r, CALIBRATION);
+}
+
+static void seeded_lists(struct rig *r)
+{
+    connected(r);
+    unlock(r, CALIBRATION);
+    get_seed(r, LISTS);
+}
+
+/* The pointer is at a list that does not run. */
+static void pointing(struct rig *r)
+{
+    unlocked(r);
+    ask(r, "FF", "E2 00 03 00 01 02");
+}
+
+/* List 1 lacks one thing that a start needs, and is selected together with list 0, which is fit. */
+static void selected(struct rig *r)
+{
+    unlocked(r);
+    entry(r, 0, 0, 0, 1, 0, 0);
+    mode(r, 0, 0);
+    ask(r, "FF 00", "DE 02 00 00");
+    ask(r, "FF 02", "DE 02 01 00");
+}
+
+static void no_mode(struct rig *r)
+{
+    selected(r);
+    entry(r, 1, 0, 0, 1, 0, 0);
+}
+
+static void no_entry(struct rig *r)
+{
+    selected(r);
+    mode(r, 1, 0);
+    entry(r, 1, 0, 2, 0, 1, 0xFFFFFFFF);
+}
+
+static void odt_0_of_6(struct rig *r)
+{
+    selected(r);
+    mode(r, 1, 0);
+    entry(r, 1, 0, 0, 4, 0, 0);
+    entry(r, 1, 0, 3, 2, 0, 0);
+}
+
+static void odt_1_of_8(struct rig *r)
+{
+    selected(r);
+    mode(r, 1, 0);
+    entry(r, 1, 1, 1, 4, 0, 0);
+    entry(r, 1, 1, 2, 4, 0, 0);
+}
+
+struct row {
+    int line;
+    void (*situation)(struct rig *);
+    const char *packet, *answer;
+};
+
+#define TOO_LARGE "FE 22 00 00 00 10 00 00"
+
+static const struct row rows[] = {
+    /* CONNECT inside a session */
+    {__LINE__, busy, "FF", "FE 21"},
+    {__LINE__, busy, "FF 01", "FE 22"},
+    {__LINE__, busy, "FF 80 00 00", "FE 22"},
+    /* SYNCH is no refusal, and changes as little */
+    {__LINE__, busy, "FC", "FE 00"},
+    {__LINE__, seeded, "FC 01 02 03 04 05 06 07", "FE 00"},
+    /* GET_SEED: short, mode 1, other modes and resources */
+    {__LINE__, connected, "F8", "FE 21"},
+    {__LINE__, connected, "F8 01", "FE 21"},
+    {__LINE__, seeded, "F8 02", "FE 21"},
+    {__LINE__, seeded, "F8 01 09", "FE 29"},
+    {__LINE__, seeded, "F8 01 01", "FE 29"},
+    {__LINE__, busy, "F8 01 01", "FE 29"},
+    {__LINE__, seeded, "F8 02 01", "FE 22"},
+    {__LINE__, seeded, "F8 FF 09", "FE 22"},
+    {__LINE__, seeded, "F8 00 00", "FE 22"},
+    {__LINE__, seeded, "F8 00 05", "FE 22"},
+    {__LINE__, seeded, "F8 00 08", "FE 22"},
+    {__LINE__, seeded, "F8 00 10", "FE 22"},
+    {__LINE__, seeded_lists, "F8 00 FF", "FE 22"},
+    {__LINE__, busy, "F8 00 02", "FE 22"},
+    /* UNLOCK: short, no seed, length, bytes missing; the seed and the session stay */
+    {__LINE__, connected, "F7", "FE 21"},
+    {__LINE__, seeded, "F7", "FE 21"},
+    {__LINE__, connected, "F7 05", "FE 29"},
+    {__LINE__, connected, "F7 04", "FE 29"},
+    {__LINE__, busy, "F7 04 00 00 00 00", "FE 29"},
+    {__LINE__, seeded, "F7 05", "FE 22"},
+    {__LINE__, seeded, "F7 00", "FE 22"},
+    {__LINE__, seeded, "F7 03 00 7F F0", "FE 22"},
+    {__LINE__, seeded, "F7 05 00 7F F0 04", "FE 22"},
+    {__LINE__, seeded_lists, "F7 FF 00 00 00 00 00 00", "FE 22"},
+    {__LINE__, seeded, "F7 04", "FE 21"},
+    {__LINE__, seeded, "F7 04 00", "FE 21"},
+    {__LINE__, seeded, "F7 04 00 7F", "FE 21"},
+    {__LINE__, seeded, "F7 04 00 7F F0", "FE 21"},
+    {__LINE__, seeded_lists, "F7 04 00 00 00", "FE 21"},
+    /* SET_MTA */
+    {__LINE__, reading, "F6", "FE 21"},
+    {__LINE__, reading, "F6 00 00 02", "FE 21"},
+    {__LINE__, reading, "F6 00 00 02 10 00 00", "FE 21"},
+    {__LINE__, reading, "F6 00 00 02 10 00 00 00", "FE 22"},
+    {__LINE__, reading, "F6 00 00 FF 10 00 00 00", "FE 22"},
+    {__LINE__, busy, "F6 00 00 80 10 00 00 00", "FE 22"},
+    /* UPLOAD: short, MTA unset, count, not inside */
+    {__LINE__, connected, "F5", "FE 21"},
+    {__LINE__, connected, "F5 00", "FE 29"},
+    {__LINE__, connected, "F5 08", "FE 29"},
+    {__LINE__, connected, "F5 01", "FE 29"},
+    {__LINE__, reading_outside, "F5 00", "FE 22"},
+    {__LINE__, reading_outside, "F5 08", "FE 22"},
+    {__LINE__, reading, "F5 FF", "FE 22"},
+    {__LINE__, reading_outside, "F5 01", "FE 24"},
+    {__LINE__, reading_outside, "F5 07 00 00 00", "FE 24"},
+    {__LINE__, busy, "F5 00", "FE 22"},
+    /* SHORT_UPLOAD: short, count or extension, not inside; it needs no MTA */
+    {__LINE__, reading, "F4 00", "FE 21"},
+    {__LINE__, reading, "F4 00 00 02 FF FF FF", "FE 21"},
+    {__LINE__, reading, "F4 00 00 00 FF FF FF FF", "FE 22"},
+    {__LINE__, reading, "F4 08 00 00 FF FF FF FF", "FE 22"},
+    {__LINE__, connected, "F4 00 00 07 00 00 00 00", "FE 22"},
+    {__LINE__, reading, "F4 01 00 02 FF FF FF FF", "FE 22"},
+    {__LINE__, reading, "F4 01 00 00 FF FF FF FF", "FE 24"},
+    {__LINE__, reading, "F4 01 00 01 00 10 00 00", "FE 24"},
+    {__LINE__, busy, "F4 07 00 01 FA 0F 00 00", "FE 24"},
+    /* BUILD_CHECKSUM: short, MTA unset, size, not inside */
+    {__LINE__, connected, "F3", "FE 21"},
+    {__LINE__, connected, "F3 00 00 00 00 00 00", "FE 21"},
+    {__LINE__, connected, "F3 00 00 00 00 00 00 00", "FE 29"},
+    {__LINE__, connected, "F3 00 00 00 01 10 00 00", "FE 29"},
+    {__LINE__, reading_outside, "F3 00 00 00 00 00 00 00", TOO_LARGE},
+    {__LINE__, reading_outside, "F3 00 00 00 01 10 00 00", TOO_LARGE},
+    {__LINE__, reading, "F3 00 00 00 00 00 01 00", TOO_LARGE},
+    {__LINE__, reading, "F3 00 00 00 10 00 00 80", TOO_LARGE},
+    {__LINE__, reading, "F3 00 00 00 FF FF FF FF", TOO_LARGE},
+    {__LINE__, reading_outside, "F3 00 00 00 01 00 00 00", "FE 24"},
+    {__LINE__, reading, "F3 00 00 00 00 10 00 00", "FE 24"},
+    {__LINE__, busy, "F3 00 00 00 F1 0F 00 00", "FE 24"},
+    /* DOWNLOAD: short, locked, MTA unset, count, data missing, extension 1, not inside */
+    {__LINE__, connected, "F0", "FE 21"},
+    {__LINE__, unlocked, "F0", "FE 21"},
+    {__LINE__, connected, "F0 07", "FE 25"},
+    {__LINE__, locked_writing, "F0 00", "FE 25"},
+    {__LINE__, locked_writing, "F0 01 55", "FE 25"},
+    {__LINE__, unlocked, "F0 00", "FE 29"},
+    {__LINE__, unlocked, "F0 07", "FE 29"},
+    {__LINE__, unlocked, "F0 01 55", "FE 29"},
+    {__LINE__, measured_outside, "F0 00", "FE 22"},
+    {__LINE__, measured_outside, "F0 07", "FE 22"},
+    {__LINE__, writing, "F0 07 01 02 03 04 05", "FE 22"},
+    {__LINE__, writing, "F0 07 01 02 03 04 05 06", "FE 22"},
+    {__LINE__, writing, "F0 FF 01 02 03 04 05 06", "FE 22"},
+    {__LINE__, writing, "F0 00 01 02 03 04 05 06", "FE 22"},
+    {__LINE__, measured_outside, "F0 06 01 02 03 04 05", "FE 21"},
+    {__LINE__, measured_outside, "F0 01", "FE 21"},
+    {__LINE__, writing, "F0 02 01", "FE 21"},
+    {__LINE__, measured_outside, "F0 01 55", "FE 23"},
+    {__LINE__, writing_measured, "F0 01 55", "FE 23"},
+    {__LINE__, writing_outside, "F0 01 55", "FE 24"},
+    {__LINE__, writing_outside, "F0 03 55 55 55", "FE 24"},
+    {__LINE__, busy, "F0 00 01", "FE 22"},
+    /* CLEAR_DAQ_LIST: short, locked, list, runs */
+    {__LINE__, lists_locked, "E3", "FE 21"},
+    {__LINE__, lists_locked, "E3 00 04", "FE 21"},
+    {__LINE__, lists_locked, "E3 00 04 00", "FE 25"},
+    {__LINE__, busy, "E3 00 04 00", "FE 22"},
+    {__LINE__, busy, "E3 00 00 01", "FE 22"},
+    {__LINE__, busy, "E3 00 02 FF", "FE 22"},
+    {__LINE__, busy, "E3 00 FF FF", "FE 22"},
+    {__LINE__, busy, "E3 55 02 00", "FE 11"},
+    /* SET_DAQ_PTR: short, locked, then list, ODT and entry, one at a time */
+    {__LINE__, lists_locked, "E2", "FE 21"},
+    {__LINE__, lists_locked, "E2 00 04 00 02", "FE 21"},
+    {__LINE__, lists_locked, "E2 00 04 00 02 04", "FE 25"},
+    {__LINE__, busy, "E2 00 04 00 00 00", "FE 22"},
+    {__LINE__, busy, "E2 00 01 01 00 00", "FE 22"},
+    {__LINE__, busy, "E2 00 01 00 02 00", "FE 22"},
+    {__LINE__, busy, "E2 00 01 00 00 04", "FE 22"},
+    {__LINE__, pointing, "E2 00 FF FF FF FF", "FE 22"},
+    /* WRITE_DAQ: short, locked, pointer unset, numbers, list runs, not inside */
+    {__LINE__, lists_locked, "E1", "FE 21"},
+    {__LINE__, lists_locked, "E1 00 05 02 FF FF FF", "FE 21"},
+    {__LINE__, lists_locked, "E1 00 05 02 FF FF FF FF", "FE 25"},
+    {__LINE__, unlocked, "E1 00 05 02 FF FF FF FF", "FE 29"},
+    {__LINE__, unlocked, "E1 FF 01 00 00 00 00 00", "FE 29"},
+    {__LINE__, busy, "E1 00 01 00 FF FF FF FF", "FE 22"},
+    {__LINE__, busy, "E1 1F 01 00 FF FF FF FF", "FE 22"},
+    {__LINE__, busy, "E1 FE 01 00 FF FF FF FF", "FE 22"},
+    {__LINE__, busy, "E1 FF 05 00 FF FF FF FF", "FE 22"},
+    {__LINE__, busy, "E1 FF FF 00 FF FF FF FF", "FE 22"},
+    {__LINE__, busy, "E1 FF 01 02 FF FF FF FF", "FE 22"},
+    {__LINE__, pointing, "E1 FF 00 02 00 00 00 00", "FE 22"},
+    {__LINE__, busy, "E1 FF 01 00 FF FF FF FF", "FE 11"},
+    {__LINE__, busy, "E1 FF 00 01 00 00 00 00", "FE 11"},
+    {__LINE__, pointing, "E1 FF 01 00 FF FF FF FF", "FE 24"},
+    {__LINE__, pointing, "E1 FF 04 01 FD 0F 00 00", "FE 24"},
+    {__LINE__, pointing, "E1 FF 01 01 00 10 00 00", "FE 24"},
+    {__LINE__, pointing, "E1 FF 04 00 FC 0F 01 00", "FE 24"},
+    /* SET_DAQ_LIST_MODE: short, locked, each number, runs */
+    {__LINE__, lists_locked, "E0", "FE 21"},
+    {__LINE__, lists_locked, "E0 00 04 00 02 00 02", "FE 21"},
+    {__LINE__, lists_locked, "E0 00 04 00 02 00 02 01", "FE 25"},
+    {__LINE__, busy, "E0 00 02 00 01 00 01 00", "FE 22"},
+    {__LINE__, busy, "E0 30 02 00 01 00 01 00", "FE 22"},
+    {__LINE__, busy, "E0 12 02 00 01 00 01 00", "FE 22"},
+    {__LINE__, busy, "E0 10 04 00 01 00 01 00", "FE 22"},
+    {__LINE__, busy, "E0 10 02 01 01 00 01 00", "FE 22"},
+    {__LINE__, busy, "E0 10 02 00 02 00 01 00", "FE 22"},
+    {__LINE__, busy, "E0 10 02 00 00 01 01 00", "FE 22"},
+    {__LINE__, busy, "E0 10 02 00 01 01 01 00", "FE 22"},
+    {__LINE__, busy, "E0 10 02 00 01 00 00 00", "FE 22"},
+    {__LINE__, busy, "E0 10 02 00 01 00 02 00", "FE 22"},
+    {__LINE__, busy, "E0 10 02 00 01 00 01 01", "FE 22"},
+    {__LINE__, busy, "E0 10 00 00 01 00 01 FF", "FE 22"},
+    {__LINE__, busy, "E0 10 02 00 00 00 01 00", "FE 11"},
+    /* START_STOP_DAQ_LIST: short, locked, numbers, unfit */
+    {__LINE__, lists_locked, "DE", "FE 21"},
+    {__LINE__, lists_locked, "DE 03 04", "FE 21"},
+    {__LINE__, lists_locked, "DE 03 04 00", "FE 25"},
+    {__LINE__, busy, "DE 03 00 00", "FE 22"},
+    {__LINE__, busy, "DE FF 02 00", "FE 22"},
+    {__LINE__, busy, "DE 00 04 00", "FE 22"},
+    {__LINE__, busy, "DE 01 00 01", "FE 22"},
+    {__LINE__, busy, "DE 02 02 01", "FE 22"},
+    {__LINE__, busy, "DE 01 00 00", "FE 2A"},
+    {__LINE__, busy, "DE 01 03 00", "FE 2A"},
+    {__LINE__, no_mode, "DE 01 01 00", "FE 2A"},
+    {__LINE__, no_entry, "DE 01 01 00", "FE 2A"},
+    {__LINE__, odt_0_of_6, "DE 01 01 00", "FE 2A"},
+    {__LINE__, odt_1_of_8, "DE 01 01 00", "FE 2A"},
+    /* START_STOP_SYNCH: short, locked, mode, one selected list unfit: then none starts */
+    {__LINE__, lists_locked, "DD", "FE 21"},
+    {__LINE__, lists_locked, "DD 03", "FE 25"},
+    {__LINE__, no_mode, "DD 03", "FE 22"},
+    {__LINE__, busy, "DD FF", "FE 22"},
+    {__LINE__, busy, "DD 01", "FE 2A"},
+    {__LINE__, no_mode, "DD 01", "FE 2A"},
+    {__LINE__, no_entry, "DD 01", "FE 2A"},
+    {__LINE__, odt_0_of_6, "DD 01", "FE 2A"},
+    {__LINE__, odt_1_of_8, "DD 01", "FE 2A"},
+    /* GET_DAQ_PROCESSOR_INFO and GET_DAQ_RESOLUTION_INFO need lists too */
+    {__LINE__, lists_locked, "DA", "FE 25"},
+    {__LINE__, lists_locked, "D9", "FE 25"},
+    {__LINE__, connected, "DA 01 02 03 04 05 06 07", "FE 25"},
+    /* Not refused, and changing nothing either: status, infos, a seed for what is open (one for
+     * the other resource stays good, and the generator stays), a start of a running list */
+    {__LINE__, busy, "FD", "FF 40 00 00 00 00"},
+    {__LINE__, seeded, "FD", "FF 00 05 00 00 00"},
+    {__LINE__, seeded_lists, "F8 00 01", "FF 00"},
+    {__LINE__, busy, "F8 00 04", "FF 00"},
+    {__LINE__, busy, "DA", "FF 10 04 00 02 00 00 00"},
+    {__LINE__, busy, "D9", "FF 01 04 00 00 6A 01 00"},
+    {__LINE__, busy, "DE 01 02 00", "FF 04"},
+    {__LINE__, busy, "DE 02 01 00", "FF 02"},
+};
+
+static void every_row(void)
+{
+    for (size_t i = 0; i < COUNT(rows); i++) {
+        struct rig r;
+        ROW(&rows[i]);
+        rows[i].situation(&r);
+        refused(&r, rows[i].answer, "%s", rows[i].packet);
+        rig_end(&r);
+    }
+}
+
+/* Fewest bytes of each known code; 0 is no code of ours. */
+static size_t fewest(unsigned code)
+{
+    static const uint8_t of[] = {
+        [0xFF - 0xD9] = 2, [0xFE - 0xD9] = 1, [0xFD - 0xD9] = 1, [0xFC - 0xD9] = 1,
+        [0xF8 - 0xD9] = 3, [0xF7 - 0xD9] = 2, [0xF6 - 0xD9] = 8, [0xF5 - 0xD9] = 2,
+        [0xF4 - 0xD9] = 8, [0xF3 - 0xD9] = 8, [0xF0 - 0xD9] = 2, [0xE3 - 0xD9] = 4,
+        [0xE2 - 0xD9] = 6, [0xE1 - 0xD9] = 8, [0xE0 - 0xD9] = 8, [0xDE - 0xD9] = 4,
+        [0xDD - 0xD9] = 2, [0xDA - 0xD9] = 1, [0xD9 - 0xD9] = 1,
+    };
+    return code < 0xD9 ? 0 : of[code - 0xD9];
+}
+
+/* Every code at every length: unknown is 0x20 even alone, a known one too short is 0x21. */
+static void every_code(void)
+{
+    struct rig r;
+    busy(&r);
+    for (unsigned code = 0; code < 256; code++)
+        for (size_t len = 1; len <= PACKET; len++) {
+            uint8_t packet[PACKET] = {(uint8_t)code, 0xFF, 0xFF, 0xFF, 0xFF, 0xFF, 0xFF, 0xFF};
+            uint8_t answer[PACKET] = {0};
+            if (fewest(code) != 0 && len >= fewest(code))
+                continue;
+            check_note("code %02X, %zu bytes", code, len);
+            NUMBER("taken", 1, give_bytes(&r, packet, len));
+            if (slot(&r, answer) > 0 && answer[0] < 0xFE)
+                slot(&r, answer); /* busy's own packet may come first */
+            NUMBER("FE", 0xFE, answer[0]);
+            NUMBER("code", fewest(code) == 0 ? 0x20 : 0x21, answer[1]);
+        }
+    check_note("%s", "");
+    rig_end(&r);
+}
+
+static void unknown_changes_nothing(void)
+{
+    static const char *const codes[] = {"00", "BF", "C0", "CF", "D8", "DB", "DC", "DF", "E4", "EF",
+                                        "F1", "F2", "F9", "FA", "FB"};
+    for (size_t i = 0; i < COUNT(codes); i++) {
+        struct rig r;
+        busy(&r);
+        REFUSED(&r, "FE 20", "%s", codes[i]);
+        rig_end(&r);
+        busy(&r);
+        REFUSED(&r, "FE 20", "%s 01 02 00 00 00 00 00", codes[i]);
+        rig_end(&r);
+    }
+}
+
+/* MTA inside, pointer set, both unlocked: a command's numbers are the first thing to fail. */
+static void all_set(struct rig *r)
+{
+    writing(r);
+    ask(r, "FF", "E2 00 03 00 00 00");
+}
+
+/* Each byte that has a range: 0x22 for all values outside it, and for none inside it. */
+struct range {
+    int line;
+    void (*situation)(struct rig *);
+    const char *format; /* with one %02X */
+    unsigned least, most;
+};
+
+/* GET_SEED's mode 1 has a code of its own, so it counts as inside here. */
+static const struct range ranges[] = {
+    {__LINE__, all_set, "F5 %02X", 1, 7},
+    {__LINE__, all_set, "F4 %02X 00 00 00 00 00 00", 1, 7},
+    {__LINE__, all_set, "F4 01 00 %02X 00 00 00 00", 0, 1},
+    {__LINE__, all_set, "F6 00 00 %02X 00 00 00 00", 0, 1},
+    {__LINE__, all_set, "F0 %02X 01 02 03 04 05 06", 1, 6},
+    {__LINE__, all_set, "E3 00 %02X 00", 0, 3},
+    {__LINE__, all_set, "E3 00 00 %02X", 0, 0},
+    {__LINE__, all_set, "E2 00 %02X 00 00 00", 0, 3},
+    {__LINE__, all_set, "E2 00 00 %02X 00 00", 0, 0},
+    {__LINE__, all_set, "E2 00 00 00 %02X 00", 0, 1},
+    {__LINE__, all_set, "E2 00 00 00 00 %02X", 0, 3},
+    {__LINE__, all_set, "E1 %02X 01 00 00 00 00 00", 0xFF, 0xFF},
+    {__LINE__, all_set, "E1 FF %02X 00 00 00 00 00", 0, 4},
+    {__LINE__, all_set, "E1 FF 01 %02X 00 00 00 00", 0, 1},
+    {__LINE__, all_set, "E0 %02X 00 00 00 00 01 00", 0x10, 0x10},
+    {__LINE__, all_set, "E0 10 %02X 00 00 00 01 00", 0, 3},
+    {__LINE__, all_set, "E0 10 00 %02X 00 00 01 00", 0, 0},
+    {__LINE__, all_set, "E0 10 00 00 %02X 00 01 00", 0, 1},
+    {__LINE__, all_set, "E0 10 00 00 00 %02X 01 00", 0, 0},
+    {__LINE__, all_set, "E0 10 00 00 00 00 %02X 00", 1, 1},
+    {__LINE__, all_set, "E0 10 00 00 00 00 01 %02X", 0, 0},
+    {__LINE__, all_set, "DE %02X 02 00", 0, 2},
+    {__LINE__, all_set, "DE 00 %02X 00", 0, 3},
+    {__LINE__, all_set, "DE 00 00 %02X", 0, 0},
+    {__LINE__, all_set, "DD %02X", 0, 2},
+    {__LINE__, all_set, "FF %02X", 0, 0},
+    {__LINE__, all_set, "F8 %02X 04", 0, 1},
+    {__LINE__, seeded_lists, "F7 %02X 00 00 00 00", 4, 4},
+};
+
+static void every_range(void)
+{
+    for (size_t i = 0; i < COUNT(ranges); i++)
+        for (unsigned value = 0; value < 256; value++) {
+            struct rig r;
+            uint8_t answer[PACKET] = {0};
+            ROW(&ranges[i]);
+            ranges[i].situation(&r);
+            check_note("value %02X", value);
+            insist("taken", 1, give(&r, ranges[i].format, value));
+            insist("an answer", 1, slot(&r, answer) > 0);
+            uint32_t outside = value < ranges[i].least || value > ranges[i].most;
+            uint32_t refused_so = answer[0] == 0xFE && answer[1] == 0x22;
+            check_numbers("outside its range", outside, refused_so);
+            check_note("%s", "");
+            rig_end(&r);
+        }
+}
+
+/* GET_SEED knows two resources; to any other it answers as to a number outside its range. */
+static void every_resource(void)
+{
+    struct rig r;
+    connected(&r);
+    for (unsigned resource = 0; resource < 256; resource++) {
+        uint8_t answer[PACKET] = {0};
+        int known = resource == CALIBRATION || resource == LISTS;
+        check_note("resource %02X", resource);
+        NUMBER("taken", 1, give(&r, "F8 00 %02X", resource));
+        NUMBER("length", known ? 6 : 2, (uint32_t)slot(&r, answer));
+        NUMBER("answer", known ? 0x04FF : 0x22FE, (uint32_t)(answer[0] | answer[1] << 8));
+    }
+    check_note("%s", "");
+    rig_end(&r);
+}
+
+/* Reserved bytes, and bytes past those that a command needs, are ignored. */
+static void ignored_bytes(void)
+{
+    struct rig r;
+    unlocked(&r);
+    memcpy(r.cal + 0x100, "\x41\x42\x43\x44", 4);
+    ASK(&r, "FF 00 00 00 00 00", "FD AA BB CC DD EE FF 01");
+    ASK(&r, "FF 00", "F8 00 01 AA BB CC DD EE");
+    ASK(&r, "FF", "F6 AA BB 00 00 01 00 00");
+    ASK(&r, "FF 41", "F5 01 AA BB CC DD EE FF");
+    ASK(&r, "FF 43 44", "F4 02 AA 00 02 01 00 00");
+    ASK(&r, "FF 02 00 00 85 00 00 00", "F3 AA BB CC 02 00 00 00");
+    ASK(&r, "FF", "F0 01 54 AA BB CC DD EE");
+    BYTES("one byte written", (const uint8_t *)"\x41\x42\x43\x54", 4, r.cal + 0x100, 4);
+    ASK(&r, "FF", "E3 AA 01 00 BB CC DD EE");
+    ASK(&r, "FF", "E2 AA 01 00 00 00 BB CC");
+    ASK(&r, "FF", "E1 FF 01 00 02 01 00 00");
+    ASK(&r, "FF", "E0 10 01 00 01 00 01 00");
+    ASK(&r, "FF 02", "DE 01 01 00 AA BB CC DD");
+    NUMBER("sampled", 0x100, event(&r, 1, 0xABCD));
+    SENDS(&r, "02 CD AB 43");
+    ASK(&r, "FF", "DD 00 AA BB CC DD EE FF");
+    ASK(&r, "FF 10 04 00 02 00 00 00", "DA AA BB CC DD EE FF 01");
+    ASK(&r, "FF 01 04 00 00 6A 01 00", "D9 AA BB CC DD EE FF 01");
+    ASK(&r, "FF", "FE AA BB CC DD EE FF 01");
+    rig_end(&r);
+}
+
+void test_commands(void)
+{
+    every_row();
+    every_code();
+    unknown_changes_nothing();
+    every_range();
+    every_resource();
+    ignored_bytes();
+}

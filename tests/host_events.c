@@ -1,0 +1,367 @@
+#include "host.h"
+
+/* Lists 0 and 1 have two packets, lists 2 and 3 one; 0 and 2 are on event 0, 1 and 3 on event 1. */
+static void sampling(struct rig *r)
+{
+    unlocked(r);
+    for (unsigned list = 0; list < 4; list++) {
+        entry(r, list, 0, 0, 2, 1, 16 * list);
+        if (list < 2)
+            entry(r, list, 1, 0, 3, 0, 16 * list);
+        mode(r, list, list % 2);
+        start(r, list);
+    }
+}
+
+/* Entries are read in order, from either memory, both ODTs at the event and not later. */
+static void captured_at_once(void)
+{
+    struct rig r;
+    unlocked(&r);
+    memcpy(r.cal, "\x10\x11\x12\x13\x14\x15\x16\x17", 8);
+    memcpy(r.meas, "\x20\x21\x22\x23\x24\x25\x26\x27", 8);
+    HERE();
+    entry(&r, 2, 0, 0, 1, 1, 7);
+    entry(&r, 2, 0, 2, 3, 0, 1);
+    entry(&r, 2, 0, 3, 1, 1, 0);
+    entry(&r, 2, 1, 1, 4, 1, 2);
+    entry(&r, 2, 1, 3, 3, 0, 5);
+    mode(&r, 2, 1);
+    start(&r, 2);
+    NUMBER("sampled", 0x100, event(&r, 1, 0x9A9B));
+    memset(r.cal, 0xDD, r.cal_len);
+    memset(r.meas, 0xDD, r.meas_len);
+    SENDS(&r, "04 9B 9A 27 11 12 13 20");
+    memset(r.meas, 0xCC, r.meas_len);
+    rig_resize_meas(&r, 0);
+    rig_resize_cal(&r, 0);
+    SENDS(&r, "05 22 23 24 25 15 16 17");
+    SENDS(&r, "");
+    rig_end(&r);
+}
+
+static void missed(void)
+{
+    struct rig r;
+    uint8_t packet[PACKET];
+    sampling(&r);
+    NUMBER("both of event 0", 0x200, event(&r, 0, 0x0A0A));
+    NUMBER("again: both missed", 2, event(&r, 0, 0x0B0B));
+    NUMBER("both of event 1", 0x200, event(&r, 1, 0x0C0C));
+    SENDS(&r, "00 0A 0A %02X %02X", r.meas[0], r.meas[1]); /* the old one stays */
+    NUMBER("only the second packet is unsent: missed", 2, event(&r, 0, 0x0D0D));
+    SENDS(&r, "02 0C 0C %02X %02X", r.meas[16], r.meas[17]);
+    SENDS(&r, "04 0A 0A %02X %02X", r.meas[32], r.meas[33]);
+    NUMBER("list 2 is free", 0x101, event(&r, 0, 0x0E0E));
+    SENDS(&r, "06 0C 0C %02X %02X", r.meas[48], r.meas[49]);
+    SENDS(&r, "01 %02X %02X %02X", r.cal[0], r.cal[1], r.cal[2]);
+    NUMBER("list 0 is free", 0x101, event(&r, 0, 0x0F0F));
+    drain(&r, packet);
+    NUMBER("all free", 0x200, event(&r, 0, 1));
+    rig_end(&r);
+}
+
+/* Four lists on one event: two sample and two miss is 514. */
+static void counts(void)
+{
+    struct rig r;
+    unlocked(&r);
+    for (unsigned list = 0; list < 4; list++) {
+        HERE();
+        entry(&r, list, 0, 0, 1, 0, 0);
+        mode(&r, list, 0);
+        start(&r, list);
+    }
+    NUMBER("all sample", 1024, event(&r, 0, 0));
+    SENDS(&r, "00 00 00 %02X", r.cal[0]);
+    SENDS(&r, "02 00 00 %02X", r.cal[0]);
+    uint32_t result =
+        xcp_event(r.state, XCP_STATE_SIZE, r.cal, r.cal_len, r.meas, r.meas_len, 0, 7);
+    NUMBER("two of each", 514, result);
+    NUMBER("sampled", 2, XCP_SAMPLED(result));
+    NUMBER("missed", 2, XCP_MISSED(result));
+    rig_end(&r);
+}
+
+static void no_list_runs(void)
+{
+    static void (*const situations[])(struct rig *) = {powered, connected, unlocked};
+    for (size_t i = 0; i < COUNT(situations); i++)
+        for (uint32_t number = 0; number < 2; number++) {
+            struct rig r;
+            uint8_t before[XCP_STATE_SIZE];
+            HERE();
+            situations[i](&r);
+            memcpy(before, r.state, sizeof before);
+            NUMBER("nothing to sample", 0, event(&r, number, 5));
+            BYTES("state", before, sizeof before, r.state, XCP_STATE_SIZE);
+            rig_end(&r);
+        }
+}
+
+/* The memories shrink between setup and event: bytes that are no longer inside read 0. */
+static void shrunk(void)
+{
+    for (size_t len = 0; len <= 8; len++) {
+        struct rig r;
+        uint8_t expected[PACKET] = {0, 0x34, 0x12}, packet[PACKET];
+        unlocked(&r);
+        memcpy(r.cal, "\x10\x11\x12\x13\x14\x15\x16\x17", 8);
+        memcpy(r.meas, "\x20\x21\x22\x23\x24\x25\x26\x27", 8);
+        check_note("%zu bytes left", len);
+        HERE();
+        entry(&r, 0, 0, 0, 4, 1, 3);
+        entry(&r, 0, 0, 1, 1, 0, 0);
+        entry(&r, 0, 1, 0, 3, 0, 5);
+        entry(&r, 0, 1, 1, 1, 1, 4095);
+        mode(&r, 0, 0);
+        start(&r, 0);
+        rig_resize_cal(&r, len);
+        rig_resize_meas(&r, len);
+        NUMBER("sampled all the same", 0x100, event(&r, 0, 0x1234));
+        for (size_t i = 0; i < 4; i++)
+            expected[3 + i] = (uint8_t)(3 + i < len ? 0x23 + i : 0);
+        expected[7] = len > 0 ? 0x10 : 0;
+        size_t got = slot(&r, packet);
+        BYTES("ODT 0", expected, 8, packet, got);
+        expected[0] = 1;
+        for (size_t i = 0; i < 3; i++)
+            expected[1 + i] = (uint8_t)(5 + i < len ? 0x15 + i : 0);
+        expected[4] = 0;
+        got = slot(&r, packet);
+        BYTES("ODT 1", expected, 5, packet, got);
+        check_note("%s", "");
+        rig_end(&r);
+    }
+}
+
+/* A longer memory shows no more than its first 4,096 bytes; NULL with length 0 is a memory. */
+static void other_memories(void)
+{
+    struct rig r;
+    rig_start(&r, 5000, 5000, 1);
+    ask(&r, "FF 05 00 08 08 00 01 01", "FF 00");
+    unlock(&r, LISTS);
+    ASK(&r, "FF", "E2 00 00 00 00 00");
+    REFUSED(&r, "FE 24", "E1 FF 02 01 FF 0F 00 00");
+    ASK(&r, "FF", "E1 FF 01 01 FF 0F 00 00");
+    ASK(&r, "FF", "E1 FF 04 00 FC 0F 00 00");
+    HERE();
+    mode(&r, 0, 0);
+    start(&r, 0);
+    NUMBER("sampled", 0x100, event(&r, 0, 0));
+    SENDS(&r, "00 00 00 %02X %02X %02X %02X %02X", r.meas[4095], r.cal[4092], r.cal[4093],
+          r.cal[4094], r.cal[4095]);
+    NUMBER("no memory at all", 0x100,
+           xcp_event(r.state, XCP_STATE_SIZE, NULL, 0, NULL, 0, 0, 0x0708));
+    SENDS(&r, "00 08 07 00 00 00 00 00");
+    rig_end(&r);
+}
+
+/* ODT 0 without bytes still sends its number and the clock; ODT 1 without bytes sends nothing. */
+static void empty_odts(void)
+{
+    struct rig r;
+    unlocked(&r);
+    HERE();
+    entry(&r, 3, 1, 2, 1, 0, 4);
+    mode(&r, 3, 1);
+    start(&r, 3);
+    NUMBER("sampled", 0x100, event(&r, 1, 0xBEEF));
+    SENDS(&r, "06 EF BE");
+    SENDS(&r, "07 %02X", r.cal[4]);
+    SENDS(&r, "");
+    rig_end(&r);
+}
+
+/* What stops a list drops its second packet, though the first has left. */
+static void half_a_sample(void)
+{
+    static const char *const commands[] = {"DE 00 00 00", "DD 00", "DD 02", "FE", "FF 00"};
+    for (size_t i = 0; i < COUNT(commands); i++) {
+        struct rig r;
+        uint8_t packet[PACKET];
+        HERE();
+        sampling(&r);
+        ask(&r, "FF 00", "DE 02 00 00");
+        ask(&r, "FF 04", "DE 02 02 00");
+        check_note("%s", commands[i]);
+        NUMBER("sampled", 0x200, event(&r, 0, 1));
+        NUMBER("ODT 0", 5, (uint32_t)slot(&r, packet));
+        NUMBER("ODT 0 of list 2", 5, (uint32_t)slot(&r, packet));
+        NUMBER("taken", 1, give(&r, "%s", commands[i]));
+        NUMBER("answer", 1, slot(&r, packet) > 0 && packet[0] == 0xFF);
+        SENDS(&r, "");
+        NUMBER("list 0 does not sample", i == 0 ? 0x100 : 0, event(&r, 0, 1));
+        check_note("%s", "");
+        rig_end(&r);
+    }
+}
+
+/* The round runs on across sessions, and an answer does not move it. */
+static void round_runs_on(void)
+{
+    struct rig r;
+    uint8_t packet[PACKET];
+    sampling(&r);
+    NUMBER("sampled", 0x200, event(&r, 1, 1));
+    NUMBER("list 1", 5, (uint32_t)slot(&r, packet)); /* the last one served is list 1 */
+    NUMBER("taken", 1, give(&r, "FF 00"));
+    SENDS(&r, "FF 05 00 08 08 00 01 01");
+    HERE();
+    unlock(&r, LISTS);
+    for (unsigned list = 0; list < 4; list++) {
+        entry(&r, list, 0, 0, 1, 0, 0);
+        mode(&r, list, 0);
+        start(&r, list);
+    }
+    NUMBER("sampled", 0x400, event(&r, 0, 0));
+    NUMBER("taken", 1, give(&r, "FC"));
+    SENDS(&r, "04 00 00 %02X", r.cal[0]); /* after 1 comes 2; the last frame was an answer */
+    SENDS(&r, "FE 00");
+    SENDS(&r, "06 00 00 %02X", r.cal[0]);
+    SENDS(&r, "00 00 00 %02X", r.cal[0]);
+    SENDS(&r, "02 00 00 %02X", r.cal[0]);
+    SENDS(&r, "");
+    rig_end(&r);
+}
+
+/* Events and slots between the bytes of a command do not disturb it. */
+static void between_bytes(void)
+{
+    static const uint8_t packet[] = {0xF0, 6, SYNC, ESC, 1, 0, SYNC, ESC};
+    struct rig r;
+    uint8_t frame[FRAME], sent[PACKET];
+    HERE();
+    sampling(&r);
+    ask(&r, "FF", "F6 00 00 00 80 00 00 00");
+    size_t size = frame_of(SYNC, packet, sizeof packet, frame);
+    for (size_t i = 0; i < size; i++) {
+        check_note("byte %zu", i);
+        NUMBER("number", i + 1 == size, feed(&r, frame[i]));
+        event(&r, i % 2, (uint16_t)i);
+        if (i + 1 < size)
+            slot(&r, sent);
+    }
+    check_note("%s", "");
+    BYTES("written", packet + 2, 6, r.cal + 0x80, 6);
+    int first = slot(&r, sent) > 0 && sent[0] == 0xFF;
+    int second = slot(&r, sent) > 0 && sent[0] == 0xFF;
+    NUMBER("its answer leaves in one of two slots", 1, (uint32_t)(first + second));
+    rig_end(&r);
+}
+
+/* The rule of turns, as a model to run against: whose frame is next, or -1 for none, 4 for the
+ * answer. waiting[l] is how many packets list l has unsent. */
+struct turns {
+    int answer, last_was_answer, served, waiting[4];
+};
+
+static int whose_turn(const struct turns *t)
+{
+    if (t->answer && !t->last_was_answer)
+        return 4;
+    for (int i = 1; i <= 4; i++)
+        if (t->waiting[(t->served + i) % 4] > 0)
+            return (t->served + i) % 4;
+    return t->answer ? 4 : -1;
+}
+
+static void one_turn(struct rig *r, struct turns *t)
+{
+    uint8_t packet[PACKET] = {0};
+    int turn = whose_turn(t);
+    size_t len = slot(r, packet);
+    int got = len == 0 ? -1 : packet[0] >= 0xFE ? 4 : packet[0] / 2;
+    NUMBER("turn", (uint32_t)turn, (uint32_t)got);
+    if (turn == 4) {
+        t->answer = 0;
+        t->last_was_answer = 1;
+    } else if (turn >= 0) {
+        int second = turn < 2 && t->waiting[turn] == 1;
+        NUMBER("packet", (uint32_t)(2 * turn + second), packet[0]);
+        t->waiting[turn]--;
+        t->served = turn;
+        t->last_was_answer = 0;
+    }
+}
+
+static void one_event(struct rig *r, struct turns *t, unsigned number)
+{
+    uint32_t expected = 0;
+    for (unsigned list = number; list < 4; list += 2)
+        if (t->waiting[list] > 0) {
+            expected += 1;
+        } else {
+            expected += 256;
+            t->waiting[list] = list < 2 ? 2 : 1;
+        }
+    NUMBER("event", expected, event(r, number, (uint16_t)expected));
+}
+
+static void turns(void)
+{
+    struct rig r;
+    struct turns t = {0, 1, 3, {0, 0, 0, 0}};
+    uint32_t number = 12345;
+    sampling(&r);
+    for (int step = 0; step < 4000; step++) {
+        number = number * 1664525u + 1013904223u;
+        check_note("step %d", step);
+        unsigned choice = number >> 24;
+        if (choice < 48)
+            one_event(&r, &t, choice % 2);
+        else if (choice < 128) {
+            NUMBER("SYNCH", t.answer ? 6 : 1, give(&r, "FC"));
+            t.answer = 1;
+        } else
+            one_turn(&r, &t);
+    }
+    check_note("%s", "");
+    rig_end(&r);
+}
+
+/* With answers coming all the time, the last of eight packets leaves in the sixteenth slot. */
+static void sixteen_slots(void)
+{
+    struct rig r;
+    uint8_t packet[PACKET];
+    unlocked(&r);
+    for (unsigned list = 0; list < 4; list++) {
+        HERE();
+        entry(&r, list, 0, 0, 1, 0, 0);
+        entry(&r, list, 1, 0, 1, 0, 1);
+        mode(&r, list, 0);
+        start(&r, list);
+    }
+    NUMBER("sampled", 0x400, event(&r, 0, 0));
+    drain(&r, packet); /* the last frame is list 3's */
+    NUMBER("sampled", 0x400, event(&r, 0, 0));
+    for (unsigned i = 0; i < 16; i++) {
+        check_note("slot %u", i + 1);
+        if (i % 2 == 0)
+            NUMBER("SYNCH", 1, give(&r, "FC"));
+        NUMBER("a frame", 1, slot(&r, packet) > 0);
+        unsigned list = i / 2 % 4, odt = i / 8;
+        NUMBER("its first byte", i % 2 == 0 ? 0xFE : 2 * list + odt, packet[0]);
+    }
+    check_note("%s", "");
+    SENDS(&r, "");
+    rig_end(&r);
+}
+
+void test_events(void)
+{
+    captured_at_once();
+    missed();
+    counts();
+    no_list_runs();
+    shrunk();
+    other_memories();
+    empty_odts();
+    half_a_sample();
+    round_runs_on();
+    between_bytes();
+    turns();
+    sixteen_slots();
+}

@@ -1,0 +1,207 @@
+#include "host.h"
+
+#include <stdio.h>
+
+/* "FF" and these bytes, as an answer. */
+static const char *answer_of(const uint8_t *bytes, size_t count)
+{
+    static char text[3 * PACKET + 1];
+    int at = snprintf(text, sizeof text, "FF");
+    for (size_t i = 0; i < count; i++)
+        at += snprintf(text + at, sizeof text - (size_t)at, " %02X", bytes[i]);
+    return text;
+}
+
+static size_t reach(size_t len)
+{
+    return len < 4096 ? len : 4096;
+}
+
+/* The bytes that a session sees of each memory, up to the last one, for every count. */
+static void read_to_the_end(struct rig *r, unsigned ext, const uint8_t *memory, size_t len)
+{
+    uint32_t end = (uint32_t)reach(len);
+    for (uint32_t count = 1; count <= 7; count++) {
+        check_note("extension %u of %zu bytes, count %u", ext, len, (unsigned)count);
+        if (count <= end) {
+            const char *data = answer_of(memory + end - count, count);
+            ASK(r, data, "F4 %02X 00 %02X %02X %02X %02X %02X", count, ext, LE32(end - count));
+            ASK(r, "FF", "F6 00 00 %02X %02X %02X %02X %02X", ext, LE32(end - count));
+            ASK(r, data, "F5 %02X", count);
+            ASK(r, "FE 24", "F5 01"); /* the MTA is at the end now */
+        }
+        uint32_t too_far = count <= end ? end - count + 1 : 0;
+        REFUSED(r, "FE 24", "F4 %02X 00 %02X %02X %02X %02X %02X", count, ext, LE32(too_far));
+        ASK(r, "FF", "F6 00 00 %02X %02X %02X %02X %02X", ext, LE32(too_far));
+        REFUSED(r, "FE 24", "F5 %02X", count);
+    }
+    check_note("%s", "");
+}
+
+/* Addresses that would wrap to an inside block if address plus size were cut to 32 bits. */
+static void far_addresses(struct rig *r, unsigned ext)
+{
+    static const uint32_t far[] = {0xFFFFFFFF, 0xFFFFFFFA, 0xFFFFFFF9,
+                                   0x80000000, 0x00010000, 4097};
+    for (size_t i = 0; i < COUNT(far); i++) {
+        check_note("address %08lX", (unsigned long)far[i]);
+        ASK(r, "FE 24", "F4 07 00 %02X %02X %02X %02X %02X", ext, LE32(far[i]));
+        ASK(r, "FF", "F6 00 00 %02X %02X %02X %02X %02X", ext, LE32(far[i]));
+        ASK(r, "FE 24", "F5 01");
+        ASK(r, "FE 24", "F3 00 00 00 00 10 00 00");
+        ASK(r, "FE 24", "F3 00 00 00 01 00 00 00");
+        ASK(r, ext == 0 ? "FE 24" : "FE 23", "F0 01 55");
+        ASK(r, ext == 0 ? "FE 24" : "FE 23", "F0 06 55 55 55 55 55 55");
+    }
+    check_note("%s", "");
+}
+
+static void sum_to_the_end(struct rig *r, unsigned ext, const uint8_t *memory, size_t len)
+{
+    uint32_t end = (uint32_t)reach(len), sum = 0;
+    char answer[32];
+    for (size_t i = 0; i < end; i++)
+        sum += memory[i];
+    snprintf(answer, sizeof answer, "FF 02 00 00 %02X %02X 00 00", LE16(sum));
+    check_note("extension %u of %zu bytes", ext, len);
+    ASK(r, "FF", "F6 00 00 %02X 00 00 00 00", ext);
+    if (end > 0)
+        ASK(r, answer, "F3 00 00 00 %02X %02X %02X %02X", LE32(end));
+    REFUSED(r, "FE 24", "F3 00 00 00 01 00 00 00"); /* the MTA moved to the end */
+    if (end < 4096) {
+        ASK(r, "FF", "F6 00 00 %02X 00 00 00 00", ext);
+        REFUSED(r, "FE 24", "F3 00 00 00 %02X %02X %02X %02X", LE32(end + 1));
+    }
+    check_note("%s", "");
+}
+
+/* Writes up to the last byte that can be addressed: these bytes change and no others. */
+static void write_to_the_end(struct rig *r)
+{
+    static uint8_t expected[8192];
+    uint32_t end = (uint32_t)reach(r->cal_len);
+    for (uint32_t count = 1; count <= 6; count++) {
+        check_note("calibration of %zu bytes, count %u", r->cal_len, (unsigned)count);
+        uint32_t too_far = count <= end ? end - count + 1 : 0;
+        ASK(r, "FF", "F6 00 00 00 %02X %02X %02X %02X", LE32(too_far));
+        REFUSED(r, "FE 24", "F0 %02X 91 92 93 94 95 96", count);
+        if (count > end)
+            continue;
+        memcpy(expected, r->cal, r->cal_len);
+        for (uint32_t i = 0; i < count; i++)
+            expected[end - count + i] = (uint8_t)(16 * count + 0xA + i);
+        ASK(r, "FF", "F6 00 00 00 %02X %02X %02X %02X", LE32(end - count));
+        ASK(r, "FF", "F0 %02X %XA %XB %XC %XD %XE %XF", count, count, count, count, count, count,
+            count);
+        BYTES("memory", expected, r->cal_len, r->cal, r->cal_len);
+        REFUSED(r, "FE 24", "F0 01 00"); /* the MTA moved to the end */
+        ASK(r, answer_of(expected + end - count, count), "F4 %02X 00 00 %02X %02X %02X %02X", count,
+            LE32(end - count));
+    }
+    check_note("%s", "");
+}
+
+static void every_length(void)
+{
+    static const size_t lengths[] = {0, 1, 5, 4095, 4096, 4097, 5000};
+    for (size_t i = 0; i < COUNT(lengths); i++) {
+        struct rig r;
+        size_t cal_len = lengths[i], meas_len = lengths[COUNT(lengths) - 1 - i];
+        rig_start(&r, cal_len, meas_len, 1);
+        ask(&r, "FF 05 00 08 08 00 01 01", "FF 00");
+        read_to_the_end(&r, 0, r.cal, cal_len); /* no lock guards reading */
+        read_to_the_end(&r, 1, r.meas, meas_len);
+        sum_to_the_end(&r, 0, r.cal, cal_len);
+        sum_to_the_end(&r, 1, r.meas, meas_len);
+        unlock(&r, CALIBRATION);
+        write_to_the_end(&r);
+        far_addresses(&r, 0);
+        far_addresses(&r, 1);
+        rig_end(&r);
+    }
+}
+
+/* MTA: moved by UPLOAD, DOWNLOAD and BUILD_CHECKSUM when done, and by nothing else. */
+static void mta_moves(void)
+{
+    struct rig r;
+    unlocked(&r);
+    ASK(&r, "FF", "F6 00 00 01 20 00 00 00");
+    ASK(&r, answer_of(r.meas + 0x20, 3), "F5 03");
+    REFUSED(&r, "FE 22", "F5 08");
+    ASK(&r, answer_of(r.meas + 0x10, 7), "F4 07 00 01 10 00 00 00");
+    ASK(&r, answer_of(r.meas + 0x23, 7), "F5 07");
+    REFUSED(&r, "FE 24", "F3 00 00 00 00 10 00 00");
+    NUMBER("taken", 1, give(&r, "F3 00 00 00 02 00 00 00"));
+    SENDS(&r, "FF 02 00 00 %02X %02X 00 00", LE16((unsigned)r.meas[0x2A] + r.meas[0x2B]));
+    REFUSED(&r, "FE 23", "F0 01 55");
+    ASK(&r, answer_of(r.meas + 0x2C, 1), "F5 01");
+    ASK(&r, "FF", "F6 00 00 00 FC 0F 00 00");
+    REFUSED(&r, "FE 24", "F5 05");
+    ASK(&r, "FF", "F0 02 01 02");
+    REFUSED(&r, "FE 24", "F0 03 01 02 03");
+    ASK(&r, answer_of(r.cal + 4094, 2), "F5 02");
+    ASK(&r, "FF", "F6 00 00 00 00 00 00 00");
+    ASK(&r, "FF 05 00 08 08 00 01 01", "FF 00");
+    ASK(&r, "FE 29", "F5 01"); /* a new session has it unset */
+    rig_end(&r);
+}
+
+/* The longest sum, of bytes FF: modulo 65,536, upper bytes 00. */
+static void longest_sum(void)
+{
+    struct rig r;
+    connected(&r);
+    memset(r.cal, 0xFF, r.cal_len);
+    ASK(&r, "FF", "F6 00 00 00 00 00 00 00");
+    ASK(&r, "FF 02 00 00 00 F0 00 00", "F3 00 00 00 00 10 00 00");
+    ASK(&r, "FE 24", "F5 01");
+    rig_end(&r);
+}
+
+/* A memory may have another length at each call: that call's length is judged. */
+static void other_lengths(void)
+{
+    struct rig r;
+    unlocked(&r);
+    ASK(&r, "FF", "F6 00 00 00 64 00 00 00");
+    rig_resize_cal(&r, 100);
+    REFUSED(&r, "FE 24", "F5 01");
+    REFUSED(&r, "FE 24", "F0 01 55");
+    rig_resize_cal(&r, 101);
+    ASK(&r, "FF", "F0 01 55");
+    NUMBER("written", 0x55, r.cal[100]);
+    REFUSED(&r, "FE 24", "F5 01");
+    rig_resize_cal(&r, 108);
+    ASK(&r, "FF 77 77 77 77 77 77 77", "F5 07");
+    rig_resize_cal(&r, 0);
+    REFUSED(&r, "FE 24", "F5 01");
+    rig_resize_meas(&r, 1);
+    ASK(&r, "FF", "F6 00 00 01 00 00 00 00");
+    ASK(&r, answer_of(r.meas, 1), "F5 01");
+    rig_resize_meas(&r, 0);
+    REFUSED(&r, "FE 24", "F4 01 00 01 00 00 00 00");
+    rig_end(&r);
+}
+
+/* Every write is refused while calibration is locked, whatever else is open. */
+static void locked_writes(void)
+{
+    struct rig r;
+    connected(&r);
+    unlock(&r, LISTS);
+    for (unsigned address = 0; address < 4096; address += 315) {
+        ASK(&r, "FF", "F6 00 00 00 %02X %02X 00 00", LE16(address));
+        REFUSED(&r, "FE 25", "F0 06 01 02 03 04 05 06");
+    }
+    rig_end(&r);
+}
+
+void test_memory(void)
+{
+    every_length();
+    mta_moves();
+    longest_sum();
+    other_lengths();
+    locked_writes();
+}

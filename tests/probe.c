@@ -1,0 +1,153 @@
+#include "probe.h"
+
+#include <stdarg.h>
+#include <stdio.h>
+#include <string.h>
+
+/* The longest memory that a test lends. */
+#define LONGEST 8192
+
+static void write_down(struct seen *seen, const uint8_t *bytes, size_t len)
+{
+    int fits = seen->len + len + 1 <= sizeof seen->bytes;
+    insist("room to write down", 1, (uint32_t)fits);
+    if (!fits)
+        return;
+    seen->bytes[seen->len++] = (uint8_t)len;
+    memcpy(seen->bytes + seen->len, bytes, len);
+    seen->len += len;
+}
+
+/* Slots until nothing waits. Answers and list packets are both written down. */
+static void drain_into(struct rig *r, struct seen *seen)
+{
+    uint8_t packet[PACKET];
+    size_t len;
+    for (int slots = 0; slots < 17 && (len = slot(r, packet)) > 0; slots++)
+        write_down(seen, packet, len);
+}
+
+/* Commands of one exchange, each with its number and what then leaves. "EV" stands for an event
+ * of each number; "KEY" for an UNLOCK with the key of the last seed for that resource. */
+static void step(struct rig *r, struct seen *seen, const char *command)
+{
+    uint8_t noted[3] = {0};
+    uint32_t key;
+    if (strcmp(command, "EV") == 0) {
+        for (unsigned number = 0; number < 2; number++) {
+            uint32_t counts = event(r, number, (uint16_t)(0x1100 + number));
+            noted[1] = (uint8_t)(counts >> 8);
+            noted[2] = (uint8_t)counts;
+            write_down(seen, noted, sizeof noted);
+            drain_into(r, seen);
+        }
+        return;
+    }
+    if (strncmp(command, "KEY", 3) == 0) {
+        key = key_of(r->seed, command[3] == '1' ? CALIBRATION : LISTS);
+        noted[0] = (uint8_t)give(r, "F7 04 %02X %02X %02X %02X", LE32(key));
+    } else {
+        noted[0] = (uint8_t)give(r, "%s", command);
+    }
+    write_down(seen, noted, 1);
+    drain_into(r, seen);
+}
+
+/* Exchanges that show one thing each: status and MTA; what the pointer points at; the lists as
+ * they run; the selections, started and stopped; which lists can start; the seed; the generator. */
+static const char *const exchanges[][12] = {
+    {"FD", "F5 07", "F5 01", NULL},
+    {"F0 01 EE", "F4 07 00 00 00 00 00 00", NULL},
+    {"E1 FF 01 01 05 00 00 00", "DD 00", "E0 10 00 00 00 00 01 00", "E0 10 01 00 00 00 01 00",
+     "E0 10 02 00 00 00 01 00", "E0 10 03 00 00 00 01 00", "DE 01 00 00", "DE 01 01 00",
+     "DE 01 02 00", "DE 01 03 00", "EV", NULL},
+    {"EV", "FD", NULL},
+    {"DD 01", "FD", "EV", NULL},
+    {"DD 02", "FD", "EV", NULL},
+    {"DE 01 00 00", "DE 01 01 00", "DE 01 02 00", "DE 01 03 00", "EV", NULL},
+    {"KEY1", "FD", NULL},
+    {"KEY4", "FD", NULL},
+    {"F8 00 01", NULL},
+    {"F8 00 04", NULL},
+};
+
+static void run(struct rig *r, struct seen *seen, const char *const *commands)
+{
+    static uint8_t cal[LONGEST];
+    struct rig kept = *r;
+    uint8_t state[XCP_STATE_SIZE];
+    memcpy(state, r->state, sizeof state);
+    memcpy(cal, r->cal, r->cal_len);
+    while (*commands != NULL)
+        step(r, seen, *commands++);
+    *r = kept;
+    memcpy(r->state, state, sizeof state);
+    memcpy(r->cal, cal, r->cal_len);
+}
+
+void probe(struct rig *r, struct seen *seen)
+{
+    check_quietly();
+    for (size_t i = 0; i < sizeof exchanges / sizeof exchanges[0]; i++) {
+        struct rig kept = *r;
+        uint8_t state[XCP_STATE_SIZE];
+        memcpy(state, r->state, sizeof state);
+        drain_into(r, seen);
+        run(r, seen, exchanges[i]);
+        *r = kept;
+        memcpy(r->state, state, sizeof state);
+    }
+    check_loudly();
+}
+
+/* Both memories as they are, for a comparison later. */
+struct memories {
+    uint8_t cal[LONGEST], meas[LONGEST];
+};
+
+static void keep(const struct rig *r, struct memories *m)
+{
+    memcpy(m->cal, r->cal, r->cal_len);
+    memcpy(m->meas, r->meas, r->meas_len);
+}
+
+static void compare(const struct rig *r, const struct memories *m)
+{
+    check_bytes("calibration memory after a refusal", m->cal, r->cal_len, r->cal, r->cal_len);
+    check_bytes("measured memory after a refusal", m->meas, r->meas_len, r->meas, r->meas_len);
+}
+
+void refused(struct rig *r, const char *answer, const char *format, ...)
+{
+    static struct seen before, after;
+    static struct memories kept;
+    char packet[64];
+    va_list values;
+    va_start(values, format);
+    vsnprintf(packet, sizeof packet, format, values);
+    va_end(values);
+    before.len = after.len = 0;
+    keep(r, &kept);
+    probe(r, &before);
+    check_note("%s", packet);
+    ask(r, answer, "%s", packet);
+    probe(r, &after);
+    check_bytes("what shows after a refusal", before.bytes, before.len, after.bytes, after.len);
+    compare(r, &kept);
+    check_note("%s", "");
+}
+
+void dropped(struct rig *r, const char *bytes, const char *numbers)
+{
+    static struct seen before, after;
+    static struct memories kept;
+    before.len = after.len = 0;
+    keep(r, &kept);
+    probe(r, &before);
+    wire(r, bytes, numbers);
+    check_note("%s", bytes);
+    probe(r, &after);
+    check_bytes("what shows after a drop", before.bytes, before.len, after.bytes, after.len);
+    compare(r, &kept);
+    check_note("%s", "");
+}

@@ -1,0 +1,79 @@
+/* A slave on the bench: lent buffers at an edge, frames made and read here, answers compared. */
+#ifndef RIG_H
+#define RIG_H
+
+#include "check.h"
+#include "lend.h"
+#include "xcp_slave.h"
+
+enum { SYNC = 0x9A, ESC = 0x9B, CALIBRATION = 0x01, LISTS = 0x04, PACKET = 8, FRAME = 23 };
+
+struct rig {
+    uint8_t *state, *cal, *meas, *out;
+    size_t cal_len, meas_len, out_len;
+    uint8_t master_ctr; /* of the next frame to the slave; it is not judged */
+    uint8_t slave_ctr;  /* that the slave's next frame must carry */
+    uint32_t seed;      /* the last one that the slave gave */
+};
+
+/* The four bytes of a number, for the formats below. */
+#define LE16(n) (unsigned)((n) & 0xFF), (unsigned)((n) >> 8 & 0xFF)
+#define LE32(n) LE16(n), LE16((n) >> 16)
+
+/* Lends the buffers, with patterns in the memories, and powers up. */
+void rig_start(struct rig *r, size_t cal_len, size_t meas_len, uint32_t start);
+void rig_end(struct rig *r);
+
+/* Lends another memory of this length; what both hold of the old one stays. */
+void rig_resize_cal(struct rig *r, size_t len);
+void rig_resize_meas(struct rig *r, size_t len);
+
+/* Reads "FF 00 1A" into bytes; gives their count. */
+size_t bytes_of(const char *hex, uint8_t *bytes, size_t room);
+
+/* Makes the frame of a packet; gives its size. */
+size_t frame_of(uint8_t ctr, const uint8_t *packet, size_t len, uint8_t *frame);
+
+/* One byte to the slave; gives the number, and checks that nothing is added to it. */
+uint32_t feed(struct rig *r, uint8_t byte);
+
+/* A packet as a whole frame; its last byte's number. Earlier bytes after SYNC must give 0. */
+uint32_t give_bytes(struct rig *r, const uint8_t *packet, size_t len);
+uint32_t give(struct rig *r, const char *format, ...);
+
+/* One slot; gives the packet's length, 0 for none. Frame, CTR and the rest of out are checked. */
+size_t slot(struct rig *r, uint8_t packet[PACKET]);
+
+/* Slots until nothing waits, which must be soon; the last packet is left in packet. */
+void drain(struct rig *r, uint8_t packet[PACKET]);
+
+/* An event; gives 256 times the sampled lists plus the missed. */
+uint32_t event(struct rig *r, uint32_t number, uint16_t clock);
+
+/* A command that must be taken, and whose answer must be in the next slot. */
+void ask(struct rig *r, const char *answer, const char *format, ...);
+#define ASK(r, ...) (HERE(), ask(r, __VA_ARGS__))
+
+/* A slot that must send this packet, or nothing for "". */
+void sends(struct rig *r, const char *format, ...);
+#define SENDS(r, ...) (HERE(), sends(r, __VA_ARGS__))
+
+/* A slot whose frame must be this, byte for byte. */
+void sends_frame(struct rig *r, const char *frame);
+#define SENDS_FRAME(r, frame) (HERE(), sends_frame(r, frame))
+
+/* Wire bytes, and one digit for the number that each must return. */
+void wire(struct rig *r, const char *bytes, const char *numbers);
+#define WIRE(r, bytes, numbers) (HERE(), wire(r, bytes, numbers))
+
+uint32_t key_of(uint32_t seed, uint8_t resource);
+void get_seed(struct rig *r, uint8_t resource);
+void unlock(struct rig *r, uint8_t resource);
+
+/* An entry through SET_DAQ_PTR and WRITE_DAQ; a list's mode; a start. All must be done. */
+void entry(struct rig *r, unsigned list, unsigned odt, unsigned at, unsigned size, unsigned ext,
+           uint32_t address);
+void mode(struct rig *r, unsigned list, unsigned event_number);
+void start(struct rig *r, unsigned list);
+
+#endif
