@@ -1,17 +1,14 @@
 .PHONY: help test run
 
 help:
+	@echo 'make run    the slave at work: a tool and the slave on one wire, packet by packet'
 	@echo 'make test   the gate: layout, proofs, must-fail edits, programs, host tests'
-	@echo 'make run    prove and compile the program frames, and run it'
 
 test:
 	@.ci/run
 
-# All but the program's own output goes to standard error. What is unchanged is not proved again;
-# rt does not see that the program itself is gone, so its stamp goes with it.
+# All but the exchange itself goes to standard error. What is unchanged is not proved again.
 run:
 	@tools/setup >&2
-	@echo 'make run: proving and compiling frames, then running it' >&2
-	@[ -x target/bin/frames ] || rm -f target/stamp/frames
-	@rt check frames >&2 </dev/null
-	@. tools/platform.sh && run_x86 target/bin/frames
+	@echo 'make run: proving and compiling the slave (minutes at the first time), then running examples/exchange.c' >&2
+	@tools/exchange
