@@ -36,20 +36,27 @@ abbrev pub poweredUpNumber : PoweredUp → ℕ
 poweredUpNumber power.Done = 0
 poweredUpNumber power.NoState = 10
 
--- to C: 65,536 times the number, plus a slot's size, or 256 times the sampled lists plus the missed
+-- the value of a call that is done: 256 times the sampled lists plus the missed, or a slot's size; a refusal has 0
+abbrev pub eventedValue : Evented → ℕ
+eventedValue (event.Done sampled missed) = 256 * sampled + missed
+eventedValue event.BadEvent = 0
+eventedValue event.NoState = 0
+
+abbrev pub slottedValue : Slotted → ℕ
+slottedValue slot.Idle = 0
+slottedValue (slot.Sent size) = size
+slottedValue slot.NoRoom = 0
+slottedValue slot.NoState = 0
+
+-- to C: 65,536 times the number, plus the value
 abbrev pub receivedC : Received → ℕ
 receivedC r = 65536 * receivedNumber r
 
 abbrev pub eventedC : Evented → ℕ
-eventedC (event.Done sampled missed) = 256 * sampled + missed
-eventedC event.BadEvent = 65536 * 8
-eventedC event.NoState = 65536 * 10
+eventedC r = eventedValue r + 65536 * eventedNumber r
 
 abbrev pub slottedC : Slotted → ℕ
-slottedC slot.Idle = 0
-slottedC (slot.Sent size) = size
-slottedC slot.NoRoom = 65536 * 9
-slottedC slot.NoState = 65536 * 10
+slottedC r = slottedValue r + 65536 * slottedNumber r
 
 abbrev pub poweredUpC : PoweredUp → ℕ
 poweredUpC r = 65536 * poweredUpNumber r

@@ -1,3 +1,4 @@
+use native.Mathlib.Nat.{add-zero}
 use borrow.Author.Needs.{needs}
 use Rattle.slave.proofs.evented.Statement.{statement}
 use Rattle.slave.proofs.evented.Tie as tie
@@ -24,13 +25,13 @@ enum-told-2 : tie.Need-enum-told-2
 enum-told-2 c = search needs
 
 returns : tie.Need-returns
-returns c = rw (c .before .r .given .1)
+returns c = rw (c .before .r .given .1, add-zero)
 
 returns-2 : tie.Need-returns-2
-returns-2 c = search needs
+returns-2 c = rw (c .enum-told .given .1)
 
 returns-3 : tie.Need-returns-3
-returns-3 c = search needs
+returns-3 c = rw (c .enum-told2 .given .1)
 
 pub evented-spec : {M : Type 1} → statement M
 evented-spec =

@@ -1,3 +1,4 @@
+use native.Mathlib.Nat.{add-zero}
 use native.Mathlib.Omega.{arith}
 use Prim.Native.Nat.{_≤_}
 use borrow.Author.Needs.{needs}
@@ -20,16 +21,16 @@ enum-told-3 : tie.Need-enum-told-3
 enum-told-3 c = search needs
 
 returns : tie.Need-returns
-returns c = search needs
+returns c = rw (c .enum-told .given .1)
 
 returns-2 : tie.Need-returns-2
-returns-2 c = search needs
+returns-2 c = rw (c .before .r .given .1, add-zero)
 
 returns-3 : tie.Need-returns-3
-returns-3 c = search needs
+returns-3 c = rw (c .enum-told2 .given .1)
 
 returns-4 : tie.Need-returns-4
-returns-4 c = search needs
+returns-4 c = rw (c .enum-told3 .given .1)
 
 pub slotted-spec : {M : Type 1} → statement M
 slotted-spec =
