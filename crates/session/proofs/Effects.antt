@@ -1,0 +1,211 @@
+-- What a deed changes of the state, and that its answer is read as it was given. Assumes nothing.
+use Prim.Native.Nat.{ℕ, zero, suc, _+_, _≤_, _<_}
+use mathlib.Core.Path.{_≡_, _∙_}
+use mathlib.Core.Bool.{Bool, true, cond}
+use mathlib.Core.List.{List, _∷_}
+use native.Mathlib.Omega.{arith}
+use lib.Dec.{T, leb, lit≤}
+use lib.ListN.{length, getD, set, length-take}
+use Rattle.line.proofs.Laws.{cond-ind}
+use Rattle.session.specs.Layout.{size, modeAt, selectedAt, runningAt, entriesAt, entryAt, sampleAt, firstOdt, listOf}
+use Rattle.session.specs.Bytes.{block, cleared}
+use Rattle.session.specs.Generator.{nextOf}
+use Rattle.session.specs.Memory.{pick}
+use Rattle.session.specs.State.{flagOf, generatorOf, setGenerator, lockAt, setSeed, setMta, setPointer, placeOf, messageOf, waits, answerOf}
+use Rattle.session.specs.Lists.{runsOf, restarted, listCleared, modeSet, tagOf, entryCleared, entrySet, stopEach, startOne, startSelected, stopSelected}
+use Rattle.session.specs.Doable.{Doable}
+use Rattle.session.specs.Perform.{nextEntry, effect, reply, after}
+use Rattle.session.specs.declared.Extension.{Extension}
+use Rattle.session.specs.declared.Seed.the-variants.{None, For}
+use Rattle.session.specs.declared.Mta.{Mta}
+use Rattle.session.specs.declared.Pointer.{Pointer}
+use Rattle.session.specs.declared.Deed.{Deed}
+use Rattle.session.specs.declared.Deed.the-variants.{Refuse, RefuseSize, WrongKey, Connect, Disconnect, Status, Synch, NoSeed, GiveSeed, Unlock, SetMta, Upload, ShortUpload, Checksum, Download, ClearList, SetPointer, ClearEntry, WriteEntry, SetMode, Stop, Start, KeepRunning, Select, StopAll, StartSelected, StopSelected, ProcessorInfo, ResolutionInfo}
+use Rattle.session.proofs.Fields.{kindly, Answering, answer-same, waits-answered}
+use Rattle.session.proofs.Frames.{Only, only-none, only-then, only-wider, only-set, only-put16, only-cleared, only-generator, only-lock, only-seed, only-mta, only-pointer, only-closed, only-fresh}
+use Rattle.session.proofs.Readers.{Same, apart, same-then, place-reads, message-reads}
+
+-- ---- the lists' changes
+only-cond : {lo hi : ℕ} {s t u : List ℕ} (b : Bool) → Only lo hi s t → Only lo hi s u → Only lo hi s (cond b t u)
+only-cond {lo} {hi} {s} b p q = cond-ind (Only lo hi s) b (λ _. p) (λ _. q)
+
+pub only-restarted : (s : List ℕ) (l on : ℕ) → l < 4 → Only 21 225 s (restarted s l on)
+unfolding restarted
+only-restarted s l on h =
+    let s₁ : List ℕ = set s (runningAt l) on in
+    let s₂ : List ℕ = set s₁ (sampleAt (firstOdt l)) 0 in
+    only-then (only-set s (runningAt l) on (omega arith) (omega arith))
+    (only-then (only-set s₁ (sampleAt (firstOdt l)) 0 (omega arith) (omega arith)) (only-set s₂ (sampleAt (firstOdt l + 1)) 0 (omega arith) (omega arith)))
+
+only-deselected : {s t : List ℕ} (l : ℕ) → l < 4 → Only 21 225 s t → Only 21 225 s (set t (selectedAt l) 0)
+only-deselected {s} {t} l h w = only-then w (only-set t (selectedAt l) 0 (omega arith) (omega arith))
+
+pub only-listCleared : (s : List ℕ) (l : ℕ) → l < 4 → Only 21 161 s (listCleared s l)
+unfolding listCleared
+only-listCleared s l h =
+    only-then (only-cleared s (modeAt l) 3 (omega arith) (omega arith)) (only-cleared (cleared s (modeAt l) 3) (entriesAt (firstOdt l)) 32 (omega arith) (omega arith))
+
+pub only-modeSet : (s : List ℕ) (l event : ℕ) → l < 4 → Only 21 33 s (modeSet s l event)
+unfolding modeSet
+only-modeSet s l event h =
+    only-then (only-set s (modeAt l) (event + 1) (omega arith) (omega arith)) (only-set (set s (modeAt l) (event + 1)) (runningAt l) 0 (omega arith) (omega arith))
+
+pub only-entryCleared : (s : List ℕ) (l k e : ℕ) → l < 4 → k < 8 → e < 4 → Only 21 161 s (entryCleared s l k e)
+unfolding entryCleared
+only-entryCleared s l k e h p q =
+    only-then (only-set s (runningAt l) 0 (omega arith) (omega arith)) (only-cleared (set s (runningAt l) 0) (entryAt k e) 4 (omega arith) (omega arith))
+
+pub only-entrySet : (s : List ℕ) (l k e n : ℕ) (x : Extension) (a : ℕ) → l < 4 → k < 8 → e < 4 → Only 21 161 s (entrySet s l k e n x a)
+unfolding entrySet
+only-entrySet s l k e n x a h p q =
+    let s₁ : List ℕ = set s (runningAt l) 0 in
+    let s₂ : List ℕ = set s₁ (entryAt k e) n in
+    let s₃ : List ℕ = set s₂ (entryAt k e + 1) (tagOf x) in
+    only-then (only-set s (runningAt l) 0 (omega arith) (omega arith))
+    (only-then (only-set s₁ (entryAt k e) n (omega arith) (omega arith))
+    (only-then (only-set s₂ (entryAt k e + 1) (tagOf x) (omega arith) (omega arith)) (only-put16 s₃ (entryAt k e + 2) a (omega arith) (omega arith))))
+
+pub only-stopEach : (s : List ℕ) (n : ℕ) → n ≤ 4 → Only 21 225 s (stopEach s n)
+unfolding stopEach
+only-stopEach s zero h = only-none
+only-stopEach s (suc n) h =
+    only-deselected n (omega arith) (only-then (only-stopEach s n (omega arith)) (only-restarted (stopEach s n) n 0 (omega arith)))
+
+only-startOne : (s : List ℕ) (l : ℕ) → l < 4 → Only 21 225 s (startOne s l)
+only-startOne s l h = only-cond (flagOf s (selectedAt l)) (only-cond (runsOf s l) only-none (only-restarted s l 1 h)) only-none
+
+pub only-startSelected : (s : List ℕ) (n : ℕ) → n ≤ 4 → Only 21 225 s (startSelected s n)
+unfolding startSelected
+only-startSelected s zero h = only-none
+only-startSelected s (suc n) h =
+    only-deselected n (omega arith) (only-then (only-startSelected s n (omega arith)) (only-startOne (startSelected s n) n (omega arith)))
+
+pub only-stopSelected : (s : List ℕ) (n : ℕ) → n ≤ 4 → Only 21 225 s (stopSelected s n)
+unfolding stopSelected
+only-stopSelected s zero h = only-none
+only-stopSelected s (suc n) h =
+    only-deselected n (omega arith)
+    (only-then (only-stopSelected s n (omega arith))
+    (only-cond (flagOf (stopSelected s n) (selectedAt n)) (only-restarted (stopSelected s n) n 0 (omega arith)) only-none))
+
+-- ---- the deeds
+-- t differs from s in the generator and the session alone: not in the mark, the CTR, the round, the reader or the answer
+pub record Effected (s t : List ℕ) : Type 0 where
+  pub range : Only 4 225 s t
+  pub round : Same 8 11 s t
+
+-- the session alone
+within : {s t : List ℕ} → Only 11 225 s t → Effected s t
+within w = record { range = only-wider (lit≤ tt) (lit≤ tt) w; round = apart tt w }
+
+none : {s : List ℕ} → Effected s s
+none = within only-none
+
+mta : (s : List ℕ) (m : Mta) → Effected s (setMta s m)
+mta s m = within (only-wider (lit≤ tt) (lit≤ tt) (only-mta s m))
+
+pointer : {s t : List ℕ} (p : Pointer) → Only 21 161 s t → Effected s (setPointer t p)
+pointer {s} {t} p w = within (only-then (only-wider (lit≤ tt) (lit≤ tt) w) (only-wider (lit≤ tt) (lit≤ tt) (only-pointer t p)))
+
+-- the lists alone
+listed : {s t : List ℕ} → Only 21 225 s t → Effected s t
+listed w = within (only-wider (lit≤ tt) (lit≤ tt) w)
+
+pub effected : (d : Deed) (s : List ℕ) (n nc nm : ℕ) → Doable d n nc nm → Effected s (effect d s)
+unfolding effect
+effected (Refuse r) s n nc nm h = none
+effected RefuseSize s n nc nm h = none
+effected WrongKey s n nc nm h = within (only-closed s)
+effected Connect s n nc nm h = within (only-fresh s)
+effected Disconnect s n nc nm h = within (only-closed s)
+effected Status s n nc nm h = none
+effected Synch s n nc nm h = none
+effected NoSeed s n nc nm h = none
+effected (GiveSeed r) s n nc nm h =
+    let x : ℕ = nextOf (generatorOf s) in
+    let g : Only 4 8 s (setGenerator s x) = only-generator s x in
+    let e : Only 14 15 (setGenerator s x) (setSeed (setGenerator s x) (For r)) = only-seed (setGenerator s x) (For r) in
+    record { range = only-then (only-wider (lit≤ tt) (lit≤ tt) g) (only-wider (lit≤ tt) (lit≤ tt) e); round = same-then (apart tt g) (apart tt e) }
+effected (Unlock r) s n nc nm h =
+    within (only-then (only-wider (lit≤ tt) (lit≤ tt) (only-lock s r 1)) (only-wider (lit≤ tt) (lit≤ tt) (only-seed (set s (lockAt r) 1) None)))
+effected (SetMta e a) s n nc nm h = mta s _
+effected (Upload e a m) s n nc nm h = mta s _
+effected (ShortUpload e a m) s n nc nm h = none
+effected (Checksum e a m) s n nc nm h = mta s _
+effected (Download a m) s n nc nm h = mta s _
+effected (ClearList l) s n nc nm h = listed (only-wider (lit≤ tt) (lit≤ tt) (only-listCleared s l h))
+effected (SetPointer k e) s n nc nm h = pointer _ only-none
+effected (ClearEntry k e) s n nc nm h =
+    let p : k < 8 = h .0 in
+    pointer (nextEntry k e) (only-entryCleared s (listOf k) k e (omega arith) p (h .1))
+effected (WriteEntry k e m x a) s n nc nm h =
+    let p : k < 8 = h .0 in
+    pointer (nextEntry k e) (only-entrySet s (listOf k) k e m x a (omega arith) p (h .1))
+effected (SetMode l event) s n nc nm h = listed (only-wider (lit≤ tt) (lit≤ tt) (only-modeSet s l event (h .0)))
+effected (Stop l) s n nc nm h = listed (only-restarted s l 0 h)
+effected (Start l) s n nc nm h = listed (only-restarted s l 1 h)
+effected (KeepRunning l) s n nc nm h = none
+effected (Select l) s n nc nm h = listed (only-set s (selectedAt l) 1 (omega arith) (omega arith))
+effected StopAll s n nc nm h = listed (only-stopEach s 4 (lit≤ tt))
+effected StartSelected s n nc nm h = listed (only-startSelected s 4 (lit≤ tt))
+effected StopSelected s n nc nm h = listed (only-stopSelected s 4 (lit≤ tt))
+effected ProcessorInfo s n nc nm h = none
+effected ResolutionInfo s n nc nm h = none
+
+pub effect-place : (d : Deed) (s : List ℕ) (n nc nm : ℕ) → Doable d n nc nm → placeOf (effect d s) ≡ placeOf s
+effect-place d s n nc nm h = place-reads (apart tt (effected d s n nc nm h .range))
+
+pub effect-message : (d : Deed) (s : List ℕ) (n nc nm : ℕ) → Doable d n nc nm → messageOf (effect d s) ≡ messageOf s
+effect-message d s n nc nm h = message-reads (apart tt (effected d s n nc nm h .range))
+
+-- ---- the answers
+-- one that is written out
+short : {bs : List ℕ} → T (leb 1 (length bs)) → T (leb (length bs) 8) → T (kindly (length bs) (getD bs 0 0)) → Answering bs
+short p q k = record { some = lit≤ p; few = lit≤ q; kind = k }
+
+uploaded : (mem : List ℕ) (a n : ℕ) → n ≤ 7 → Answering (0xFF ∷ block mem a n)
+uploaded mem a n h = record { some = omega arith; few = omega (arith, shorter); kind = tt } where
+  shorter : length (block mem a n) ≤ n
+  shorter = rw length-take (omega arith)
+
+pub answering : (d : Deed) (s cal meas : List ℕ) (n : ℕ) → Doable d n (length cal) (length meas) → Answering (reply d s cal meas)
+unfolding reply
+answering (Refuse r) s cal meas n h = short tt tt tt
+answering RefuseSize s cal meas n h = short tt tt tt
+answering WrongKey s cal meas n h = short tt tt tt
+answering Connect s cal meas n h = short tt tt tt
+answering Disconnect s cal meas n h = short tt tt tt
+answering Status s cal meas n h = short tt tt tt
+answering Synch s cal meas n h = short tt tt tt
+answering NoSeed s cal meas n h = short tt tt tt
+answering (GiveSeed r) s cal meas n h = short tt tt tt
+answering (Unlock r) s cal meas n h = short tt tt tt
+answering (SetMta e a) s cal meas n h = short tt tt tt
+answering (Upload e a m) s cal meas n h = uploaded (pick e cal meas) a m (h .0)
+answering (ShortUpload e a m) s cal meas n h = uploaded (pick e cal meas) a m (h .0)
+answering (Checksum e a m) s cal meas n h = short tt tt tt
+answering (Download a m) s cal meas n h = short tt tt tt
+answering (ClearList l) s cal meas n h = short tt tt tt
+answering (SetPointer k e) s cal meas n h = short tt tt tt
+answering (ClearEntry k e) s cal meas n h = short tt tt tt
+answering (WriteEntry k e m x a) s cal meas n h = short tt tt tt
+answering (SetMode l event) s cal meas n h = short tt tt tt
+answering (Stop l) s cal meas n h = short tt tt tt
+answering (Start l) s cal meas n h = short tt tt tt
+answering (KeepRunning l) s cal meas n h = short tt tt tt
+answering (Select l) s cal meas n h = short tt tt tt
+answering StopAll s cal meas n h = short tt tt tt
+answering StartSelected s cal meas n h = short tt tt tt
+answering StopSelected s cal meas n h = short tt tt tt
+answering ProcessorInfo s cal meas n h = short tt tt tt
+answering ResolutionInfo s cal meas n h = short tt tt tt
+
+-- a deed that is done leaves its answer waiting, and it reads as it was given
+pub after-answer : (d : Deed) (s cal meas : List ℕ) (n : ℕ) → length s ≡ size → Doable d n (length cal) (length meas) → answerOf (after d s cal meas) ≡ reply d s cal meas
+after-answer d s cal meas n e h =
+    answer-same (effect d s) (reply d s cal meas) (effected d s n (length cal) (length meas) h .range .long ∙ e) (answering d s cal meas n h)
+
+pub after-waits : (d : Deed) (s cal meas : List ℕ) (n : ℕ) → length s ≡ size → Doable d n (length cal) (length meas) → waits (after d s cal meas) ≡ true
+after-waits d s cal meas n e h =
+    let a : Answering (reply d s cal meas) = answering d s cal meas n h in
+    waits-answered (effect d s) (reply d s cal meas) (effected d s n (length cal) (length meas) h .range .long ∙ e) (a .some) (a .few)

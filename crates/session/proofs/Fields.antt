@@ -1,0 +1,249 @@
+-- A field of the state reads as it was set; what a closed session and a fresh one hold. Assumes nothing.
+use Prim.Native.Nat.{ℕ, zero, suc, _+_, _*_, _-_, _/_, _%_, _^_, _≤_, _<_}
+use mathlib.Core.Path.{_≡_, refl, sym, ap, _∙_}
+use mathlib.Core.Bool.{Bool, true, false, cond}
+use mathlib.Core.List.{List, _∷_}
+use native.Mathlib.Omega.{arith}
+use native.Mathlib.Nat.{mod-eq-of-lt}
+use borrow.Author.Tests.{eqb-true, ne-eqb, lt-ltb, le-ltb}
+use lib.Dec.{T, eqb, ltb, lit<, lit≤}
+use lib.ListN.{length, getD, set, length-set}
+use lib.Seq.{sets, getD-set-same, getD-set-other, set-getD}
+use Rattle.line.specs.declared.Place.{Place}
+use Rattle.line.specs.declared.Place.the-variants.{Outside, Inside, Escaped}
+use Rattle.line.proofs.Laws.{cond-ind}
+use Rattle.session.specs.Layout.{size, generatorAt, mtaAt, addressAt, runningAt, sampleAt, placeAt, countAt, answerAt}
+use Rattle.session.specs.Bytes.{u32At, put32, block}
+use Rattle.session.specs.Generator.{startOf}
+use Rattle.session.specs.State.{flagOf, generatorOf, setGenerator, openOf, lockAt, unlockedOf, seedOf, setSeed, mtaTag, mtaOf, setMta, pointerOf, setPointer, Pointed, closed, fresh, placeOf, setPlace, answerLength, waits, answerKind, answerOf, answered}
+use Rattle.session.specs.Lists.{runsOf, anyRuns, leastOf, storedLength}
+use Rattle.session.specs.declared.Resource.{Resource}
+use Rattle.session.specs.declared.Resource.the-variants.{Calibration, Lists}
+use Rattle.session.specs.declared.Extension.{Extension}
+use Rattle.session.specs.declared.Extension.the-variants.{Calibration as CalibrationMemory, Measured}
+use Rattle.session.specs.declared.Seed.{Seed}
+use Rattle.session.specs.declared.Seed.the-variants.{None, For}
+use Rattle.session.specs.declared.Mta.{Mta}
+use Rattle.session.specs.declared.Mta.the-variants.{Unset, At}
+use Rattle.session.specs.declared.Pointer.{Pointer}
+use Rattle.session.specs.declared.Pointer.the-variants.{Unset as NoEntry, At as Entry}
+use Rattle.session.proofs.Sets.{cleared-length}
+use Rattle.session.proofs.Stores.{set-out, put32-out, put32-same, sets-in, block-sets, cleared-in}
+
+-- ---- a field reads as it was set
+-- an address that four bytes hold
+abbrev pub Addressed : Mta → Type 0
+Addressed Unset = Unit
+Addressed (At e a) = a < 2 ^ 32
+
+mta-tagged : (s : List ℕ) (e : Extension) (a : ℕ) → length s ≡ size → getD (put32 (set s mtaAt (mtaTag e)) addressAt a) mtaAt 0 ≡ mtaTag e
+mta-tagged s e a h =
+    put32-out (set s mtaAt (mtaTag e)) 16 20 16 a 15 (lit≤ tt) (lit≤ tt) tt ∙ getD-set-same s mtaAt (mtaTag e) 0 (omega arith)
+
+mta-addressed : (s : List ℕ) (e : Extension) (a : ℕ) → length s ≡ size → a < 2 ^ 32 → u32At (put32 (set s mtaAt (mtaTag e)) addressAt a) addressAt ≡ a
+mta-addressed s e a h l = put32-same (set s mtaAt (mtaTag e)) addressAt a (simp length-set (omega arith)) l
+
+pub mta-same : (s : List ℕ) (m : Mta) → length s ≡ size → Addressed m → mtaOf (setMta s m) ≡ m
+unfolding setMta mtaOf
+mta-same s Unset h l = simp (getD-set-same s 15 0 0 (omega arith))
+mta-same s (At CalibrationMemory a) h l = simp (mta-tagged s CalibrationMemory a h, mta-addressed s CalibrationMemory a h l)
+mta-same s (At Measured a) h l = simp (mta-tagged s Measured a h, mta-addressed s Measured a h l)
+
+pointer-number : (k e : ℕ) → k < 8 → e < 4 → ((4 * k + e + 1 - 1) / 4 ≡ k) × ((4 * k + e + 1 - 1) % 4 ≡ e)
+pointer-number k e p q = (omega arith, omega arith)
+
+pub pointer-same : (s : List ℕ) (p : Pointer) → length s ≡ size → Pointed p → pointerOf (setPointer s p) ≡ p
+unfolding setPointer pointerOf
+pointer-same s NoEntry h l = simp (getD-set-same s 20 0 0 (omega arith))
+pointer-same s (Entry k e) h l =
+    let kl : k < 8 = l .0 in
+    let el : e < 4 = l .1 in
+    let n = pointer-number k e kl el in
+    simp (getD-set-same s 20 (4 * k + e + 1) 0 (omega arith), ne-eqb (4 * k + e + 1) 0 (omega arith), le-ltb 32 (4 * k + e + 1) (omega arith), n .0, n .1)
+
+pub seed-same : (s : List ℕ) (x : Seed) → length s ≡ size → seedOf (setSeed s x) ≡ x
+unfolding setSeed seedOf
+seed-same s None h = simp (getD-set-same s 14 0 0 (omega arith))
+seed-same s (For Calibration) h = simp (getD-set-same s 14 1 0 (omega arith))
+seed-same s (For Lists) h = simp (getD-set-same s 14 4 0 (omega arith))
+
+-- a count that a byte holds
+abbrev pub Counted : Place → Type 0
+Counted Outside = Unit
+Counted (Inside k) = k < 256
+Counted (Escaped k) = k < 256
+
+place-tagged : (s : List ℕ) (t k : ℕ) → length s ≡ size → getD (set (set s placeAt t) countAt k) placeAt 0 ≡ t
+place-tagged s t k h = set-out (set s placeAt t) 226 227 226 k 225 (lit≤ tt) (lit< tt) tt ∙ getD-set-same s placeAt t 0 (omega arith)
+
+place-counted : (s : List ℕ) (t k : ℕ) → length s ≡ size → k < 256 → getD (set (set s placeAt t) countAt (k % 256)) countAt 0 ≡ k
+place-counted s t k h l = getD-set-same (set s placeAt t) countAt (k % 256) 0 (simp length-set (omega arith)) ∙ mod-eq-of-lt l
+
+pub place-same : (s : List ℕ) (p : Place) → length s ≡ size → Counted p → placeOf (setPlace s p) ≡ p
+unfolding setPlace placeOf
+place-same s Outside h l = simp (getD-set-same s 225 0 0 (omega arith))
+place-same s (Inside k) h l = simp (place-tagged s 1 (k % 256) h, place-counted s 1 k h l)
+place-same s (Escaped k) h l = simp (place-tagged s 2 (k % 256) h, place-counted s 2 k h l)
+
+pub generator-same : (s : List ℕ) (x : ℕ) → length s ≡ size → x < 2 ^ 32 → generatorOf (setGenerator s x) ≡ startOf x
+unfolding setGenerator generatorOf
+generator-same s x h l = ap startOf (put32-same s generatorAt x (omega arith) l)
+
+-- a lock, and the other one
+abbrev pub other : Resource → Resource
+other Calibration = Lists
+other Lists = Calibration
+
+pub lock-same : (s : List ℕ) (r : Resource) → length s ≡ size → unlockedOf (set s (lockAt r) 1) r ≡ true
+unfolding flagOf
+lock-same s Calibration h = simp (getD-set-same s 12 1 0 (omega arith))
+lock-same s Lists h = simp (getD-set-same s 13 1 0 (omega arith))
+
+pub lock-other : (s : List ℕ) (r : Resource) (v : ℕ) → unlockedOf (set s (lockAt r) v) (other r) ≡ unlockedOf s (other r)
+unfolding flagOf
+lock-other s Calibration v = simp (set-out s 12 13 12 v 13 (lit≤ tt) (lit< tt) tt)
+lock-other s Lists v = simp (set-out s 13 14 13 v 12 (lit≤ tt) (lit< tt) tt)
+
+-- ---- the answer
+-- an answer of 1 to 8 bytes that begins with FF, or with FE if its length is 2 or 8
+abbrev pub kindly : ℕ → ℕ → Bool
+kindly n b = cond (eqb b 0xFF) true (cond (eqb b 0xFE) (cond (eqb n 2) true (eqb n 8)) false)
+
+pub record Answering (bs : List ℕ) : Type 0 where
+  pub some : 1 ≤ length bs
+  pub few : length bs ≤ 8
+  pub kind : T (kindly (length bs) (getD bs 0 0))
+
+pub length-answered : (s bs : List ℕ) → length s ≡ size → 1 ≤ length bs → length bs ≤ 8 → answerLength (answered s bs) ≡ length bs
+unfolding answered answerLength
+length-answered s bs h p q =
+    let n : getD (sets s answerAt (length bs ∷ bs)) answerAt 0 ≡ length bs = sets-in s answerAt (length bs ∷ bs) 0 (omega arith) (omega arith) in
+    simp (n, ne-eqb (length bs) 0 (omega arith), le-ltb 8 (length bs) q)
+
+pub waits-answered : (s bs : List ℕ) → length s ≡ size → 1 ≤ length bs → length bs ≤ 8 → waits (answered s bs) ≡ true
+waits-answered s bs h p q = rw (length-answered s bs h p q) (lt-ltb 0 (length bs) p)
+
+-- the first byte reads as it is
+kind-as-it-is : (n b : ℕ) → T (kindly n b) → cond (eqb b 0xFE) (cond (eqb n 2) 0xFE (cond (eqb n 8) 0xFE 0xFF)) 0xFF ≡ b
+kind-as-it-is n b = go (eqb b 0xFF) (eqb b 0xFE) (eqb n 2) (eqb n 8) refl refl where
+  go : (ff fe two eight : Bool) → eqb b 0xFF ≡ ff → eqb b 0xFE ≡ fe → T (cond ff true (cond fe (cond two true eight) false))
+      → cond fe (cond two 0xFE (cond eight 0xFE 0xFF)) 0xFF ≡ b
+  go true true two eight p q o = absurd (different b (eqb-true b 0xFF p) (eqb-true b 0xFE q)) where
+    different : (x : ℕ) → x ≡ 0xFF → x ≡ 0xFE → ⊥
+    different x p q = omega arith
+  go true false two eight p q o = sym (eqb-true b 0xFF p)
+  go false true true eight p q o = sym (eqb-true b 0xFE q)
+  go false true false true p q o = sym (eqb-true b 0xFE q)
+
+first-answered : (s bs : List ℕ) → length s ≡ size → 1 ≤ length bs → length bs ≤ 8 → getD (answered s bs) 239 0 ≡ getD bs 0 0
+unfolding answered
+first-answered s bs h p q = sets-in s answerAt (length bs ∷ bs) 1 (omega arith) (omega arith)
+
+kind-answered : (s bs : List ℕ) → length s ≡ size → Answering bs → answerKind (answered s bs) ≡ getD (answered s bs) (answerAt + 1) 0
+unfolding answerKind
+kind-answered s bs h a =
+    let n = length-answered s bs h (a .some) (a .few) in
+    let b : getD (answered s bs) 239 0 ≡ getD bs 0 0 = first-answered s bs h (a .some) (a .few) in
+    simp (n, b) (kind-as-it-is (length bs) (getD bs 0 0) (a .kind))
+
+bytes-answered : (s bs : List ℕ) → length s ≡ size → length bs ≤ 8 → block (answered s bs) 239 (length bs) ≡ bs
+unfolding answered
+bytes-answered s bs h q = block-sets (set s answerAt (length bs)) 239 bs (rw length-set (omega arith))
+
+pub answer-same : (s bs : List ℕ) → length s ≡ size → Answering bs → answerOf (answered s bs) ≡ bs
+unfolding answerOf
+answer-same s bs h a =
+    rw (kind-answered s bs h a, set-getD, length-answered s bs h (a .some) (a .few)) (bytes-answered s bs h (a .few))
+
+-- ---- a closed session
+pub closed-length : (s : List ℕ) → length (closed s) ≡ length s
+unfolding closed
+closed-length s = cleared-length s 11 214
+
+pub closed-zero : (s : List ℕ) (j : ℕ) → length s ≡ size → 11 ≤ j → j < 225 → getD (closed s) j 0 ≡ 0
+unfolding closed
+closed-zero s j h p q = cleared-in s 11 214 j (omega arith) p (omega arith)
+
+pub closed-open : (s : List ℕ) → length s ≡ size → openOf (closed s) ≡ false
+unfolding flagOf
+closed-open s h = simp (closed-zero s 11 h (lit≤ tt) (lit< tt))
+
+pub closed-locked : (s : List ℕ) (r : Resource) → length s ≡ size → unlockedOf (closed s) r ≡ false
+unfolding flagOf
+closed-locked s Calibration h = simp (closed-zero s 12 h (lit≤ tt) (lit< tt))
+closed-locked s Lists h = simp (closed-zero s 13 h (lit≤ tt) (lit< tt))
+
+pub closed-seed : (s : List ℕ) → length s ≡ size → seedOf (closed s) ≡ None
+unfolding seedOf
+closed-seed s h = simp (closed-zero s 14 h (lit≤ tt) (lit< tt))
+
+pub closed-mta : (s : List ℕ) → length s ≡ size → mtaOf (closed s) ≡ Unset
+unfolding mtaOf
+closed-mta s h = simp (closed-zero s 15 h (lit≤ tt) (lit< tt))
+
+pub closed-pointer : (s : List ℕ) → length s ≡ size → pointerOf (closed s) ≡ NoEntry
+unfolding pointerOf
+closed-pointer s h = simp (closed-zero s 20 h (lit≤ tt) (lit< tt))
+
+-- while no session is open no list runs
+pub shut-runs : (s : List ℕ) (l : ℕ) → openOf s ≡ false → runsOf s l ≡ false
+unfolding runsOf
+shut-runs s l e = rw e
+
+pub closed-runs : (s : List ℕ) (l : ℕ) → length s ≡ size → runsOf (closed s) l ≡ false
+closed-runs s l h = shut-runs (closed s) l (closed-open s h)
+
+-- no list of n runs if none does
+pub none-runs : (s : List ℕ) (n : ℕ) → ((l : ℕ) → l < n → runsOf s l ≡ false) → anyRuns s n ≡ false
+unfolding anyRuns
+none-runs s zero f = refl
+none-runs s (suc n) f = rw (none-runs s n (λ l h. f l (omega arith)), f n (omega arith))
+
+-- an empty store
+pub empty-stored : (s : List ℕ) (k : ℕ) → getD s (sampleAt k) 0 ≡ 0 → storedLength s k ≡ 0
+unfolding storedLength
+empty-stored s k e = rw e (cond-ind (λ (n : ℕ). n ≡ 0) (ltb 0 (leastOf k)) (λ _. refl) (λ _. refl))
+
+pub closed-stored : (s : List ℕ) (k : ℕ) → length s ≡ size → k < 8 → storedLength (closed s) k ≡ 0
+closed-stored s k h l = empty-stored (closed s) k (closed-zero s (161 + 8 * k) h (omega arith) (omega arith))
+
+-- ---- a fresh session
+pub fresh-length : (s : List ℕ) → length (fresh s) ≡ length s
+unfolding fresh
+fresh-length s = length-set (closed s) 11 1 ∙ closed-length s
+
+pub fresh-open : (s : List ℕ) → length s ≡ size → openOf (fresh s) ≡ true
+unfolding fresh flagOf
+fresh-open s h = simp (getD-set-same (closed s) 11 1 0 (rw closed-length (omega arith)))
+
+pub fresh-zero : (s : List ℕ) (j : ℕ) → length s ≡ size → 12 ≤ j → j < 225 → getD (fresh s) j 0 ≡ 0
+unfolding fresh
+fresh-zero s j h p q = getD-set-other (closed s) 11 j 1 0 (omega arith) ∙ closed-zero s j h (omega arith) q
+
+pub fresh-locked : (s : List ℕ) (r : Resource) → length s ≡ size → unlockedOf (fresh s) r ≡ false
+unfolding flagOf
+fresh-locked s Calibration h = simp (fresh-zero s 12 h (lit≤ tt) (lit< tt))
+fresh-locked s Lists h = simp (fresh-zero s 13 h (lit≤ tt) (lit< tt))
+
+pub fresh-seed : (s : List ℕ) → length s ≡ size → seedOf (fresh s) ≡ None
+unfolding seedOf
+fresh-seed s h = simp (fresh-zero s 14 h (lit≤ tt) (lit< tt))
+
+pub fresh-mta : (s : List ℕ) → length s ≡ size → mtaOf (fresh s) ≡ Unset
+unfolding mtaOf
+fresh-mta s h = simp (fresh-zero s 15 h (lit≤ tt) (lit< tt))
+
+pub fresh-pointer : (s : List ℕ) → length s ≡ size → pointerOf (fresh s) ≡ NoEntry
+unfolding pointerOf
+fresh-pointer s h = simp (fresh-zero s 20 h (lit≤ tt) (lit< tt))
+
+fresh-flag : (s : List ℕ) (l : ℕ) → length s ≡ size → l < 4 → flagOf (fresh s) (runningAt l) ≡ false
+unfolding flagOf
+fresh-flag s l h k = rw (fresh-zero s (23 + 3 * l) h (omega arith) (omega arith))
+
+pub fresh-runs : (s : List ℕ) (l : ℕ) → length s ≡ size → l < 4 → runsOf (fresh s) l ≡ false
+unfolding runsOf
+fresh-runs s l h k = rw (fresh-open s h, fresh-flag s l h k)
+
+pub fresh-stored : (s : List ℕ) (k : ℕ) → length s ≡ size → k < 8 → storedLength (fresh s) k ≡ 0
+fresh-stored s k h l = empty-stored (fresh s) k (fresh-zero s (161 + 8 * k) h (omega arith) (omega arith))

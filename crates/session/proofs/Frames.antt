@@ -1,0 +1,169 @@
+-- Which bytes a writer changes, and which a reader reads: what a change leaves as it was. Assumes nothing.
+use Prim.Native.Nat.{ℕ, _+_, _*_, _-_, _%_, _≤_, _<_}
+use mathlib.Core.Path.{_≡_, refl, sym, ap, _∙_}
+use mathlib.Core.Bool.{Bool, true, false, cond}
+use mathlib.Core.List.{List, _∷_, _++_, append-assoc}
+use native.Mathlib.Omega.{arith}
+use borrow.Author.Tests.{lt-ltb, ltb-true}
+use lib.Dec.{T, ltb, leb, leb→le, le→leb, lit<, lit≤}
+use lib.ListN.{length, getD, set, take, drop, length-set, length-take, length-drop, length-append}
+use lib.Seq.{sets, length-sets, length-take-le, take-at, drop-at, getD-take, getD-drop, ext-getD}
+use Rattle.line.specs.Unstuffing.{Fed}
+use Rattle.line.specs.declared.Place.{Place}
+use Rattle.line.specs.declared.Place.the-variants.{Outside, Inside, Escaped}
+use Rattle.line.proofs.Laws.{cond-ind}
+use Rattle.session.specs.Layout.{size, placeAt, answerAt}
+use Rattle.session.specs.Bytes.{put16, put32, cleared}
+use Rattle.session.specs.State.{setGenerator, lockAt, setSeed, mtaTag, setMta, setPointer, closed, fresh, setPlace, setMessage, answered}
+use Rattle.session.specs.Receive.{readOn}
+use Rattle.session.specs.declared.Resource.{Resource}
+use Rattle.session.specs.declared.Resource.the-variants.{Calibration, Lists}
+use Rattle.session.specs.declared.Seed.{Seed}
+use Rattle.session.specs.declared.Seed.the-variants.{None, For}
+use Rattle.session.specs.declared.Mta.{Mta}
+use Rattle.session.specs.declared.Mta.the-variants.{Unset, At}
+use Rattle.session.specs.declared.Pointer.{Pointer}
+use Rattle.session.specs.declared.Pointer.the-variants.{Unset as NoEntry, At as Entry}
+use Rattle.session.proofs.Sets.{put16-length, put32-length, cleared-length}
+use Rattle.session.proofs.Stores.{out, set-out, put16-out, put32-out, sets-out, cleared-out, take-sets}
+
+-- ---- t differs from s in the bytes from lo up to hi alone
+pub record Only (lo hi : ℕ) (s t : List ℕ) : Type 0 where
+  pub long : length t ≡ length s
+  pub bytes : (j : ℕ) → T (out lo hi j) → getD t j 0 ≡ getD s j 0
+
+pub out-below : (lo hi j : ℕ) → j < lo → T (out lo hi j)
+out-below lo hi j h = rw (lt-ltb j lo h) tt
+
+pub out-above : (lo hi j : ℕ) → hi ≤ j → T (out lo hi j)
+out-above lo hi j h = cond-ind T (ltb j lo) (λ _. tt) (λ _. le→leb hi j h)
+
+pub only-none : {lo hi : ℕ} {s : List ℕ} → Only lo hi s s
+only-none = record { long = refl; bytes = λ j o. refl }
+
+pub only-then : {lo hi : ℕ} {s t u : List ℕ} → Only lo hi s t → Only lo hi t u → Only lo hi s u
+only-then p q = record { long = q .long ∙ p .long; bytes = λ j o. q .bytes j o ∙ p .bytes j o }
+
+-- outside more is outside less
+out-wider : (a b lo hi j : ℕ) → a ≤ lo → hi ≤ b → T (out a b j) → T (out lo hi j)
+out-wider a b lo hi j p q o = go (ltb j a) refl o where
+  go : (t : Bool) → ltb j a ≡ t → T (cond t true (leb b j)) → T (out lo hi j)
+  go true h o′ = let k : j < a = ltb-true j a h in out-below lo hi j (omega arith)
+  go false h o′ = let k : b ≤ j = leb→le b j o′ in out-above lo hi j (omega arith)
+
+pub only-wider : {a b lo hi : ℕ} {s t : List ℕ} → a ≤ lo → hi ≤ b → Only lo hi s t → Only a b s t
+only-wider {a} {b} {lo} {hi} p q w = record { long = w .long; bytes = λ j o. w .bytes j (out-wider a b lo hi j p q o) }
+
+module _ {lo hi : ℕ} (s : List ℕ) where
+  pub only-set : (i a : ℕ) → lo ≤ i → i < hi → Only lo hi s (set s i a)
+  only-set i a p q = record { long = length-set s i a; bytes = λ j o. set-out s lo hi i a j p q o }
+
+  pub only-put16 : (i x : ℕ) → lo ≤ i → i + 2 ≤ hi → Only lo hi s (put16 s i x)
+  only-put16 i x p q = record { long = put16-length s i x; bytes = λ j o. put16-out s lo hi i x j p q o }
+
+  pub only-put32 : (i x : ℕ) → lo ≤ i → i + 4 ≤ hi → Only lo hi s (put32 s i x)
+  only-put32 i x p q = record { long = put32-length s i x; bytes = λ j o. put32-out s lo hi i x j p q o }
+
+  pub only-sets : (i : ℕ) (xs : List ℕ) → lo ≤ i → i + length xs ≤ hi → Only lo hi s (sets s i xs)
+  only-sets i xs p q = record { long = length-sets s i xs; bytes = λ j o. sets-out s lo hi i xs j p q o }
+
+  pub only-cleared : (i n : ℕ) → lo ≤ i → i + n ≤ hi → Only lo hi s (cleared s i n)
+  only-cleared i n p q = record { long = cleared-length s i n; bytes = λ j o. cleared-out s lo hi i n j p q o }
+
+-- the bytes before, and the bytes after
+pub only-take : {lo hi : ℕ} {s t : List ℕ} (n : ℕ) → n ≤ lo → Only lo hi s t → take n t ≡ take n s
+only-take {lo} {hi} {s} {t} n h w =
+    let e : length (take n t) ≡ length (take n s) = simp (length-take, w .long) in
+    ext-getD 0 (take n t) (take n s) e
+    (λ i p. let k : i < n = before i p in getD-take n t i 0 k ∙ w .bytes i (out-below lo hi i (omega arith)) ∙ sym (getD-take n s i 0 k)) where
+      before : (i : ℕ) → i < length (take n t) → i < n
+      before i p = let q = rw length-take at p in omega arith
+
+pub only-drop : {lo hi : ℕ} {s t : List ℕ} (n : ℕ) → hi ≤ n → Only lo hi s t → drop n t ≡ drop n s
+only-drop {lo} {hi} {s} {t} n h w =
+    let e : length (drop n t) ≡ length (drop n s) = simp (length-drop, w .long) in
+    ext-getD 0 (drop n t) (drop n s) e
+    (λ i p. getD-drop n t i 0 ∙ w .bytes (n + i) (out-above lo hi (n + i) (omega arith)) ∙ sym (getD-drop n s i 0))
+
+-- and back from them
+pub only-between : {s t : List ℕ} (lo hi : ℕ) → length t ≡ length s → take lo t ≡ take lo s → drop hi t ≡ drop hi s → Only lo hi s t
+only-between {s} {t} lo hi e p q = record { long = e; bytes = λ j o. go j (ltb j lo) refl o } where
+  go : (j : ℕ) (x : Bool) → ltb j lo ≡ x → T (cond x true (leb hi j)) → getD t j 0 ≡ getD s j 0
+  go j true h o =
+      let k : j < lo = ltb-true j lo h in
+      sym (getD-take lo t j 0 k) ∙ ap (λ (l : List ℕ). getD l j 0) p ∙ getD-take lo s j 0 k
+  go j false h o =
+      let k : hi ≤ j = leb→le hi j o in
+      let d : hi + (j - hi) ≡ j = omega arith in
+      rw d at (sym (getD-drop hi t (j - hi) 0) ∙ ap (λ (l : List ℕ). getD l (j - hi) 0) q ∙ getD-drop hi s (j - hi) 0)
+
+-- ---- the writers
+pub only-generator : (s : List ℕ) (x : ℕ) → Only 4 8 s (setGenerator s x)
+unfolding setGenerator
+only-generator s x = only-put32 s 4 x (lit≤ tt) (lit≤ tt)
+
+pub only-lock : (s : List ℕ) (r : Resource) (v : ℕ) → Only 12 14 s (set s (lockAt r) v)
+only-lock s Calibration v = only-set s 12 v (lit≤ tt) (lit< tt)
+only-lock s Lists v = only-set s 13 v (lit≤ tt) (lit< tt)
+
+pub only-seed : (s : List ℕ) (x : Seed) → Only 14 15 s (setSeed s x)
+unfolding setSeed
+only-seed s None = only-set s 14 0 (lit≤ tt) (lit< tt)
+only-seed s (For Calibration) = only-set s 14 1 (lit≤ tt) (lit< tt)
+only-seed s (For Lists) = only-set s 14 4 (lit≤ tt) (lit< tt)
+
+pub only-mta : (s : List ℕ) (m : Mta) → Only 15 20 s (setMta s m)
+unfolding setMta
+only-mta s Unset = only-set s 15 0 (lit≤ tt) (lit< tt)
+only-mta s (At e a) = only-then (only-set s 15 (mtaTag e) (lit≤ tt) (lit< tt)) (only-put32 (set s 15 (mtaTag e)) 16 a (lit≤ tt) (lit≤ tt))
+
+pub only-pointer : (s : List ℕ) (p : Pointer) → Only 20 21 s (setPointer s p)
+unfolding setPointer
+only-pointer s NoEntry = only-set s 20 0 (lit≤ tt) (lit< tt)
+only-pointer s (Entry k e) = only-set s 20 (4 * k + e + 1) (lit≤ tt) (lit< tt)
+
+pub only-closed : (s : List ℕ) → Only 11 225 s (closed s)
+unfolding closed
+only-closed s = only-cleared s 11 214 (lit≤ tt) (lit≤ tt)
+
+pub only-fresh : (s : List ℕ) → Only 11 225 s (fresh s)
+unfolding fresh
+only-fresh s = only-then (only-closed s) (only-set (closed s) 11 1 (lit≤ tt) (lit< tt))
+
+pub only-place : (s : List ℕ) (p : Place) → Only 225 227 s (setPlace s p)
+unfolding setPlace
+only-place s Outside = only-set s 225 0 (lit≤ tt) (lit< tt)
+only-place s (Inside k) = only-then (only-set s 225 1 (lit≤ tt) (lit< tt)) (only-set (set s 225 1) 226 (k % 256) (lit≤ tt) (lit< tt))
+only-place s (Escaped k) = only-then (only-set s 225 2 (lit≤ tt) (lit< tt)) (only-set (set s 225 2) 226 (k % 256) (lit≤ tt) (lit< tt))
+
+pub only-message : (s m : List ℕ) → length s ≡ size → length m ≡ 11 → Only 227 238 s (setMessage s m)
+unfolding setMessage
+only-message s m h k =
+    let front : length (take 227 s) ≡ 227 = length-take-le 227 s (omega arith) in
+    let both : length (take 227 s ++ m) ≡ 238 = rw (length-append, front) (omega arith) in
+    let rest : length (drop 238 s) ≡ 9 = rw length-drop (omega arith) in
+    only-between 227 238
+    (rw (length-append, length-append, front, rest) (omega arith))
+    (take-at (take 227 s) (m ++ drop 238 s) 227 front)
+    (ap (drop 238) (sym (append-assoc (take 227 s) m (drop 238 s))) ∙ drop-at (take 227 s ++ m) (drop 238 s) 238 both)
+
+pub only-readOn : (s : List ℕ) (f : Fed) → length s ≡ size → length (f .message) ≡ 11 → Only 225 238 s (readOn s f)
+unfolding readOn
+only-readOn s f h k =
+    only-then (only-wider (lit≤ tt) (lit≤ tt) (only-message s (f .message) h k))
+    (only-wider (lit≤ tt) (lit≤ tt) (only-place (setMessage s (f .message)) (f .taken .place)))
+
+pub readOn-before : (s : List ℕ) (f : Fed) → length s ≡ size → length (f .message) ≡ 11 → take placeAt (readOn s f) ≡ take placeAt s
+readOn-before s f h k = only-take 225 (lit≤ tt) (only-readOn s f h k)
+
+pub readOn-after : (s : List ℕ) (f : Fed) → length s ≡ size → length (f .message) ≡ 11 → drop answerAt (readOn s f) ≡ drop answerAt s
+readOn-after s f h k = only-drop 238 (lit≤ tt) (only-readOn s f h k)
+
+pub only-answered : (s bs : List ℕ) → length bs ≤ 8 → Only 238 247 s (answered s bs)
+unfolding answered
+only-answered s bs h = only-sets s 238 (length bs ∷ bs) (lit≤ tt) (omega arith)
+
+-- whatever the answer's length
+pub answered-before : (s bs : List ℕ) → take answerAt (answered s bs) ≡ take answerAt s
+unfolding answered
+answered-before s bs = take-sets 238 s 238 (length bs ∷ bs) (lit≤ tt)

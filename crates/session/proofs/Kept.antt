@@ -1,0 +1,337 @@
+-- Every reachable state is consistent: power-up makes one, and every call keeps one. Assumes nothing.
+use Prim.Native.Nat.{ℕ, zero, suc, _+_, _/_, _%_, _≤_, _<_}
+use mathlib.Core.Path.{_≡_, refl, sym, ap, _∙_}
+use mathlib.Core.Bool.{Bool, true, cond}
+use mathlib.Core.List.{List, _∷_}
+use native.Mathlib.Omega.{arith}
+use borrow.Author.Tests.{eq-eqb}
+use lib.Dec.{ltb, lit<, lit≤}
+use lib.ListN.{length, getD, set, take, replicate, length-set}
+use lib.Seq.{sets, length-sets, getD-take, take-set-le}
+use Rattle.line.specs.Message.{room}
+use Rattle.line.specs.Unstuffing.{Fed}
+use Rattle.line.specs.declared.Outcome.{Outcome}
+use Rattle.line.specs.declared.Outcome.the-variants as line
+use Rattle.line.proofs.Laws.{cond-ind}
+use Rattle.line.proofs.After.{take-length}
+use Rattle.session.specs.Layout.{mark, size, lists, modeAt, selectedAt, runningAt, entriesAt, entryAt, sampleAt, firstOdt, listOf}
+use Rattle.session.specs.Bytes.{u32At, put16, put32, block, cleared}
+use Rattle.session.specs.Generator.{startOf, nextOf}
+use Rattle.session.specs.State.{consistent, flagOf, openOf, generatorOf, setGenerator, lockAt, setSeed, setMta, setPointer, placeOf, messageOf, waits, answerKind, answered}
+use Rattle.session.specs.Lists.{runsOf, restarted, listCleared, modeSet, tagOf, entryCleared, entrySet, stopEach, startOne, startSelected, stopSelected}
+use Rattle.session.specs.Judge.{judge}
+use Rattle.session.specs.Perform.{nextEntry, effect, reply, after}
+use Rattle.session.specs.Receive.{Step, greets, heeded, meant, readOn, fedOf, receiveOf}
+use Rattle.session.specs.Event.{stored, captured, samplingOf, sampledState, tally, Happened, eventOf}
+use Rattle.session.specs.Slot.{Slot, turnOf, nextCtr, answerSent, packetSent, sentBy, slotOf}
+use Rattle.session.specs.PowerUp.{powered, powerUpOf}
+use Rattle.session.specs.declared.Extension.{Extension}
+use Rattle.session.specs.declared.Seed.{Seed}
+use Rattle.session.specs.declared.Seed.the-variants.{None, For}
+use Rattle.session.specs.declared.Mta.{Mta}
+use Rattle.session.specs.declared.Pointer.{Pointer}
+use Rattle.session.specs.declared.Sampling.{Sampling}
+use Rattle.session.specs.declared.Sampling.the-variants.{Idle, Sampled, Missed}
+use Rattle.session.specs.declared.Turn.{Turn}
+use Rattle.session.specs.declared.Turn.the-variants.{Nobody, Answer, Packet}
+use Rattle.session.specs.declared.Deed.{Deed}
+use Rattle.session.specs.declared.Deed.the-variants.{Refuse, RefuseSize, WrongKey, Connect, Disconnect, Status, Synch, NoSeed, GiveSeed, Unlock, SetMta, Upload, ShortUpload, Checksum, Download, ClearList, SetPointer, ClearEntry, WriteEntry, SetMode, Stop, Start, KeepRunning, Select, StopAll, StartSelected, StopSelected, ProcessorInfo, ResolutionInfo}
+use Rattle.session.proofs.Sets.{block-length}
+use Rattle.session.proofs.Consistent.{consistent-size}
+use Rattle.session.proofs.Stores.{take-sets}
+use Rattle.session.proofs.Frames.{Only, only-take, only-generator, only-lock, only-seed, only-mta, only-pointer, only-closed, only-fresh, only-readOn}
+
+-- ---- t has the length of s and its first four bytes
+pub record Marked (s t : List ℕ) : Type 0 where
+  pub long : length t ≡ length s
+  pub four : take 4 t ≡ take 4 s
+
+pub marked-none : {s : List ℕ} → Marked s s
+marked-none = record { long = refl; four = refl }
+
+pub marked-then : {s t u : List ℕ} → Marked s t → Marked t u → Marked s u
+marked-then p q = record { long = q .long ∙ p .long; four = q .four ∙ p .four }
+
+marked-cond : {s t u : List ℕ} (b : Bool) → Marked s t → Marked s u → Marked s (cond b t u)
+marked-cond {s} b p q = cond-ind (Marked s) b (λ _. p) (λ _. q)
+
+-- any change behind them
+marked-only : {lo hi : ℕ} {s t : List ℕ} → 4 ≤ lo → Only lo hi s t → Marked s t
+marked-only h w = record { long = w .long; four = only-take 4 h w }
+
+marked-set : (s : List ℕ) (i a : ℕ) → 4 ≤ i → Marked s (set s i a)
+marked-set s i a h = record { long = length-set s i a; four = take-set-le 4 s i a h }
+
+marked-sets : (s : List ℕ) (i : ℕ) (xs : List ℕ) → 4 ≤ i → Marked s (sets s i xs)
+marked-sets s i xs h = record { long = length-sets s i xs; four = take-sets 4 s i xs h }
+
+marked-cleared : (s : List ℕ) (i n : ℕ) → 4 ≤ i → Marked s (cleared s i n)
+unfolding cleared
+marked-cleared s i n h = marked-sets s i (replicate n 0) h
+
+marked-put16 : (s : List ℕ) (i x : ℕ) → 4 ≤ i → Marked s (put16 s i x)
+unfolding put16
+marked-put16 s i x h = marked-then (marked-set s i (x % 256) h) (marked-set (set s i (x % 256)) (i + 1) (x / 256 % 256) (omega arith))
+
+-- the mark, so whether a state is consistent, lies in them
+first-same : {s t : List ℕ} (j : ℕ) → j < 4 → Marked s t → getD t j 0 ≡ getD s j 0
+first-same {s} {t} j h m = sym (getD-take 4 t j 0 h) ∙ ap (λ (l : List ℕ). getD l j 0) (m .four) ∙ getD-take 4 s j 0 h
+
+mark-same : {s t : List ℕ} → Marked s t → u32At t 0 ≡ u32At s 0
+unfolding u32At
+mark-same m = simp (first-same 0 (lit< tt) m, first-same 1 (lit< tt) m, first-same 2 (lit< tt) m, first-same 3 (lit< tt) m)
+
+pub marked-consistent : {s t : List ℕ} → Marked s t → consistent t ≡ consistent s
+unfolding consistent
+marked-consistent m = rw (m .long, mark-same m)
+
+pub kept : {s t : List ℕ} → Marked s t → consistent s ≡ true → consistent t ≡ true
+kept m h = marked-consistent m ∙ h
+
+-- ---- power-up
+marked-blank : consistent (put32 (replicate size 0) 0 mark) ≡ true
+unfolding consistent u32At put32
+marked-blank = refl
+
+pub power-consistent : (start : ℕ) → consistent (powered start) ≡ true
+unfolding powered
+power-consistent start =
+    let blank : List ℕ = put32 (replicate size 0) 0 mark in
+    kept (marked-then (marked-only (lit≤ tt) (only-generator blank (startOf start))) (marked-set (setGenerator blank (startOf start)) 9 3 (lit≤ tt))) marked-blank
+
+-- a state of the right size is consistent after power-up, whatever it was
+pub power-up-consistent : (s : List ℕ) (start : ℕ) → length s ≡ size → consistent (powerUpOf s start .state) ≡ true
+unfolding powerUpOf
+power-up-consistent s start h = simp (eq-eqb (length s) size h) (power-consistent start)
+
+-- ---- the lists' changes
+marked-restarted : (s : List ℕ) (l on : ℕ) → Marked s (restarted s l on)
+unfolding restarted
+marked-restarted s l on =
+    let s₁ : List ℕ = set s (runningAt l) on in
+    let s₂ : List ℕ = set s₁ (sampleAt (firstOdt l)) 0 in
+    marked-then (marked-set s (runningAt l) on (omega arith))
+    (marked-then (marked-set s₁ (sampleAt (firstOdt l)) 0 (omega arith)) (marked-set s₂ (sampleAt (firstOdt l + 1)) 0 (omega arith)))
+
+marked-deselected : {s t : List ℕ} (l : ℕ) → Marked s t → Marked s (set t (selectedAt l) 0)
+marked-deselected {s} {t} l m = marked-then m (marked-set t (selectedAt l) 0 (omega arith))
+
+marked-listCleared : (s : List ℕ) (l : ℕ) → Marked s (listCleared s l)
+unfolding listCleared
+marked-listCleared s l =
+    marked-then (marked-cleared s (modeAt l) 3 (omega arith)) (marked-cleared (cleared s (modeAt l) 3) (entriesAt (firstOdt l)) 32 (omega arith))
+
+marked-modeSet : (s : List ℕ) (l event : ℕ) → Marked s (modeSet s l event)
+unfolding modeSet
+marked-modeSet s l event =
+    marked-then (marked-set s (modeAt l) (event + 1) (omega arith)) (marked-set (set s (modeAt l) (event + 1)) (runningAt l) 0 (omega arith))
+
+marked-entryCleared : (s : List ℕ) (l k e : ℕ) → Marked s (entryCleared s l k e)
+unfolding entryCleared
+marked-entryCleared s l k e =
+    marked-then (marked-set s (runningAt l) 0 (omega arith)) (marked-cleared (set s (runningAt l) 0) (entryAt k e) 4 (omega arith))
+
+marked-entrySet : (s : List ℕ) (l k e n : ℕ) (x : Extension) (a : ℕ) → Marked s (entrySet s l k e n x a)
+unfolding entrySet
+marked-entrySet s l k e n x a =
+    let s₁ : List ℕ = set s (runningAt l) 0 in
+    let s₂ : List ℕ = set s₁ (entryAt k e) n in
+    let s₃ : List ℕ = set s₂ (entryAt k e + 1) (tagOf x) in
+    marked-then (marked-set s (runningAt l) 0 (omega arith))
+    (marked-then (marked-set s₁ (entryAt k e) n (omega arith))
+    (marked-then (marked-set s₂ (entryAt k e + 1) (tagOf x) (omega arith)) (marked-put16 s₃ (entryAt k e + 2) a (omega arith))))
+
+marked-stopEach : (s : List ℕ) (n : ℕ) → Marked s (stopEach s n)
+unfolding stopEach
+marked-stopEach s zero = marked-none
+marked-stopEach s (suc n) = marked-deselected n (marked-then (marked-stopEach s n) (marked-restarted (stopEach s n) n 0))
+
+marked-startOne : (s : List ℕ) (l : ℕ) → Marked s (startOne s l)
+marked-startOne s l =
+    marked-cond (flagOf s (selectedAt l)) (marked-cond (runsOf s l) marked-none (marked-restarted s l 1)) marked-none
+
+marked-startSelected : (s : List ℕ) (n : ℕ) → Marked s (startSelected s n)
+unfolding startSelected
+marked-startSelected s zero = marked-none
+marked-startSelected s (suc n) = marked-deselected n (marked-then (marked-startSelected s n) (marked-startOne (startSelected s n) n))
+
+marked-stopSelected : (s : List ℕ) (n : ℕ) → Marked s (stopSelected s n)
+unfolding stopSelected
+marked-stopSelected s zero = marked-none
+marked-stopSelected s (suc n) =
+    marked-deselected n
+    (marked-then (marked-stopSelected s n) (marked-cond (flagOf (stopSelected s n) (selectedAt n)) (marked-restarted (stopSelected s n) n 0) marked-none))
+
+-- ---- the deeds
+marked-seed : (s : List ℕ) (x : Seed) → Marked s (setSeed s x)
+marked-seed s x = marked-only (lit≤ tt) (only-seed s x)
+
+marked-mta : (s : List ℕ) (m : Mta) → Marked s (setMta s m)
+marked-mta s m = marked-only (lit≤ tt) (only-mta s m)
+
+marked-pointer : (s : List ℕ) (p : Pointer) → Marked s (setPointer s p)
+marked-pointer s p = marked-only (lit≤ tt) (only-pointer s p)
+
+pub marked-effect : (d : Deed) (s : List ℕ) → Marked s (effect d s)
+unfolding effect
+marked-effect (Refuse r) s = marked-none
+marked-effect RefuseSize s = marked-none
+marked-effect WrongKey s = marked-only (lit≤ tt) (only-closed s)
+marked-effect Connect s = marked-only (lit≤ tt) (only-fresh s)
+marked-effect Disconnect s = marked-only (lit≤ tt) (only-closed s)
+marked-effect Status s = marked-none
+marked-effect Synch s = marked-none
+marked-effect NoSeed s = marked-none
+marked-effect (GiveSeed r) s =
+    let x : ℕ = nextOf (generatorOf s) in
+    marked-then (marked-only (lit≤ tt) (only-generator s x)) (marked-seed (setGenerator s x) (For r))
+marked-effect (Unlock r) s = marked-then (marked-only (lit≤ tt) (only-lock s r 1)) (marked-seed (set s (lockAt r) 1) None)
+marked-effect (SetMta e a) s = marked-mta s _
+marked-effect (Upload e a n) s = marked-mta s _
+marked-effect (ShortUpload e a n) s = marked-none
+marked-effect (Checksum e a n) s = marked-mta s _
+marked-effect (Download a n) s = marked-mta s _
+marked-effect (ClearList l) s = marked-listCleared s l
+marked-effect (SetPointer k e) s = marked-pointer s _
+marked-effect (ClearEntry k e) s = marked-then (marked-entryCleared s (listOf k) k e) (marked-pointer (entryCleared s (listOf k) k e) (nextEntry k e))
+marked-effect (WriteEntry k e n x a) s =
+    marked-then (marked-entrySet s (listOf k) k e n x a) (marked-pointer (entrySet s (listOf k) k e n x a) (nextEntry k e))
+marked-effect (SetMode l event) s = marked-modeSet s l event
+marked-effect (Stop l) s = marked-restarted s l 0
+marked-effect (Start l) s = marked-restarted s l 1
+marked-effect (KeepRunning l) s = marked-none
+marked-effect (Select l) s = marked-set s (selectedAt l) 1 (omega arith)
+marked-effect StopAll s = marked-stopEach s lists
+marked-effect StartSelected s = marked-startSelected s lists
+marked-effect StopSelected s = marked-stopSelected s lists
+marked-effect ProcessorInfo s = marked-none
+marked-effect ResolutionInfo s = marked-none
+
+pub marked-answered : (s bs : List ℕ) → Marked s (answered s bs)
+unfolding answered
+marked-answered s bs = marked-sets s 238 (length bs ∷ bs) (lit≤ tt)
+
+pub marked-after : (d : Deed) (s cal meas : List ℕ) → Marked s (after d s cal meas)
+marked-after d s cal meas = marked-then (marked-effect d s) (marked-answered (effect d s) (reply d s cal meas))
+
+-- ---- a received byte
+marked-heeded : (p s cal meas : List ℕ) → Marked s (heeded p s cal meas .state)
+unfolding heeded
+marked-heeded p s cal meas =
+    let Good : Step → Type 0 = λ (o : Step). Marked s (o .state) in
+    cond-ind Good (waits s) (λ _. marked-none)
+    (λ _. cond-ind Good (openOf s) (λ _. marked-after (judge p s (length cal) (length meas)) s cal meas)
+    (λ _. cond-ind Good (greets p) (λ _. marked-after Connect s cal meas)
+    (λ _. marked-none)))
+
+marked-meant : (o : Outcome) (m s cal meas : List ℕ) → Marked s (meant o m s cal meas .state)
+unfolding meant
+marked-meant line.Nothing m s cal meas = marked-none
+marked-meant (line.Good ctr at n) m s cal meas = marked-heeded (block m at n) s cal meas
+marked-meant line.BadLength m s cal meas = marked-none
+marked-meant line.BadEscape m s cal meas = marked-none
+marked-meant line.BadChecksum m s cal meas = marked-none
+marked-meant line.CutOff m s cal meas = marked-none
+marked-meant line.NoRoom m s cal meas = marked-none
+
+fed-length : (s : List ℕ) (b : ℕ) → length s ≡ size → length (fedOf s b .message) ≡ 11
+unfolding messageOf
+fed-length s b h = take-length (placeOf s) (block s 227 11) b ∙ block-length s 227 11 (omega arith)
+
+marked-receive : (s cal meas : List ℕ) (b : ℕ) → Marked s (receiveOf s cal meas b .state)
+unfolding receiveOf
+marked-receive s cal meas b =
+    cond-ind (λ (o : Step). Marked s (o .state)) (consistent s)
+    (λ c. let h : length s ≡ size = consistent-size s c in
+    let f : Fed = fedOf s b in
+    marked-then (marked-only (lit≤ tt) (only-readOn s f h (fed-length s b h))) (marked-meant (f .taken .outcome) (f .message) (readOn s f) cal meas))
+    (λ _. marked-none)
+
+pub receive-kept : (s cal meas : List ℕ) (b : ℕ) → consistent s ≡ true → consistent (receiveOf s cal meas b .state) ≡ true
+receive-kept s cal meas b h = kept (marked-receive s cal meas b) h
+
+-- ---- an event
+marked-stored : (s : List ℕ) (k : ℕ) (bs : List ℕ) → Marked s (stored s k bs)
+unfolding stored
+marked-stored s k bs = marked-sets s (sampleAt k) (length bs ∷ bs) (omega arith)
+
+marked-captured : (s : List ℕ) (l clock : ℕ) (cal meas : List ℕ) → Marked s (captured s l clock cal meas)
+unfolding captured
+marked-captured s l clock cal meas = marked-then (marked-stored s (firstOdt l) _) (marked-stored _ (firstOdt l + 1) _)
+
+marked-sampled : (c : Sampling) (s : List ℕ) (l clock : ℕ) (cal meas : List ℕ) → Marked s (sampledState c s l clock cal meas)
+unfolding sampledState
+marked-sampled Idle s l clock cal meas = marked-none
+marked-sampled Sampled s l clock cal meas = marked-captured s l clock cal meas
+marked-sampled Missed s l clock cal meas = marked-none
+
+marked-tally : (s : List ℕ) (event clock : ℕ) (cal meas : List ℕ) (n : ℕ) → Marked s (tally s event clock cal meas n .state)
+unfolding tally
+marked-tally s event clock cal meas zero = marked-none
+marked-tally s event clock cal meas (suc n) =
+    let t : List ℕ = tally s event clock cal meas n .state in
+    marked-then (marked-tally s event clock cal meas n) (marked-sampled (samplingOf t n event) t n clock cal meas)
+
+marked-event : (s cal meas : List ℕ) (event clock : ℕ) → Marked s (eventOf s cal meas event clock .state)
+unfolding eventOf
+marked-event s cal meas event clock =
+    let Good : Happened → Type 0 = λ (o : Happened). Marked s (o .state) in
+    cond-ind Good (consistent s)
+    (λ _. cond-ind Good (ltb 1 event) (λ _. marked-none) (λ _. marked-tally s event clock cal meas lists))
+    (λ _. marked-none)
+
+pub event-kept : (s cal meas : List ℕ) (event clock : ℕ) → consistent s ≡ true → consistent (eventOf s cal meas event clock .state) ≡ true
+event-kept s cal meas event clock h = kept (marked-event s cal meas event clock) h
+
+-- ---- a slot
+marked-answerSent : (s : List ℕ) → Marked s (answerSent s)
+unfolding answerSent
+marked-answerSent s =
+    let s₁ : List ℕ = set s 239 (answerKind s) in
+    let s₂ : List ℕ = set s₁ 238 0 in
+    let s₃ : List ℕ = set s₂ 8 (nextCtr s) in
+    marked-then (marked-set s 239 (answerKind s) (lit≤ tt))
+    (marked-then (marked-set s₁ 238 0 (lit≤ tt))
+    (marked-then (marked-set s₂ 8 (nextCtr s) (lit≤ tt)) (marked-set s₃ 10 1 (lit≤ tt))))
+
+marked-packetSent : (s : List ℕ) (k : ℕ) → Marked s (packetSent s k)
+unfolding packetSent
+marked-packetSent s k =
+    let s₁ : List ℕ = set s (sampleAt k) 0 in
+    let s₂ : List ℕ = set s₁ 8 (nextCtr s) in
+    let s₃ : List ℕ = set s₂ 9 (listOf k) in
+    marked-then (marked-set s (sampleAt k) 0 (omega arith))
+    (marked-then (marked-set s₁ 8 (nextCtr s) (lit≤ tt))
+    (marked-then (marked-set s₂ 9 (listOf k) (lit≤ tt)) (marked-set s₃ 10 0 (lit≤ tt))))
+
+marked-sent : (t : Turn) (s out : List ℕ) → Marked s (sentBy t s out .state)
+unfolding sentBy
+marked-sent Nobody s out = marked-none
+marked-sent Answer s out = marked-answerSent s
+marked-sent (Packet k) s out = marked-packetSent s k
+
+marked-slot : (s out : List ℕ) → Marked s (slotOf s out .state)
+unfolding slotOf
+marked-slot s out =
+    let Good : Slot → Type 0 = λ (o : Slot). Marked s (o .state) in
+    cond-ind Good (consistent s)
+    (λ _. cond-ind Good (ltb (length out) room) (λ _. marked-none) (λ _. marked-sent (turnOf s) s out))
+    (λ _. marked-none)
+
+pub slot-kept : (s out : List ℕ) → consistent s ≡ true → consistent (slotOf s out .state) ≡ true
+slot-kept s out h = kept (marked-slot s out) h
+
+-- ---- every state that calls can lead to, the whole device powered up again among them
+pub data Reachable : List ℕ → Type 0 where
+  powers : (start : ℕ) → Reachable (powered start)
+  powers-again : {s : List ℕ} (start : ℕ) → Reachable s → Reachable (powerUpOf s start .state)
+  receives : {s : List ℕ} (cal meas : List ℕ) (b : ℕ) → Reachable s → Reachable (receiveOf s cal meas b .state)
+  happens : {s : List ℕ} (cal meas : List ℕ) (event clock : ℕ) → Reachable s → Reachable (eventOf s cal meas event clock .state)
+  sends : {s : List ℕ} (out : List ℕ) → Reachable s → Reachable (slotOf s out .state)
+
+pub reachable-consistent : {s : List ℕ} → Reachable s → consistent s ≡ true
+reachable-consistent (powers start) = power-consistent start
+reachable-consistent (powers-again {s} start r) = power-up-consistent s start (consistent-size s (reachable-consistent r))
+reachable-consistent (receives {s} cal meas b r) = receive-kept s cal meas b (reachable-consistent r)
+reachable-consistent (happens {s} cal meas event clock r) = event-kept s cal meas event clock (reachable-consistent r)
+reachable-consistent (sends {s} out r) = slot-kept s out (reachable-consistent r)

@@ -1,0 +1,199 @@
+-- A reader reads its own bytes alone: a change elsewhere leaves what it reads. Assumes nothing.
+use Prim.Native.Nat.{ℕ, zero, suc, _+_, _*_, _≤_, _<_}
+use mathlib.Core.Path.{_≡_, refl, sym, _∙_}
+use mathlib.Core.Bool.{Bool, true, false, cond}
+use mathlib.Core.List.{List}
+use native.Mathlib.Omega.{arith}
+use borrow.Author.Tests.{leb-true, ltb-true, ltb-false, eqb-true, eqb-false}
+use lib.Dec.{T, eqb, ltb, leb, leb→le, lit<, lit≤}
+use lib.ListN.{length, getD, drop, set, length-take, length-drop, length-set}
+use lib.Seq.{getD-take, getD-drop, ext-getD, getD-set-same, getD-set-other, set-out}
+use Rattle.line.specs.Unstuffing.{Fed}
+use Rattle.line.proofs.Laws.{cond-ind}
+use Rattle.session.specs.Layout.{size}
+use Rattle.session.specs.Bytes.{u16At, u32At, block}
+use Rattle.session.specs.State.{consistent, flagOf, generatorOf, openOf, unlockedOf, maskOf, seedOf, mtaOf, pointerOf, placeOf, messageOf, answerLength, waits, answerKind, answerOf, answered, setSeed}
+use Rattle.session.specs.Lists.{sizeOf, extensionOf, addressOf, odtBytes, modeOf, fitOf, runsOf, anyRuns, storedLength}
+use Rattle.session.specs.Receive.{readOn}
+use Rattle.session.specs.declared.Seed.{Seed}
+use Rattle.session.specs.declared.Resource.{Resource}
+use Rattle.session.specs.declared.Resource.the-variants.{Calibration, Lists}
+use Rattle.session.proofs.Frames.{Only, out-below, out-above, only-seed, only-readOn, only-answered}
+
+-- ---- t is as long as s and has its bytes from a up to b
+pub record Same (a b : ℕ) (s t : List ℕ) : Type 0 where
+  pub long : length t ≡ length s
+  pub byte : (j : ℕ) → a ≤ j → j < b → getD t j 0 ≡ getD s j 0
+
+-- a change of the bytes from lo up to hi leaves those from a up to b; at numerals `tt` proves it
+abbrev pub clear : ℕ → ℕ → ℕ → ℕ → Bool
+clear lo hi a b = cond (leb b lo) true (leb hi a)
+
+pub before : {lo hi a b : ℕ} {s t : List ℕ} → b ≤ lo → Only lo hi s t → Same a b s t
+before {lo} {hi} h w = record { long = w .long; byte = λ j p q. w .bytes j (out-below lo hi j (omega arith)) }
+
+pub behind : {lo hi a b : ℕ} {s t : List ℕ} → hi ≤ a → Only lo hi s t → Same a b s t
+behind {lo} {hi} h w = record { long = w .long; byte = λ j p q. w .bytes j (out-above lo hi j (omega arith)) }
+
+pub apart : {lo hi a b : ℕ} {s t : List ℕ} → T (clear lo hi a b) → Only lo hi s t → Same a b s t
+apart {lo} {hi} {a} {b} {s} {t} c w = go (leb b lo) refl c where
+  go : (x : Bool) → leb b lo ≡ x → T (cond x true (leb hi a)) → Same a b s t
+  go true h o = before (leb-true b lo h) w
+  go false h o = behind (leb→le hi a o) w
+
+pub same-then : {a b : ℕ} {s t u : List ℕ} → Same a b s t → Same a b t u → Same a b s u
+same-then p q = record { long = q .long ∙ p .long; byte = λ j h k. q .byte j h k ∙ p .byte j h k }
+
+pub same-part : {a b lo hi : ℕ} {s t : List ℕ} → lo ≤ a → b ≤ hi → Same lo hi s t → Same a b s t
+same-part p q w = record { long = w .long; byte = λ j h k. w .byte j (omega arith) (omega arith) }
+
+-- a run of bytes
+pub same-block : {a b : ℕ} {s t : List ℕ} (i n : ℕ) → a ≤ i → i + n ≤ b → Same a b s t → block t i n ≡ block s i n
+same-block {a} {b} {s} {t} i n p q w =
+    ext-getD 0 (block t i n) (block s i n) (simp (length-take, length-drop, w .long))
+    (λ j h. let k : j < n = early j h in
+    getD-take n (drop i t) j 0 k ∙ getD-drop i t j 0 ∙ w .byte (i + j) (omega arith) (omega arith) ∙ sym (getD-drop i s j 0) ∙ sym (getD-take n (drop i s) j 0 k)) where
+      early : (j : ℕ) → j < length (block t i n) → j < n
+      early j h = let r = rw length-take at h in omega arith
+
+-- the same store in both
+pub same-set : {a b : ℕ} {s t : List ℕ} (i v : ℕ) → Same a b s t → Same a b (set s i v) (set t i v)
+same-set {a} {b} {s} {t} i v w = record { long = simp (length-set, w .long); byte = λ j p q. go j p q (eqb j i) (ltb i (length s)) refl refl } where
+  go : (j : ℕ) → a ≤ j → j < b → (x y : Bool) → eqb j i ≡ x → ltb i (length s) ≡ y → getD (set t i v) j 0 ≡ getD (set s i v) j 0
+  go j p q x false e l =
+      let h : length s ≤ i = ltb-false i (length s) l in
+      let k : length t ≤ i = rw (w .long) h in
+      rw (set-out t i v k, set-out s i v h) (w .byte j p q)
+  go j p q true true e l =
+      let h : i < length s = ltb-true i (length s) l in
+      let k : i < length t = rw (w .long) h in
+      rw (eqb-true j i e) (getD-set-same t i v 0 k ∙ sym (getD-set-same s i v 0 h))
+  go j p q false true e l = getD-set-other t i j v 0 (eqb-false j i e) ∙ w .byte j p q ∙ sym (getD-set-other s i j v 0 (eqb-false j i e))
+
+pub answer-most : (s : List ℕ) → answerLength s ≤ 8
+unfolding answerLength
+answer-most s =
+    cond-ind (λ (n : ℕ). n ≤ 8) (eqb (getD s 238 0) 0) (λ _. omega arith)
+    (λ _. cond-ind (λ (n : ℕ). n ≤ 8) (ltb 8 (getD s 238 0)) (λ _. omega arith) (λ h. ltb-false 8 (getD s 238 0) h))
+
+-- ---- the readers
+module _ {s t : List ℕ} where
+  u32-reads : (i : ℕ) → Same i (i + 4) s t → u32At t i ≡ u32At s i
+  unfolding u32At
+  u32-reads i w =
+      rw (w .byte i (omega arith) (omega arith), w .byte (i + 1) (omega arith) (omega arith), w .byte (i + 2) (omega arith) (omega arith), w .byte (i + 3) (omega arith) (omega arith))
+
+  pub flag-reads : (i : ℕ) → Same i (i + 1) s t → flagOf t i ≡ flagOf s i
+  unfolding flagOf
+  flag-reads i w = rw (w .byte i (omega arith) (omega arith))
+
+  pub consistent-reads : Same 0 4 s t → consistent t ≡ consistent s
+  unfolding consistent
+  consistent-reads w = rw (w .long, u32-reads 0 w)
+
+  pub generator-reads : Same 4 8 s t → generatorOf t ≡ generatorOf s
+  unfolding generatorOf
+  generator-reads w = rw (u32-reads 4 w)
+
+  pub open-reads : Same 11 12 s t → openOf t ≡ openOf s
+  open-reads w = flag-reads 11 w
+
+  pub lock-reads : (r : Resource) → Same 12 14 s t → unlockedOf t r ≡ unlockedOf s r
+  lock-reads Calibration w = flag-reads 12 (same-part (lit≤ tt) (lit≤ tt) w)
+  lock-reads Lists w = flag-reads 13 (same-part (lit≤ tt) (lit≤ tt) w)
+
+  pub mask-reads : Same 12 14 s t → maskOf t ≡ maskOf s
+  unfolding maskOf
+  mask-reads w = rw (lock-reads Calibration w, lock-reads Lists w)
+
+  pub seed-reads : Same 14 15 s t → seedOf t ≡ seedOf s
+  unfolding seedOf
+  seed-reads w = rw (w .byte 14 (lit≤ tt) (lit< tt))
+
+  pub mta-reads : Same 15 20 s t → mtaOf t ≡ mtaOf s
+  unfolding mtaOf
+  mta-reads w = rw (w .byte 15 (lit≤ tt) (lit< tt), u32-reads 16 (same-part (lit≤ tt) (lit≤ tt) w))
+
+  pub pointer-reads : Same 20 21 s t → pointerOf t ≡ pointerOf s
+  unfolding pointerOf
+  pointer-reads w = rw (w .byte 20 (lit≤ tt) (lit< tt))
+
+  pub place-reads : Same 225 227 s t → placeOf t ≡ placeOf s
+  unfolding placeOf
+  place-reads w = rw (w .byte 225 (lit≤ tt) (lit< tt), w .byte 226 (lit≤ tt) (lit< tt))
+
+  pub message-reads : Same 227 238 s t → messageOf t ≡ messageOf s
+  unfolding messageOf
+  message-reads w = same-block 227 11 (lit≤ tt) (lit≤ tt) w
+
+  pub answerLength-reads : Same 238 247 s t → answerLength t ≡ answerLength s
+  unfolding answerLength
+  answerLength-reads w = rw (w .byte 238 (lit≤ tt) (lit< tt))
+
+  pub waits-reads : Same 238 247 s t → waits t ≡ waits s
+  waits-reads w = rw (answerLength-reads w)
+
+  answerKind-reads : Same 238 247 s t → answerKind t ≡ answerKind s
+  unfolding answerKind
+  answerKind-reads w = rw (w .byte 239 (lit≤ tt) (lit< tt), answerLength-reads w)
+
+  pub answer-reads : Same 238 247 s t → answerOf t ≡ answerOf s
+  unfolding answerOf
+  answer-reads w =
+      rw (answerKind-reads w, answerLength-reads w)
+      (same-block 239 (answerLength s) (lit≤ tt) (omega (arith, answer-most s)) (same-set 239 (answerKind s) w))
+
+  pub size-reads : (k e : ℕ) → k < 8 → e < 4 → Same 33 161 s t → sizeOf t k e ≡ sizeOf s k e
+  unfolding sizeOf
+  size-reads k e p q w = rw (w .byte (33 + 16 * k + 4 * e) (omega arith) (omega arith))
+
+  pub extension-reads : (k e : ℕ) → k < 8 → e < 4 → Same 33 161 s t → extensionOf t k e ≡ extensionOf s k e
+  unfolding extensionOf
+  extension-reads k e p q w = rw (flag-reads (33 + 16 * k + 4 * e + 1) (same-part (omega arith) (omega arith) w))
+
+  pub address-reads : (k e : ℕ) → k < 8 → e < 4 → Same 33 161 s t → addressOf t k e ≡ addressOf s k e
+  unfolding addressOf u16At
+  address-reads k e p q w =
+      rw (w .byte (33 + 16 * k + 4 * e + 2) (omega arith) (omega arith), w .byte (33 + 16 * k + 4 * e + 2 + 1) (omega arith) (omega arith))
+
+  odt-reads : (k : ℕ) → k < 8 → Same 33 161 s t → odtBytes t k ≡ odtBytes s k
+  unfolding odtBytes
+  odt-reads k p w =
+      rw (size-reads k 0 p (lit< tt) w, size-reads k 1 p (lit< tt) w, size-reads k 2 p (lit< tt) w, size-reads k 3 p (lit< tt) w)
+
+  pub mode-reads : (l : ℕ) → l < 4 → Same 21 33 s t → modeOf t l ≡ modeOf s l
+  unfolding modeOf
+  mode-reads l p w = rw (w .byte (21 + 3 * l) (omega arith) (omega arith))
+
+  pub fit-reads : (l : ℕ) → l < 4 → Same 21 161 s t → fitOf t l ≡ fitOf s l
+  unfolding fitOf
+  fit-reads l p w =
+      let e : Same 33 161 s t = same-part (lit≤ tt) (lit≤ tt) w in
+      rw (mode-reads l p (same-part (lit≤ tt) (lit≤ tt) w), odt-reads (2 * l) (omega arith) e, odt-reads (2 * l + 1) (omega arith) e)
+
+  pub runs-reads : (l : ℕ) → l < 4 → Same 11 161 s t → runsOf t l ≡ runsOf s l
+  unfolding runsOf
+  runs-reads l p w =
+      rw (open-reads (same-part (lit≤ tt) (lit≤ tt) w), flag-reads (23 + 3 * l) (same-part (omega arith) (omega arith) w), fit-reads l p (same-part (lit≤ tt) (lit≤ tt) w))
+
+  pub anyRuns-reads : (n : ℕ) → n ≤ 4 → Same 11 161 s t → anyRuns t n ≡ anyRuns s n
+  unfolding anyRuns
+  anyRuns-reads zero p w = refl
+  anyRuns-reads (suc n) p w = rw (anyRuns-reads n (omega arith) w, runs-reads n (omega arith) w)
+
+  pub stored-reads : (k : ℕ) → Same (161 + 8 * k) (161 + 8 * k + 1) s t → storedLength t k ≡ storedLength s k
+  unfolding storedLength
+  stored-reads k w = rw (w .byte (161 + 8 * k) (omega arith) (omega arith))
+
+-- ---- for instance: a received byte leaves the session and the answer, an answer leaves all before it, a seed leaves the MTA
+pub readOn-front : (s : List ℕ) (f : Fed) → length s ≡ size → length (f .message) ≡ 11 → Same 0 225 s (readOn s f)
+readOn-front s f h k = apart tt (only-readOn s f h k)
+
+pub readOn-answer : (s : List ℕ) (f : Fed) → length s ≡ size → length (f .message) ≡ 11 → answerOf (readOn s f) ≡ answerOf s
+readOn-answer s f h k = answer-reads (apart tt (only-readOn s f h k))
+
+pub answered-front : (s bs : List ℕ) → length bs ≤ 8 → Same 0 238 s (answered s bs)
+answered-front s bs h = apart tt (only-answered s bs h)
+
+pub seed-mta : (s : List ℕ) (x : Seed) → mtaOf (setSeed s x) ≡ mtaOf s
+seed-mta s x = mta-reads (apart tt (only-seed s x))
