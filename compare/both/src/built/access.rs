@@ -1,0 +1,78 @@
+//! Blocks at the edges of memories of every length.
+
+use crate::rig::Rig;
+use crate::seen::LENGTHS;
+use crate::tool::with_address;
+
+pub fn run(rig: &mut Rig) {
+    for length in LENGTHS {
+        for extension in [0, 1] {
+            rig.begin(1, false);
+            rig.lend(LENGTHS[2], LENGTHS[2]);
+            rig.open();
+            fill(rig);
+            if extension == 0 {
+                rig.lend(length, 4096);
+            } else {
+                rig.lend(4096, length);
+            }
+            edges(rig, extension, length.min(4096) as u32);
+            sums(rig, extension, length.min(4096) as u32);
+        }
+    }
+}
+
+/// Bytes of both memories that tell one address from the next.
+fn fill(rig: &mut Rig) {
+    for at in [0, 4064, 4096, 4960] {
+        let bytes: Vec<u8> = (0..40).map(|i| (at / 16 + 7 * i) as u8).collect();
+        rig.measure(at, &bytes);
+    }
+    for address in [0, 6, 4080, 4086] {
+        rig.set_mta(0, address);
+        rig.ask(&[0xF0, 6, 1, 2, 3, 4, 5, 6]);
+    }
+}
+
+fn edges(rig: &mut Rig, extension: u8, reach: u32) {
+    for count in [1u8, 2, 4, 6, 7] {
+        let n = u32::from(count);
+        let last = reach.saturating_sub(n);
+        let addresses = [
+            0,
+            last.saturating_sub(1),
+            last,
+            last + 1,
+            reach,
+            0x0001_0000,
+            u32::MAX - n,
+            u32::MAX - n + 1,
+            u32::MAX,
+        ];
+        for address in addresses {
+            rig.ask(&with_address([0xF4, count, 0, extension], address));
+            rig.set_mta(extension, address);
+            rig.ask(&[0xF5, count]);
+            // Shows whether the address moved on.
+            rig.ask(&[0xF5, 1]);
+            rig.set_mta(extension, address);
+            rig.ask(&[0xF0, count.min(6), 0x9A, count, 0x9B, address as u8, 5, 6]);
+            rig.ask(&[0xF0, 1, 0xA0]);
+            rig.point(0, 0, 0);
+            rig.write_entry(count.min(4), extension, address);
+            // Nothing is always inside.
+            rig.write_entry(0, extension, address);
+        }
+    }
+}
+
+fn sums(rig: &mut Rig, extension: u8, reach: u32) {
+    let sizes = [0, 1, 2, 4094, 4095, 4096, 4097, 0x0001_0000, u32::MAX];
+    for size in sizes {
+        for address in [0, 1, reach.saturating_sub(size), u32::MAX] {
+            rig.set_mta(extension, address);
+            rig.ask(&with_address([0xF3, 0, 0, 0], size));
+            rig.ask(&[0xF5, 1]);
+        }
+    }
+}

@@ -1,0 +1,142 @@
+//! Every command in every situation, cut to every length, each byte at its edges.
+
+use crate::rig::Rig;
+use crate::tool::{CALIBRATION, LISTS};
+
+/// Packets that are done in an open session.
+const GOOD: [&[u8]; 19] = [
+    &[0xFF, 0],
+    &[0xFE],
+    &[0xFD],
+    &[0xFC],
+    &[0xF8, 0, 1],
+    &[0xF7, 4, 0, 0, 0, 0],
+    &[0xF6, 0, 0, 0, 0x10, 0, 0, 0],
+    &[0xF5, 4],
+    &[0xF4, 4, 0, 1, 0x20, 0, 0, 0],
+    &[0xF3, 0, 0, 0, 0x10, 0, 0, 0],
+    &[0xF0, 3, 0xAA, 0x9A, 0x9B],
+    &[0xE3, 0, 1, 0],
+    &[0xE2, 0, 1, 0, 1, 2],
+    &[0xE1, 0xFF, 2, 1, 0x20, 0, 0, 0],
+    &[0xE0, 0x10, 1, 0, 1, 0, 1, 0],
+    &[0xDE, 1, 1, 0],
+    &[0xDD, 1],
+    &[0xDA],
+    &[0xD9],
+];
+
+const EDGES: [u8; 17] = [
+    0, 1, 2, 3, 4, 5, 6, 7, 8, 9, 0x0F, 0x10, 0x11, 0x7F, 0x80, 0x9A, 0xFF,
+];
+
+#[derive(Clone, Copy)]
+enum Situation {
+    Locked,
+    /// Both locks open, the address and the pointer unset.
+    Unlocked,
+    /// The address at calibration bytes, the pointer at a stopped list.
+    Set,
+    /// The address at measured bytes, the pointer at a list that runs.
+    Running,
+}
+
+pub fn run(rig: &mut Rig) {
+    let situations = [
+        Situation::Locked,
+        Situation::Unlocked,
+        Situation::Set,
+        Situation::Running,
+    ];
+    for situation in situations {
+        for good in GOOD {
+            rig.begin(1, false);
+            prepare(rig, situation);
+            one_command(rig, situation, good);
+        }
+        other_codes(rig, situation);
+    }
+}
+
+fn prepare(rig: &mut Rig, situation: Situation) {
+    rig.connect();
+    match situation {
+        Situation::Locked => {
+            rig.seed(CALIBRATION);
+        }
+        Situation::Unlocked => {
+            rig.unlock(CALIBRATION);
+            rig.unlock(LISTS);
+        }
+        Situation::Set => {
+            rig.open();
+            rig.fill(1, [2, 3], 0, 0);
+            rig.set_mode(1, 0);
+        }
+        Situation::Running => {
+            rig.open();
+            rig.fill(1, [5, 7], 1, 0);
+            rig.set_mode(1, 0);
+            rig.turn(1, 1);
+            rig.turn(2, 0);
+        }
+    }
+    aim(rig, situation);
+}
+
+/// Sets address and pointer anew, since done commands move them.
+fn aim(rig: &mut Rig, situation: Situation) {
+    match situation {
+        Situation::Locked | Situation::Unlocked => {}
+        Situation::Set => {
+            rig.set_mta(0, 0x20);
+            rig.point(1, 1, 3);
+        }
+        Situation::Running => {
+            rig.set_mta(1, 0x20);
+            rig.point(1, 0, 0);
+        }
+    }
+}
+
+fn one_command(rig: &mut Rig, situation: Situation, good: &[u8]) {
+    for length in 1..=8 {
+        // Bytes past the command are ignored, whatever they are.
+        for more in [0, 0xFF] {
+            let mut packet = good.to_vec();
+            packet.resize(length, more);
+            attempt(rig, situation, &packet);
+        }
+    }
+    for at in 1..good.len() {
+        for value in EDGES {
+            let mut packet = good.to_vec();
+            packet[at] = value;
+            attempt(rig, situation, &packet);
+        }
+    }
+}
+
+fn other_codes(rig: &mut Rig, situation: Situation) {
+    rig.begin(1, false);
+    prepare(rig, situation);
+    for code in 0..=255 {
+        if GOOD.iter().all(|good| good[0] != code) {
+            rig.ask(&[code]);
+            rig.ask(&[code, 0, 1, 0, 0, 0, 1, 0]);
+        }
+    }
+}
+
+/// One packet; then the situation is made again where the packet may have ended it.
+fn attempt(rig: &mut Rig, situation: Situation, packet: &[u8]) {
+    let refused = matches!(rig.ask(packet), Some(answer) if answer[0] == 0xFE);
+    match packet[0] {
+        0xFF | 0xFE | 0xF7 | 0xDE | 0xDD => prepare(rig, situation),
+        0xF6 | 0xF5 | 0xF3 | 0xF0 | 0xE2 | 0xE1 if !refused => {
+            aim(rig, situation);
+        }
+        _ => {}
+    }
+    rig.event(0, 0x0102);
+}

@@ -1,0 +1,28 @@
+//! Sequences built for what chance would seldom meet.
+
+mod access;
+mod commands;
+mod lists;
+mod session;
+mod wire;
+
+use crate::rig::Rig;
+
+pub fn run(rig: &mut Rig) {
+    without_state(rig);
+    session::run(rig);
+    access::run(rig);
+    lists::run(rig);
+    wire::run(rig);
+    commands::run(rig);
+}
+
+/// Calls that find no state between calls that do.
+fn without_state(rig: &mut Rig) {
+    rig.begin(1, true);
+    rig.open();
+    for _ in 0..100 {
+        rig.wrong_size();
+        rig.ask(&[0xFD]);
+    }
+}

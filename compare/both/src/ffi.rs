@@ -1,0 +1,90 @@
+//! The proved slave's C interface. All unsafe code of this program is here.
+
+use std::ptr;
+
+extern "C" {
+    fn xcp_power_up(state: *mut u8, state_len: usize, start: u32) -> u32;
+    fn xcp_receive_byte(
+        state: *mut u8,
+        state_len: usize,
+        cal: *mut u8,
+        cal_len: usize,
+        meas: *const u8,
+        meas_len: usize,
+        byte: u8,
+    ) -> u32;
+    fn xcp_event(
+        state: *mut u8,
+        state_len: usize,
+        cal: *const u8,
+        cal_len: usize,
+        meas: *const u8,
+        meas_len: usize,
+        event: u32,
+        clock: u16,
+    ) -> u32;
+    fn xcp_slot(state: *mut u8, state_len: usize, out: *mut u8, out_len: usize) -> u32;
+    fn xcp_state_size() -> u32;
+}
+
+/// NULL where nothing is lent, as a C host may well do.
+fn front(bytes: &[u8]) -> *const u8 {
+    if bytes.is_empty() {
+        ptr::null()
+    } else {
+        bytes.as_ptr()
+    }
+}
+
+fn front_mut(bytes: &mut [u8]) -> *mut u8 {
+    if bytes.is_empty() {
+        ptr::null_mut()
+    } else {
+        bytes.as_mut_ptr()
+    }
+}
+
+// Each call below lends slices that Rust knows to be real and apart, all that the slave asks for.
+
+pub fn power_up(state: &mut [u8], start: u32) -> u32 {
+    unsafe { xcp_power_up(front_mut(state), state.len(), start) }
+}
+
+pub fn receive_byte(state: &mut [u8], cal: &mut [u8], meas: &[u8], byte: u8) -> u32 {
+    let (state_len, cal_len) = (state.len(), cal.len());
+    unsafe {
+        xcp_receive_byte(
+            front_mut(state),
+            state_len,
+            front_mut(cal),
+            cal_len,
+            front(meas),
+            meas.len(),
+            byte,
+        )
+    }
+}
+
+pub fn event(state: &mut [u8], cal: &[u8], meas: &[u8], event: u32, clock: u16) -> u32 {
+    unsafe {
+        xcp_event(
+            front_mut(state),
+            state.len(),
+            front(cal),
+            cal.len(),
+            front(meas),
+            meas.len(),
+            event,
+            clock,
+        )
+    }
+}
+
+pub fn slot(state: &mut [u8], out: &mut [u8]) -> u32 {
+    let out_len = out.len();
+    unsafe { xcp_slot(front_mut(state), state.len(), front_mut(out), out_len) }
+}
+
+pub fn state_size() -> usize {
+    unsafe { xcp_state_size() as usize }
+}

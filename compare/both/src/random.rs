@@ -1,0 +1,205 @@
+//! Calls by chance: a master that mostly does well, damage, noise, a restless host.
+
+use crate::rig::Rig;
+use crate::tool::{key, unlock_packet, with_address, CALIBRATION, LISTS};
+use crate::wire::{frame, ESC, SYNC};
+
+/// So many turns with one pair of slaves, then others; it bounds the log of a difference.
+const TURNS: usize = 150;
+
+pub fn run(rig: &mut Rig) {
+    while !rig.done() {
+        let start = match rig.dice.below(3) {
+            0 => rig.dice.number(),
+            _ => 1,
+        };
+        let vary = rig.dice.once_in(2);
+        rig.begin(start, vary);
+        if !rig.dice.once_in(8) {
+            rig.open();
+        }
+        // Lists that run together are too rare if each comes up by chance.
+        for _ in 0..rig.dice.one_of(&[0, 6]) {
+            list(rig);
+        }
+        for _ in 0..TURNS {
+            turn(rig);
+        }
+    }
+}
+
+fn turn(rig: &mut Rig) {
+    match rig.dice.below(40) {
+        0..=15 => {
+            let packet = command(rig);
+            rig.ask(&packet);
+        }
+        16 => {
+            // Without a slot after it, so that an answer waits for a while.
+            let packet = command(rig);
+            rig.send(&packet);
+        }
+        17..=19 => list(rig),
+        20..=22 => event(rig),
+        23..=25 => {
+            // Close together, so that lists miss some and wait for their turns.
+            for _ in 0..rig.dice.below(16) {
+                if rig.dice.once_in(2) {
+                    event(rig);
+                } else {
+                    rig.slot(23);
+                }
+            }
+        }
+        26..=31 => {
+            for _ in 0..rig.dice.below(6) {
+                let room = rig.dice.one_of(&[0, 1, 22, 23, 23, 24, 30, 30]);
+                rig.slot(room);
+            }
+        }
+        32 => {
+            let room = rig.dice.below(31);
+            rig.slot(room);
+        }
+        33 => damaged(rig),
+        34 => noise(rig),
+        35 => open(rig),
+        36 | 37 => measure(rig),
+        38 => rig.wrong_size(),
+        _ => {
+            if rig.dice.once_in(40) {
+                let start = rig.dice.number();
+                rig.power_up(start);
+            }
+        }
+    }
+}
+
+fn event(rig: &mut Rig) {
+    let number = rig.dice.one_of(&[0, 0, 0, 0, 1, 1, 1, 2, 256, u32::MAX]);
+    let clock = rig.dice.number() as u16;
+    rig.event(number, clock);
+}
+
+fn measure(rig: &mut Rig) {
+    let at = rig.dice.one_of(&[0, 0, 8, 250, 4080]);
+    let bytes: Vec<u8> = (0..16).map(|_| rig.dice.byte()).collect();
+    rig.measure(at, &bytes);
+}
+
+/// A session if there is none, and its locks; now and then a key is wrong.
+fn open(rig: &mut Rig) {
+    if rig.send(&[0xFD]) == 2 {
+        rig.open();
+    }
+    rig.drain();
+    let resource = rig.dice.one_of(&[CALIBRATION, LISTS]);
+    if let Some(seed) = rig.seed(resource) {
+        let wrong = rig.dice.once_in(12);
+        let key = key(resource, seed) ^ u32::from(wrong) << rig.dice.below(32);
+        rig.ask(&unlock_packet(key));
+    }
+}
+
+/// A list set up, most often so that it runs.
+fn list(rig: &mut Rig) {
+    // A waiting answer would have all of it dropped.
+    rig.drain();
+    let number = rig.dice.below(4) as u8;
+    let bytes = [
+        rig.dice.below(7) as u8,
+        rig.dice.one_of(&[0, 0, 1, 3, 7, 8]),
+    ];
+    let extension = rig.dice.below(2) as u8;
+    let address = address(rig);
+    rig.turn(0, number);
+    rig.fill(number, bytes, extension, address.min(5000));
+    let event = rig.dice.below(2) as u8;
+    rig.set_mode(number, event);
+    let mode = rig.dice.one_of(&[1, 1, 1, 2]);
+    rig.turn(mode, number);
+}
+
+fn address(rig: &mut Rig) -> u32 {
+    match rig.dice.below(8) {
+        0 => 4080 + rig.dice.below(20) as u32,
+        1 => rig.dice.one_of(&[
+            0xFF,
+            0x9A,
+            0x9A9B,
+            0xFFFF,
+            0x0001_0000,
+            u32::MAX - 3,
+            u32::MAX,
+        ]),
+        2 => rig.dice.below(5001) as u32,
+        _ => rig.dice.below(32) as u32,
+    }
+}
+
+/// A command that is likely to be done, spoilt now and then.
+fn command(rig: &mut Rig) -> Vec<u8> {
+    let (few, list) = (rig.dice.below(3) as u8, rig.dice.below(4) as u8);
+    let (count, extension) = (rig.dice.below(9) as u8, rig.dice.below(2) as u8);
+    let address = address(rig);
+    let mut packet = match rig.dice.below(32) {
+        0 => vec![rig.dice.one_of(&[0xFC, 0xFC, 0xFC, 0xFF, 0xFE]), 0],
+        1 | 2 => vec![rig.dice.one_of(&[0xFD, 0xDA, 0xD9])],
+        3 => vec![rig.dice.any_byte(), few, list, 0, few, 0, 1, 0],
+        4 => vec![0xF8, 0, rig.dice.one_of(&[CALIBRATION, LISTS])],
+        5..=7 => with_address([0xF6, 0, 0, extension], address),
+        8..=10 => vec![0xF5, count],
+        11..=13 => with_address([0xF4, count, 0, extension], address),
+        14 | 15 => with_address([0xF3, 0, 0, 0], address),
+        16..=19 => {
+            let data: Vec<u8> = (0..6).map(|_| rig.dice.byte()).collect();
+            [&[0xF0, count][..], &data].concat()
+        }
+        20 => vec![0xE3, 0, list, 0],
+        21 | 22 => vec![0xE2, 0, list, 0, extension, count % 4],
+        23..=25 => with_address([0xE1, 0xFF, count % 5, extension], address),
+        26 | 27 => vec![0xE0, 0x10, list, 0, extension, 0, 1, 0],
+        28 | 29 => vec![0xDE, few, list, 0],
+        _ => vec![0xDD, few],
+    };
+    if rig.dice.once_in(10) {
+        let at = rig.dice.below(packet.len());
+        packet[at] = rig.dice.byte();
+    }
+    if rig.dice.once_in(20) {
+        packet.truncate(1 + rig.dice.below(8));
+    }
+    packet
+}
+
+/// A frame with something wrong: cut, a byte changed, lost or put in, twice at once.
+fn damaged(rig: &mut Rig) {
+    let packet = command(rig);
+    let mut bytes = frame(rig.dice.byte(), &packet);
+    for _ in 0..1 + rig.dice.below(2) {
+        let at = rig.dice.below(bytes.len());
+        match rig.dice.below(5) {
+            0 => bytes.truncate(at + 1),
+            1 => bytes[at] = rig.dice.byte(),
+            2 => bytes[at] ^= 1 << rig.dice.below(8),
+            3 if bytes.len() > 1 => {
+                bytes.remove(at);
+            }
+            _ => bytes.insert(at, rig.dice.byte()),
+        }
+    }
+    rig.wire(&bytes);
+}
+
+fn noise(rig: &mut Rig) {
+    let plain = rig.dice.once_in(2);
+    for _ in 0..rig.dice.below(30) {
+        let byte = if plain {
+            rig.dice.any_byte()
+        } else {
+            // What makes messages by chance: short lengths and escapes.
+            rig.dice.one_of(&[SYNC, ESC, 0, 1, 1, 2, 0xFC, 0xFD, 0xFF])
+        };
+        rig.byte(byte);
+    }
+}

@@ -1,0 +1,275 @@
+//! Makes calls to the pair, keeps the log of them, and notes what they covered.
+
+use crate::dice::Dice;
+use crate::log;
+use crate::pair::{Call, Outcome, Pair, Step};
+use crate::proved::STATE;
+use crate::seen::{Seen, LENGTHS, WRONG_SIZES};
+use crate::wire;
+
+/// After so many differences the rest would say little more.
+const ENOUGH: usize = 5;
+const AMPLE: usize = 23;
+
+pub struct Rig {
+    pub dice: Dice,
+    pub seen: Seen,
+    pub calls: u64,
+    pub differences: usize,
+    limit: u64,
+    pair: Pair,
+    /// All calls since the pair was made.
+    steps: Vec<Step>,
+    /// After a difference no more calls are made until the next beginning.
+    broken: bool,
+    /// Whether the memories' lengths change from call to call.
+    vary: bool,
+    cal: usize,
+    meas: usize,
+    /// The code of the command whose answer waits, where it is known.
+    asked: Option<u8>,
+    ctr: u8,
+}
+
+impl Rig {
+    pub fn new(limit: u64, seed: u64) -> Rig {
+        Rig {
+            dice: Dice::new(seed),
+            seen: Seen::default(),
+            calls: 0,
+            differences: 0,
+            limit,
+            pair: Pair::new(),
+            steps: Vec::new(),
+            broken: false,
+            vary: false,
+            cal: 4096,
+            meas: 4096,
+            asked: None,
+            ctr: 0,
+        }
+    }
+
+    /// Whether this run of calls is to end.
+    pub fn over(&self) -> bool {
+        self.broken || self.done()
+    }
+
+    pub fn done(&self) -> bool {
+        self.calls >= self.limit || self.cut_short()
+    }
+
+    /// Whether so much differs that the rest was left out.
+    pub fn cut_short(&self) -> bool {
+        self.differences >= ENOUGH
+    }
+
+    /// Two new slaves; a few calls that come too early, then their power-up.
+    pub fn begin(&mut self, start: u32, vary: bool) {
+        self.pair = Pair::new();
+        self.steps.clear();
+        self.broken = false;
+        self.vary = vary;
+        self.lend(4096, 4096);
+        if vary {
+            self.call(Call::Byte(wire::SYNC));
+            self.call(Call::Event(2, 0));
+            self.call(Call::Slot(0));
+        }
+        self.power_up(start);
+    }
+
+    /// The lengths of the memories from here on.
+    pub fn lend(&mut self, cal: usize, meas: usize) {
+        self.cal = cal;
+        self.meas = meas;
+    }
+
+    fn call(&mut self, call: Call) -> Outcome {
+        if self.vary && self.dice.once_in(8) {
+            let (cal, meas) = (self.dice.one_of(&LENGTHS), self.dice.one_of(&LENGTHS));
+            self.lend(cal, meas);
+        }
+        self.call_with(call, STATE)
+    }
+
+    fn call_with(&mut self, call: Call, state: usize) -> Outcome {
+        if self.over() {
+            return Outcome::default();
+        }
+        let (cal, meas) = (self.cal, self.meas);
+        self.steps.push(Step {
+            call,
+            state,
+            cal,
+            meas,
+        });
+        let step = &self.steps[self.steps.len() - 1];
+        match self.pair.make(step) {
+            Ok(outcome) => {
+                let step = step.clone();
+                // New measured values are the host's own doing, no call.
+                self.calls += u64::from(!matches!(step.call, Call::Measure(..)));
+                self.note(&step, &outcome);
+                outcome
+            }
+            Err(words) => {
+                self.differ(&words);
+                Outcome::default()
+            }
+        }
+    }
+
+    fn differ(&mut self, words: &str) {
+        self.broken = true;
+        self.differences += 1;
+        println!("DIFFERENCE {}", self.differences);
+        log::print(&self.steps, words);
+        println!();
+    }
+
+    /// Counts what the call covered.
+    fn note(&mut self, step: &Step, outcome: &Outcome) {
+        let number = (outcome.result >> 16) as usize;
+        let seen = &mut self.seen;
+        match &step.call {
+            Call::Measure(..) => return,
+            Call::PowerUp(_) => seen.power_up[number] += 1,
+            Call::Byte(_) => seen.byte[number] += 1,
+            Call::Event(..) => {
+                seen.event[number] += 1;
+                if number == 0 {
+                    let counts = outcome.result as usize;
+                    seen.sampled[counts / 256][counts % 256] += 1;
+                }
+            }
+            Call::Slot(room) => {
+                seen.slot[number] += 1;
+                seen.room[*room] += 1;
+            }
+        }
+        if number == 10 {
+            match WRONG_SIZES.iter().position(|size| *size == step.state) {
+                Some(at) => seen.wrong_size[at] += 1,
+                None => seen.never_powered += 1,
+            }
+        } else if matches!(step.call, Call::Byte(_) | Call::Event(..)) {
+            let place = |length| LENGTHS.iter().position(|l| *l == length);
+            place(step.cal)
+                .into_iter()
+                .for_each(|i| seen.cal_length[i] += 1);
+            place(step.meas)
+                .into_iter()
+                .for_each(|i| seen.meas_length[i] += 1);
+        }
+    }
+
+    pub fn power_up(&mut self, start: u32) {
+        self.call(Call::PowerUp(start));
+        self.asked = None;
+        self.ctr = 0;
+    }
+
+    pub fn byte(&mut self, byte: u8) -> u32 {
+        let number = self.call(Call::Byte(byte)).result >> 16;
+        if number == 1 {
+            // Which command that was is known only where a whole packet was sent.
+            self.asked = None;
+        }
+        number
+    }
+
+    /// All bytes; the number of the last.
+    pub fn wire(&mut self, bytes: &[u8]) -> u32 {
+        bytes.iter().fold(0, |_, byte| self.byte(*byte))
+    }
+
+    /// A whole message; the number of its last byte.
+    pub fn send(&mut self, packet: &[u8]) -> u32 {
+        let ctr = self.dice.byte();
+        let number = self.wire(&wire::frame(ctr, packet));
+        if number == 1 {
+            self.asked = Some(packet[0]);
+        }
+        number
+    }
+
+    pub fn event(&mut self, event: u32, clock: u16) {
+        self.call(Call::Event(event, clock));
+    }
+
+    pub fn measure(&mut self, at: u16, bytes: &[u8]) {
+        self.call(Call::Measure(at, bytes.to_vec()));
+    }
+
+    /// A slot; its packet, if it sent one.
+    pub fn slot(&mut self, room: usize) -> Option<Vec<u8>> {
+        let outcome = self.call(Call::Slot(room));
+        if outcome.frame.is_empty() {
+            let idle = room >= AMPLE && !self.broken;
+            self.seen.no_frame += u64::from(idle);
+            return None;
+        }
+        match wire::unframe(&outcome.frame) {
+            Some((ctr, packet)) if ctr == self.ctr => {
+                self.sent(&outcome.frame, &packet);
+                Some(packet)
+            }
+            _ => {
+                self.differ("both slaves sent this, which is no frame or has a wrong CTR");
+                None
+            }
+        }
+    }
+
+    fn sent(&mut self, frame: &[u8], packet: &[u8]) {
+        let seen = &mut self.seen;
+        match packet[0] {
+            number @ 0..=7 => seen.list_frame[number as usize] += 1,
+            _ => {
+                seen.answer_frame += 1;
+                if let Some(code) = self.asked.take() {
+                    seen.answer(code, packet);
+                }
+            }
+        }
+        let special = |byte: u8| matches!(byte, wire::SYNC | wire::ESC);
+        let escapes = frame.iter().filter(|b| **b == wire::ESC).count();
+        let (ctr, inside) = (
+            usize::from(special(self.ctr)),
+            packet.iter().filter(|b| special(**b)).count(),
+        );
+        seen.escaped[0] += ctr as u64;
+        seen.escaped[1] += u64::from(inside > 0);
+        seen.escaped[2] += (escapes - ctr - inside) as u64;
+        seen.wrapped += u64::from(self.ctr == 255);
+        self.ctr = self.ctr.wrapping_add(1);
+    }
+
+    /// Sends a command and has slots until its answer comes.
+    pub fn ask(&mut self, packet: &[u8]) -> Option<Vec<u8>> {
+        if self.send(packet) != 1 {
+            return None;
+        }
+        // An answer leaves in the first or second slot.
+        self.answer().or_else(|| self.answer())
+    }
+
+    fn answer(&mut self) -> Option<Vec<u8>> {
+        let packet = self.slot(AMPLE)?;
+        (packet[0] >= 0xFE).then_some(packet)
+    }
+
+    /// A call with a state of the wrong size, which only the proved slave can be given.
+    pub fn wrong_size(&mut self) {
+        let size = self.dice.one_of(&WRONG_SIZES);
+        let call = match self.dice.below(4) {
+            0 => Call::PowerUp(self.dice.number()),
+            1 => Call::Byte(self.dice.byte()),
+            // 10 comes before 8 and 9.
+            2 => Call::Event(self.dice.below(3) as u32, self.dice.number() as u16),
+            _ => Call::Slot(self.dice.one_of(&[0, 22, 23, 30])),
+        };
+        self.call_with(call, size);
+    }
+}

@@ -1,0 +1,93 @@
+//! The commands: each checks in the paper's order and changes things only after its last check.
+
+mod access;
+mod daq;
+mod standard;
+
+use crate::packet::Packet;
+use crate::seed::Generator;
+use crate::session::Session;
+
+/// A good answer, or the FE answer of a refusal.
+type Answer = Result<Packet, Packet>;
+
+const LIST_RUNS: u8 = 0x11;
+const UNKNOWN: u8 = 0x20;
+/// Too short for its command, or data missing.
+const SHORT: u8 = 0x21;
+const RANGE: u8 = 0x22;
+const WRITE_PROTECTED: u8 = 0x23;
+const NOT_INSIDE: u8 = 0x24;
+const LOCKED: u8 = 0x25;
+const SEQUENCE: u8 = 0x29;
+const UNFIT: u8 = 0x2A;
+
+/// Whether this packet opens a session when there is none.
+pub fn is_good_connect(packet: &[u8]) -> bool {
+    packet.len() >= 2 && packet[0] == 0xFF && packet[1] == 0
+}
+
+/// Carries out a command and gives the answer that is to wait.
+pub fn answer(
+    session: &mut Session,
+    generator: &mut Generator,
+    packet: &[u8],
+    cal: &mut [u8],
+    meas: &[u8],
+) -> Packet {
+    let result = match packet[0] {
+        0xFF => session.connect(packet),
+        0xFE => session.disconnect(),
+        0xFD => session.get_status(),
+        0xFC => session.synch(),
+        0xF8 => session.get_seed(packet, generator),
+        0xF7 => session.unlock(packet),
+        0xF6 => session.set_mta(packet),
+        0xF5 => session.upload(packet, cal, meas),
+        0xF4 => session.short_upload(packet, cal, meas),
+        0xF3 => session.build_checksum(packet, cal, meas),
+        0xF0 => session.download(packet, cal),
+        0xE3 => session.clear_daq_list(packet),
+        0xE2 => session.set_daq_ptr(packet),
+        0xE1 => session.write_daq(packet, cal, meas),
+        0xE0 => session.set_daq_list_mode(packet),
+        0xDE => session.start_stop_daq_list(packet),
+        0xDD => session.start_stop_synch(packet),
+        0xDA => session.get_daq_processor_info(),
+        0xD9 => session.get_daq_resolution_info(),
+        _ => Err(refusal(UNKNOWN)),
+    };
+    match result {
+        Ok(packet) | Err(packet) => packet,
+    }
+}
+
+/// The plain good answer.
+fn done() -> Answer {
+    Ok(Packet::new(&[0xFF]))
+}
+
+fn refusal(code: u8) -> Packet {
+    Packet::new(&[0xFE, code])
+}
+
+/// One check of a command; where it fails, its code is the answer.
+fn check(good: bool, code: u8) -> Result<(), Packet> {
+    if good {
+        Ok(())
+    } else {
+        Err(refusal(code))
+    }
+}
+
+fn at_least(packet: &[u8], fewest: usize) -> Result<(), Packet> {
+    check(packet.len() >= fewest, SHORT)
+}
+
+fn number16(packet: &[u8], at: usize) -> u16 {
+    u16::from_le_bytes([packet[at], packet[at + 1]])
+}
+
+fn number32(packet: &[u8], at: usize) -> u32 {
+    u32::from_le_bytes([packet[at], packet[at + 1], packet[at + 2], packet[at + 3]])
+}

@@ -1,0 +1,47 @@
+//! Seed and key: a guard against mistakes, not thieves.
+
+/// Marsaglia's 32-bit xorshift.
+#[derive(Clone, Copy, Debug, PartialEq, Eq)]
+pub struct Generator(u32);
+
+impl Generator {
+    /// Takes the place of a start of 0, from which the generator would never leave 0.
+    pub const DEFAULT: u32 = 0x2545_F491;
+
+    pub fn new(start: u32) -> Generator {
+        Generator(if start == 0 { Self::DEFAULT } else { start })
+    }
+
+    /// Steps on; each seed given is the next state.
+    pub fn step(&mut self) -> u32 {
+        self.0 ^= self.0 << 13;
+        self.0 ^= self.0 >> 17;
+        self.0 ^= self.0 << 5;
+        self.0
+    }
+}
+
+#[derive(Clone, Copy, Debug, PartialEq, Eq)]
+pub enum Resource {
+    Calibration,
+    Lists,
+}
+
+impl Resource {
+    pub fn from_mask(mask: u8) -> Option<Resource> {
+        match mask {
+            0x01 => Some(Resource::Calibration),
+            0x04 => Some(Resource::Lists),
+            _ => None,
+        }
+    }
+
+    /// The key that opens this resource after this seed.
+    pub fn key(self, seed: u32) -> u32 {
+        let offset = match self {
+            Resource::Calibration => 0x0000_D05E,
+            Resource::Lists => 0x0000_DA00,
+        };
+        seed.wrapping_add(offset).rotate_left(8)
+    }
+}
