@@ -1,0 +1,27 @@
+-- The line that a slot prints.
+use Prim.Native.Nat.{ℕ, _+_, _-_, _/_, _%_}
+use mathlib.Core.Path.{_≡_}
+use mathlib.Core.Bool.{cond}
+use mathlib.Core.List.{List, [], _∷_}
+use lib.Dec.{ltb}
+use lib.ListN.{length}
+use lib.Seq.{sets}
+
+-- 0 to 9, A to F
+abbrev pub digitOf : ℕ → ℕ
+digitOf n = cond (ltb n 10) (48 + n) (65 + (n - 10))
+
+-- a space and two digits for each byte, then LF
+unfoldable pub restOf : List ℕ → List ℕ
+restOf [] = 10 ∷ []
+restOf (b ∷ bs) = 32 ∷ digitOf (b / 16) ∷ digitOf (b % 16) ∷ restOf bs
+
+-- capital hex with single spaces, or - for no frame
+unfoldable pub lineOf : List ℕ → List ℕ
+lineOf [] = 45 ∷ 10 ∷ []
+lineOf (b ∷ bs) = digitOf (b / 16) ∷ digitOf (b % 16) ∷ restOf bs
+
+-- xs stored in l from `at` on gives l′, and r is the place after them
+pub record Stored (l : List ℕ) (at : ℕ) (xs : List ℕ) (l′ : List ℕ) (r : ℕ) : Type 0 where
+  pub next : r ≡ at + length xs
+  pub bytes : l′ ≡ sets l at xs

@@ -1,0 +1,94 @@
+// The log on standard input, taken in chunks.
+ghost use mathlib.Core.Path.{_≡_};
+ghost use Prim.Native.Nat.{_+_, _≤_};
+ghost use lib.ListN.{length};
+ghost use Rattle.replay.specs.Log.{Keeps};
+use crate::record;
+use crate::run;
+
+// Whether there is more to read, and how many bytes of a record are kept for it.
+enum Progress {
+    Over,
+    On { kept: usize },
+}
+
+fn say_bad() {
+    io::write_all(1, b"bad\n");
+}
+
+// Reads once, after the kept bytes, and answers how many bytes there are then. A read error counts
+// as end of input.
+fn read_after(input: &mut [u8], kept: usize) -> usize
+    requires { ⌜ kept ≤ length (now input) ⌝ }
+    ensures { λ r. ⌜ (kept ≤ r) × (r ≤ length (now (input .entry))) ⌝ }
+{
+    let part = &mut input[kept..];
+    let got = libc::read(0, part);
+    kept + io::count(got, part)
+}
+
+// Moves the bytes from..end to the front and answers how many they are.
+fn keep(input: &mut [u8], from: usize, end: usize) -> usize
+    requires { ⌜ (from ≤ end) × (end ≤ length (now input)) ⌝ }
+    ensures { λ r. ⌜ r ≤ length (now (input .entry)) ⌝ }
+{
+    let n = end - from;
+    let mut i = 0;
+    while i < n {
+        input[i] = input[from + i];
+        i += 1;
+    }
+    n
+}
+
+// One read, and the records that are then whole.
+fn take_chunk(
+    input: &mut [u8],
+    kept: usize,
+    state: &mut [u8; 247],
+    cal: &mut [u8; 4096],
+    meas: &mut [u8; 4096],
+    output: &mut [u8],
+) -> Progress
+    requires { ⌜ (kept ≤ length (now input)) × (71 ≤ length (now output)) ⌝ }
+    ensures { λ r. ⌜ Keeps (length (now (input .entry))) r ⌝ }
+{
+    let end = read_after(input, kept);
+    if end == kept {
+        // What is left of the input is a cut record.
+        if 0 < kept {
+            say_bad();
+        }
+        return Progress::Over;
+    }
+    let ran = run::run_all(&input[..end], state, cal, meas, output);
+    let filled = ran.filled;
+    io::write_all(1, &output[..filled]);
+    let at = ran.at;
+    if record::is_bad(record::record_at(&input[..end], at)) {
+        say_bad();
+        return Progress::Over;
+    }
+    Progress::On {
+        kept: keep(input, at, end),
+    }
+}
+
+// Replays the whole log. Nothing says that input ends, and a proved loop has to: it counts its
+// reads, of at least a byte each, down from a number that no log uses up.
+pub fn replay(state: &mut [u8; 247], cal: &mut [u8; 4096], meas: &mut [u8; 4096]) {
+    let mut input = io::large_buffer();
+    let mut output = io::large_buffer();
+    let mut kept = 0;
+    let mut reads = u64::MAX;
+    while 0 < reads {
+        let progress = take_chunk(&mut input, kept, state, cal, meas, &mut output);
+        match progress {
+            Progress::Over => return,
+            Progress::On { kept: k } => {
+                kept = k;
+            }
+        }
+        reads -= 1;
+    }
+}

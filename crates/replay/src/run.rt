@@ -1,0 +1,136 @@
+// What the records do.
+ghost use mathlib.Core.Path.{_≡_};
+ghost use Prim.Native.Nat.{_+_, _*_, _≤_, _<_};
+ghost use lib.ListN.{length};
+ghost use Rattle.replay.specs.Record.{Inside};
+use crate::record;
+use crate::record::Record;
+use crate::text;
+use session::Slotted;
+
+// The longest frame.
+const ROOM: usize = 23;
+
+// What a line is given: three characters for each byte of a frame, and two for none.
+const LINE: usize = 71;
+
+// How far the records of a chunk were run, and how much of the output they fill.
+pub struct Ran {
+    pub at: usize,
+    pub filled: usize,
+}
+
+// Wire bytes go to the slave one by one.
+fn wire(bytes: &[u8], state: &mut [u8; 247], cal: &mut [u8; 4096], meas: &[u8; 4096]) {
+    let mut i = 0;
+    while i < bytes.len() {
+        session::receive_byte(state, cal, meas, bytes[i]);
+        i += 1;
+    }
+}
+
+fn set_measured(bytes: &[u8], meas: &mut [u8; 4096], offset: usize)
+    requires { ⌜ offset + length (now bytes) ≤ 4096 ⌝ }
+{
+    let mut i = 0;
+    while i < bytes.len() {
+        meas[offset + i] = bytes[i];
+        i += 1;
+    }
+}
+
+// The size of the frame that a slot wrote.
+fn size_of(slotted: Slotted) -> usize
+    ensures { λ r. ⌜ r ≤ 23 ⌝ }
+{
+    match slotted {
+        Slotted::Idle => 0,
+        Slotted::Sent { size } => if size < ROOM { size } else { ROOM },
+        Slotted::NoRoom => 0,
+        Slotted::NoState => 0,
+    }
+}
+
+// Writes the gathered lines out where one more might not fit, and answers what is then filled.
+fn make_room(output: &[u8], filled: usize) -> usize
+    requires { ⌜ (filled ≤ length (now output)) × (71 ≤ length (now output)) ⌝ }
+    ensures { λ r. ⌜ r + 71 ≤ length (now (output .entry)) ⌝ }
+{
+    if output.len() - filled < LINE {
+        io::write_all(1, &output[..filled]);
+        return 0;
+    }
+    filled
+}
+
+fn slot(state: &mut [u8; 247], output: &mut [u8], filled: usize) -> usize
+    requires { ⌜ (filled ≤ length (now output)) × (71 ≤ length (now output)) ⌝ }
+    ensures { λ r. ⌜ r ≤ length (now (output .entry)) ⌝ }
+{
+    let mut frame = [0; 23];
+    let size = size_of(session::slot(state, &mut frame));
+    let at = make_room(output, filled);
+    text::put_line(&frame[..size], output, at)
+}
+
+// Runs one record and answers how much of the output is then filled.
+fn run(
+    found: Record,
+    bytes: &[u8],
+    state: &mut [u8; 247],
+    cal: &mut [u8; 4096],
+    meas: &mut [u8; 4096],
+    output: &mut [u8],
+    filled: usize,
+) -> usize
+    requires { ⌜ Inside (length (now bytes)) found × (filled ≤ length (now output)) × (71 ≤ length (now output)) ⌝ }
+    ensures { λ r. ⌜ r ≤ length (now (output .entry)) ⌝ }
+{
+    match found {
+        Record::End => filled,
+        Record::More => filled,
+        Record::Bad => filled,
+        Record::Wire { from, len } => {
+            let end = from + len;
+            wire(&bytes[from..end], state, cal, meas);
+            filled
+        }
+        Record::Event { event, clock } => {
+            session::event(state, cal, meas, event as u32, clock);
+            filled
+        }
+        Record::Slot => slot(state, output, filled),
+        Record::Measured { from, offset, len } => {
+            let end = from + len;
+            set_measured(&bytes[from..end], meas, offset);
+            filled
+        }
+    }
+}
+
+// Runs the records of a chunk in order, up to the first that is bad or not whole.
+pub fn run_all(
+    bytes: &[u8],
+    state: &mut [u8; 247],
+    cal: &mut [u8; 4096],
+    meas: &mut [u8; 4096],
+    output: &mut [u8],
+) -> Ran
+    requires { ⌜ 71 ≤ length (now output) ⌝ }
+    ensures { λ r. ⌜ (r .at ≤ length (now (bytes .entry))) × (r .filled ≤ length (now (output .entry))) ⌝ }
+{
+    let mut at = 0;
+    let mut filled = 0;
+    let mut found = record::record_at(bytes, at);
+    let mut next = record::next(found, at);
+    while at < next {
+        filled = run(found, bytes, state, cal, meas, output, filled);
+        at = next;
+        found = record::record_at(bytes, at);
+        next = record::next(found, at);
+    }
+    Ran {
+        at: at,
+        filled: filled,
+    }
+}
