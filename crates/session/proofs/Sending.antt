@@ -1,10 +1,10 @@
 -- What a slot sends: the packet that it lends to the line, and that its ODT is one of the eight. Assumes nothing.
 use mathlib.Core.Path.{_≡_}
 use mathlib.Core.List.{List, _∷_}
-use Prim.Native.Nat.{ℕ, zero, suc, _+_, _%_, _<_}
+use Prim.Native.Nat.{ℕ, suc, _+_, _<_}
 use native.Mathlib.Numerals.{add-one}
 use native.Mathlib.Omega.{arith}
-use lib.Dec.{ltb}
+use lib.Dec.{ltb, lit<}
 use lib.ListN.{length, getD, set, take, drop, length-set}
 use lib.Seq.{drop-cons, getD-set-same, drop-set-lt}
 use Rattle.line.proofs.Laws.{cond-ind}
@@ -12,9 +12,10 @@ use Rattle.session.specs.Layout.{lists, servedAt, lastAt, firstOdt}
 use Rattle.session.specs.Bytes.{block}
 use Rattle.session.specs.State.{flagOf, answerLength}
 use Rattle.session.specs.Lists.{runsOf, storedLength}
-use Rattle.session.specs.Slot.{packetIn, orElse, roundFrom, turnOf}
+use Rattle.session.specs.Slot.{packetIn, roundFrom, turnOf}
 use Rattle.session.specs.declared.Turn.{Turn}
 use Rattle.session.specs.declared.Turn.the-variants.{Nobody, Answer, Packet}
+use Rattle.session.proofs.Round.{or-holds, round-holds}
 
 -- a number put before n bytes
 pub numbered : (s : List ℕ) (at k n : ℕ) → at < length s → take (suc n) (drop at (set s at k)) ≡ k ∷ block s (at + 1) n
@@ -36,20 +37,10 @@ packet-within s l h =
     (λ _. cond-ind Within (ltb 0 (storedLength s (firstOdt l + 1))) (λ _. omega arith) (λ _. tt)))
     (λ _. tt)
 
-or-within : (t u : Turn) → Within t → Within u → Within (orElse t u)
-or-within Nobody u p q = q
-or-within Answer u p q = tt
-or-within (Packet k) u p q = p
-
-round-within : (s : List ℕ) (l n : ℕ) → Within (roundFrom s l n)
-unfolding roundFrom
-round-within s l zero = tt
-round-within s l (suc n) = or-within (packetIn s (l % lists)) (roundFrom s (l + 1) n) (packet-within s (l % lists) (omega arith)) (round-within s (l + 1) n)
-
 pub turn-within : (s : List ℕ) → Within (turnOf s)
 unfolding turnOf
 turn-within s =
-    let round = round-within s (getD s servedAt 0 + 1) lists in
+    let round = round-holds Within lists (packetIn s) (lit< tt) tt (packet-within s) (getD s servedAt 0 + 1) lists in
     cond-ind Within (ltb 0 (answerLength s))
-    (λ _. cond-ind Within (flagOf s lastAt) (λ _. or-within (roundFrom s (getD s servedAt 0 + 1) lists) Answer round tt) (λ _. tt))
+    (λ _. cond-ind Within (flagOf s lastAt) (λ _. or-holds Within (roundFrom lists (packetIn s) (getD s servedAt 0 + 1) lists) Answer round tt) (λ _. tt))
     (λ _. round)

@@ -31,19 +31,19 @@ orElse Nobody t = t
 orElse Answer t = Answer
 orElse (Packet k) t = Packet k
 
--- the round: the next n lists from l on
-unfoldable pub roundFrom : List ℕ → ℕ → ℕ → Turn
-roundFrom s l zero = Nobody
-roundFrom s l (suc n) = orElse (packetIn s (l % lists)) (roundFrom s (l + 1) n)
+-- the round over L lists, of which `next l` is list l's next packet: the next n of them from l on
+unfoldable pub roundFrom : ℕ → (ℕ → Turn) → ℕ → ℕ → Turn
+roundFrom L next l zero = Nobody
+roundFrom L next l (suc n) = orElse (next (l % L)) (roundFrom L next (l + 1) n)
 
 -- an answer goes if one waits and the last frame was not an answer; else the next list after the last one served; else an answer
 unfoldable pub turnOf : List ℕ → Turn
 turnOf s =
     cond (waits s)
     (cond (flagOf s lastAt)
-    (orElse (roundFrom s (getD s servedAt 0 + 1) lists) Answer)
+    (orElse (roundFrom lists (packetIn s) (getD s servedAt 0 + 1) lists) Answer)
     Answer)
-    (roundFrom s (getD s servedAt 0 + 1) lists)
+    (roundFrom lists (packetIn s) (getD s servedAt 0 + 1) lists)
 
 -- the packet of ODT k: its number, and what was captured
 unfoldable pub packetOf : List ℕ → ℕ → List ℕ

@@ -31,7 +31,7 @@ fn packet_in(s: &[u8], l: usize) -> Turn
 // The next list after the last one served that has a packet.
 fn round(s: &[u8]) -> Turn
     requires { ⌜ length (now s) ≡ size ⌝ }
-    ensures { λ r. ⌜ r ≡ roundFrom (now (s .entry)) (getD (now (s .entry)) servedAt 0 + 1) lists ⌝ }
+    ensures { λ r. ⌜ r ≡ roundFrom lists (packetIn (now (s .entry))) (getD (now (s .entry)) servedAt 0 + 1) lists ⌝ }
 {
     let mut l = s[layout::SERVED] as usize + 1;
     let mut n: usize = 4;
