@@ -16,12 +16,3 @@ pub mod Round
 pub mod Sending
 pub mod Consistent
 pub mod Sizes
--- Laws of the state's fields, and that every reachable state is consistent.
-pub mod Stores
-pub mod Fields
-pub mod Frames
-pub mod Readers
-pub mod Effects
-pub mod Captures
-pub mod Served
-pub mod Kept

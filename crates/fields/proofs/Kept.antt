@@ -14,32 +14,32 @@ use Rattle.line.specs.declared.Outcome.{Outcome}
 use Rattle.line.specs.declared.Outcome.the-variants as line
 use Rattle.line.proofs.Laws.{cond-ind}
 use Rattle.line.proofs.After.{take-length}
 use Rattle.session.specs.Layout.{mark, size, lists, modeAt, selectedAt, runningAt, entriesAt, entryAt, sampleAt, firstOdt, listOf}
 use Rattle.session.specs.Bytes.{u32At, put16, put32, block, cleared}
 use Rattle.session.specs.Generator.{startOf, nextOf}
 use Rattle.session.specs.State.{consistent, flagOf, openOf, generatorOf, setGenerator, lockAt, setSeed, setMta, setPointer, placeOf, messageOf, waits, answerKind, answered}
 use Rattle.session.specs.Lists.{runsOf, restarted, listCleared, modeSet, tagOf, entryCleared, entrySet, stopEach, startOne, startSelected, stopSelected}
 use Rattle.session.specs.Judge.{judge}
 use Rattle.session.specs.Perform.{nextEntry, effect, reply, after}
 use Rattle.session.specs.Receive.{Step, greets, heeded, meant, readOn, fedOf, receiveOf}
 use Rattle.session.specs.Event.{stored, captured, samplingOf, sampledState, tally, Happened, eventOf}
 use Rattle.session.specs.Slot.{Slot, turnOf, nextCtr, answerSent, packetSent, sentBy, slotOf}
 use Rattle.session.specs.PowerUp.{powered, powerUpOf}
 use Rattle.session.specs.declared.Extension.{Extension}
 use Rattle.session.specs.declared.Seed.{Seed}
 use Rattle.session.specs.declared.Seed.the-variants.{None, For}
 use Rattle.session.specs.declared.Mta.{Mta}
 use Rattle.session.specs.declared.Pointer.{Pointer}
 use Rattle.session.specs.declared.Sampling.{Sampling}
 use Rattle.session.specs.declared.Sampling.the-variants.{Idle, Sampled, Missed}
 use Rattle.session.specs.declared.Turn.{Turn}
 use Rattle.session.specs.declared.Turn.the-variants.{Nobody, Answer, Packet}
 use Rattle.session.specs.declared.Deed.{Deed}
 use Rattle.session.specs.declared.Deed.the-variants.{Refuse, RefuseSize, WrongKey, Connect, Disconnect, Status, Synch, NoSeed, GiveSeed, Unlock, SetMta, Upload, ShortUpload, Checksum, Download, ClearList, SetPointer, ClearEntry, WriteEntry, SetMode, Stop, Start, KeepRunning, Select, StopAll, StartSelected, StopSelected, ProcessorInfo, ResolutionInfo}
 use Rattle.session.proofs.Sets.{block-length}
 use Rattle.session.proofs.Consistent.{consistent-size}
-use Rattle.session.proofs.Stores.{take-sets}
-use Rattle.session.proofs.Frames.{Only, only-take, only-generator, only-lock, only-seed, only-mta, only-pointer, only-closed, only-fresh, only-readOn}
+use Rattle.fields.proofs.Stores.{take-sets}
+use Rattle.fields.proofs.Frames.{Only, only-take, only-generator, only-lock, only-seed, only-mta, only-pointer, only-closed, only-fresh, only-readOn}
 
 -- ---- t has the length of s and its first four bytes
 pub record Marked (s t : List ℕ) : Type 0 where

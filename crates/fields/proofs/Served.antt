@@ -8,13 +8,13 @@ use native.Mathlib.Omega.{arith}
 use lib.Dec.{lit<, lit≤}
 use lib.ListN.{length, getD, set, length-set}
 use lib.Seq.{getD-set-same, getD-set-other}
 use Rattle.session.specs.Layout.{size, sampleAt, listOf}
 use Rattle.session.specs.State.{waits, answerLength, answerKind}
 use Rattle.session.specs.Lists.{storedLength}
 use Rattle.session.specs.Slot.{nextCtr, answerSent, packetSent}
-use Rattle.session.proofs.Fields.{empty-stored}
-use Rattle.session.proofs.Frames.{Only, only-then, only-set}
-use Rattle.session.proofs.Readers.{Same, before, behind, same-then, stored-reads}
+use Rattle.fields.proofs.Fields.{empty-stored}
+use Rattle.fields.proofs.Frames.{Only, only-then, only-set}
+use Rattle.fields.proofs.Readers.{Same, before, behind, same-then, stored-reads}
 
 -- ---- an answer
 -- the session, the reader and its message

@@ -12,23 +12,23 @@ use lib.Seq.{sets, getD-set-same, getD-set-other, set-getD}
 use Rattle.line.specs.declared.Place.{Place}
 use Rattle.line.specs.declared.Place.the-variants.{Outside, Inside, Escaped}
 use Rattle.line.proofs.Laws.{cond-ind}
 use Rattle.session.specs.Layout.{size, generatorAt, mtaAt, addressAt, runningAt, sampleAt, placeAt, countAt, answerAt}
 use Rattle.session.specs.Bytes.{u32At, put32, block}
 use Rattle.session.specs.Generator.{startOf}
 use Rattle.session.specs.State.{flagOf, generatorOf, setGenerator, openOf, lockAt, unlockedOf, seedOf, setSeed, mtaTag, mtaOf, setMta, pointerOf, setPointer, Pointed, closed, fresh, placeOf, setPlace, answerLength, waits, answerKind, answerOf, answered}
 use Rattle.session.specs.Lists.{runsOf, anyRuns, leastOf, storedLength}
 use Rattle.session.specs.declared.Resource.{Resource}
 use Rattle.session.specs.declared.Resource.the-variants.{Calibration, Lists}
 use Rattle.session.specs.declared.Extension.{Extension}
 use Rattle.session.specs.declared.Extension.the-variants.{Calibration as CalibrationMemory, Measured}
 use Rattle.session.specs.declared.Seed.{Seed}
 use Rattle.session.specs.declared.Seed.the-variants.{None, For}
 use Rattle.session.specs.declared.Mta.{Mta}
 use Rattle.session.specs.declared.Mta.the-variants.{Unset, At}
 use Rattle.session.specs.declared.Pointer.{Pointer}
 use Rattle.session.specs.declared.Pointer.the-variants.{Unset as NoEntry, At as Entry}
 use Rattle.session.proofs.Sets.{cleared-length}
-use Rattle.session.proofs.Stores.{set-out, put32-out, put32-same, sets-in, block-sets, cleared-in}
+use Rattle.fields.proofs.Stores.{set-out, put32-out, put32-same, sets-in, block-sets, cleared-in}
 
 -- ---- a field reads as it was set
 -- an address that four bytes hold

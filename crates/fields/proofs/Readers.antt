@@ -10,15 +10,15 @@ use lib.ListN.{length, getD, drop, set, length-take, length-drop, length-set}
 use lib.Seq.{getD-take, getD-drop, ext-getD, getD-set-same, getD-set-other, set-out}
 use Rattle.line.specs.Unstuffing.{Fed}
 use Rattle.line.proofs.Laws.{cond-ind}
 use Rattle.session.specs.Layout.{size}
 use Rattle.session.specs.Bytes.{u16At, u32At, block}
 use Rattle.session.specs.State.{consistent, flagOf, generatorOf, openOf, unlockedOf, maskOf, seedOf, mtaOf, pointerOf, placeOf, messageOf, answerLength, waits, answerKind, answerOf, answered, setSeed}
 use Rattle.session.specs.Lists.{sizeOf, extensionOf, addressOf, odtBytes, modeOf, fitOf, runsOf, anyRuns, storedLength}
 use Rattle.session.specs.Receive.{readOn}
 use Rattle.session.specs.declared.Seed.{Seed}
 use Rattle.session.specs.declared.Resource.{Resource}
 use Rattle.session.specs.declared.Resource.the-variants.{Calibration, Lists}
-use Rattle.session.proofs.Frames.{Only, out-below, out-above, only-seed, only-readOn, only-answered}
+use Rattle.fields.proofs.Frames.{Only, out-below, out-above, only-seed, only-readOn, only-answered}
 
 -- ---- t is as long as s and has its bytes from a up to b
 pub record Same (a b : ℕ) (s t : List ℕ) : Type 0 where

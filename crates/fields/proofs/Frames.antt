@@ -12,20 +12,20 @@ use Rattle.line.specs.Unstuffing.{Fed}
 use Rattle.line.specs.declared.Place.{Place}
 use Rattle.line.specs.declared.Place.the-variants.{Outside, Inside, Escaped}
 use Rattle.line.proofs.Laws.{cond-ind}
 use Rattle.session.specs.Layout.{size, placeAt, answerAt}
 use Rattle.session.specs.Bytes.{put16, put32, cleared}
 use Rattle.session.specs.State.{setGenerator, lockAt, setSeed, mtaTag, setMta, setPointer, closed, fresh, setPlace, setMessage, answered}
 use Rattle.session.specs.Receive.{readOn}
 use Rattle.session.specs.declared.Resource.{Resource}
 use Rattle.session.specs.declared.Resource.the-variants.{Calibration, Lists}
 use Rattle.session.specs.declared.Seed.{Seed}
 use Rattle.session.specs.declared.Seed.the-variants.{None, For}
 use Rattle.session.specs.declared.Mta.{Mta}
 use Rattle.session.specs.declared.Mta.the-variants.{Unset, At}
 use Rattle.session.specs.declared.Pointer.{Pointer}
 use Rattle.session.specs.declared.Pointer.the-variants.{Unset as NoEntry, At as Entry}
 use Rattle.session.proofs.Sets.{put16-length, put32-length, cleared-length}
-use Rattle.session.proofs.Stores.{out, set-out, put16-out, put32-out, sets-out, cleared-out, take-sets}
+use Rattle.fields.proofs.Stores.{out, set-out, put16-out, put32-out, sets-out, cleared-out, take-sets}
 
 -- ---- t differs from s in the bytes from lo up to hi alone
 pub record Only (lo hi : ℕ) (s t : List ℕ) : Type 0 where

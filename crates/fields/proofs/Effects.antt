@@ -7,23 +7,23 @@ use native.Mathlib.Omega.{arith}
 use lib.Dec.{T, leb, lit≤}
 use lib.ListN.{length, getD, set, length-take}
 use Rattle.line.proofs.Laws.{cond-ind}
 use Rattle.session.specs.Layout.{size, modeAt, selectedAt, runningAt, entriesAt, entryAt, sampleAt, firstOdt, listOf}
 use Rattle.session.specs.Bytes.{block, cleared}
 use Rattle.session.specs.Generator.{nextOf}
 use Rattle.session.specs.Memory.{pick}
 use Rattle.session.specs.State.{flagOf, generatorOf, setGenerator, lockAt, setSeed, setMta, setPointer, placeOf, messageOf, waits, answerOf}
 use Rattle.session.specs.Lists.{runsOf, restarted, listCleared, modeSet, tagOf, entryCleared, entrySet, stopEach, startOne, startSelected, stopSelected}
 use Rattle.session.specs.Doable.{Doable}
 use Rattle.session.specs.Perform.{nextEntry, effect, reply, after}
 use Rattle.session.specs.declared.Extension.{Extension}
 use Rattle.session.specs.declared.Seed.the-variants.{None, For}
 use Rattle.session.specs.declared.Mta.{Mta}
 use Rattle.session.specs.declared.Pointer.{Pointer}
 use Rattle.session.specs.declared.Deed.{Deed}
 use Rattle.session.specs.declared.Deed.the-variants.{Refuse, RefuseSize, WrongKey, Connect, Disconnect, Status, Synch, NoSeed, GiveSeed, Unlock, SetMta, Upload, ShortUpload, Checksum, Download, ClearList, SetPointer, ClearEntry, WriteEntry, SetMode, Stop, Start, KeepRunning, Select, StopAll, StartSelected, StopSelected, ProcessorInfo, ResolutionInfo}
-use Rattle.session.proofs.Fields.{kindly, Answering, answer-same, waits-answered}
-use Rattle.session.proofs.Frames.{Only, only-none, only-then, only-wider, only-set, only-put16, only-cleared, only-generator, only-lock, only-seed, only-mta, only-pointer, only-closed, only-fresh}
-use Rattle.session.proofs.Readers.{Same, apart, same-then, place-reads, message-reads}
+use Rattle.fields.proofs.Fields.{kindly, Answering, answer-same, waits-answered}
+use Rattle.fields.proofs.Frames.{Only, only-none, only-then, only-wider, only-set, only-put16, only-cleared, only-generator, only-lock, only-seed, only-mta, only-pointer, only-closed, only-fresh}
+use Rattle.fields.proofs.Readers.{Same, apart, same-then, place-reads, message-reads}
 
 -- ---- the lists' changes
 only-cond : {lo hi : ℕ} {s t u : List ℕ} (b : Bool) → Only lo hi s t → Only lo hi s u → Only lo hi s (cond b t u)

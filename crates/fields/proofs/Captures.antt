@@ -9,13 +9,13 @@ use lib.Dec.{eqb, ltb, lit≤}
 use lib.ListN.{length}
 use Rattle.line.proofs.Laws.{cond-ind}
 use Rattle.line.proofs.Stuffed.{false-true}
 use Rattle.session.specs.Layout.{entries, sampleAt, firstOdt}
 use Rattle.session.specs.State.{consistent, flagOf, openOf}
 use Rattle.session.specs.Lists.{odtBytes, modeOf, fitOf, runsOf}
 use Rattle.session.specs.Event.{unsent, samplingOf, gathered, stored, captured, sampledState, tally, Happened, eventOf}
 use Rattle.session.specs.declared.Sampling.{Sampling}
 use Rattle.session.proofs.Gathered.{gathered-odt}
-use Rattle.session.proofs.Frames.{Only, only-none, only-then, only-sets}
+use Rattle.fields.proofs.Frames.{Only, only-none, only-then, only-sets}
 
 -- a list that can be started has packets that fit
 abbrev pub Fits : List ℕ → ℕ → Type 0

@@ -1,0 +1,1 @@
+// No code: laws of the session's state, in proofs/.
