@@ -1,5 +1,5 @@
 -- What a deed changes of the state, and that its answer is read as it was given. Assumes nothing.
-use Prim.Native.Nat.{ℕ, zero, suc, _+_, _≤_, _<_}
+use Prim.Native.Nat.{ℕ, zero, suc, _+_, _*_, _≤_, _<_}
 use mathlib.Core.Path.{_≡_, _∙_}
 use mathlib.Core.Bool.{Bool, true, cond}
 use mathlib.Core.List.{List, _∷_}
@@ -7,7 +7,7 @@ use native.Mathlib.Omega.{arith}
 use lib.Dec.{T, leb, lit≤}
 use lib.ListN.{length, getD, set, length-take}
 use Rattle.line.proofs.Laws.{cond-ind}
-use Rattle.session.specs.Layout.{size, modeAt, selectedAt, runningAt, entriesAt, entryAt, sampleAt, firstOdt, listOf}
+use Rattle.session.specs.Layout.{size, modeAt, selectedAt, runningAt, entriesAt, entryAt, sampleAt, firstOdt, listOf, lists, entries, allOdts, packetMost, uploadMost, listSize, entrySize, odtSize, odts}
 use Rattle.session.specs.Bytes.{block, cleared}
 use Rattle.session.specs.Generator.{nextOf}
 use Rattle.session.specs.Memory.{pick}
@@ -29,7 +29,7 @@ use Rattle.fields.proofs.Readers.{Same, apart, same-then, place-reads, 
 only-cond : {lo hi : ℕ} {s t u : List ℕ} (b : Bool) → Only lo hi s t → Only lo hi s u → Only lo hi s (cond b t u)
 only-cond {lo} {hi} {s} b p q = cond-ind (Only lo hi s) b (λ _. p) (λ _. q)
 
-pub only-restarted : (s : List ℕ) (l on : ℕ) → l < 4 → Only 21 225 s (restarted s l on)
+pub only-restarted : (s : List ℕ) (l on : ℕ) → l < lists → Only 21 225 s (restarted s l on)
 unfolding restarted
 only-restarted s l on h =
     let s₁ : List ℕ = set s (runningAt l) on in
@@ -37,25 +37,25 @@ only-restarted s l on h =
     only-then (only-set s (runningAt l) on (omega arith) (omega arith))
     (only-then (only-set s₁ (sampleAt (firstOdt l)) 0 (omega arith) (omega arith)) (only-set s₂ (sampleAt (firstOdt l + 1)) 0 (omega arith) (omega arith)))
 
-only-deselected : {s t : List ℕ} (l : ℕ) → l < 4 → Only 21 225 s t → Only 21 225 s (set t (selectedAt l) 0)
+only-deselected : {s t : List ℕ} (l : ℕ) → l < lists → Only 21 225 s t → Only 21 225 s (set t (selectedAt l) 0)
 only-deselected {s} {t} l h w = only-then w (only-set t (selectedAt l) 0 (omega arith) (omega arith))
 
-pub only-listCleared : (s : List ℕ) (l : ℕ) → l < 4 → Only 21 161 s (listCleared s l)
+pub only-listCleared : (s : List ℕ) (l : ℕ) → l < lists → Only 21 161 s (listCleared s l)
 unfolding listCleared
 only-listCleared s l h =
-    only-then (only-cleared s (modeAt l) 3 (omega arith) (omega arith)) (only-cleared (cleared s (modeAt l) 3) (entriesAt (firstOdt l)) 32 (omega arith) (omega arith))
+    only-then (only-cleared s (modeAt l) listSize (omega arith) (omega arith)) (only-cleared (cleared s (modeAt l) listSize) (entriesAt (firstOdt l)) (odts * odtSize) (omega arith) (omega arith))
 
-pub only-modeSet : (s : List ℕ) (l event : ℕ) → l < 4 → Only 21 33 s (modeSet s l event)
+pub only-modeSet : (s : List ℕ) (l event : ℕ) → l < lists → Only 21 33 s (modeSet s l event)
 unfolding modeSet
 only-modeSet s l event h =
     only-then (only-set s (modeAt l) (event + 1) (omega arith) (omega arith)) (only-set (set s (modeAt l) (event + 1)) (runningAt l) 0 (omega arith) (omega arith))
 
-pub only-entryCleared : (s : List ℕ) (l k e : ℕ) → l < 4 → k < 8 → e < 4 → Only 21 161 s (entryCleared s l k e)
+pub only-entryCleared : (s : List ℕ) (l k e : ℕ) → l < lists → k < allOdts → e < entries → Only 21 161 s (entryCleared s l k e)
 unfolding entryCleared
 only-entryCleared s l k e h p q =
-    only-then (only-set s (runningAt l) 0 (omega arith) (omega arith)) (only-cleared (set s (runningAt l) 0) (entryAt k e) 4 (omega arith) (omega arith))
+    only-then (only-set s (runningAt l) 0 (omega arith) (omega arith)) (only-cleared (set s (runningAt l) 0) (entryAt k e) entrySize (omega arith) (omega arith))
 
-pub only-entrySet : (s : List ℕ) (l k e n : ℕ) (x : Extension) (a : ℕ) → l < 4 → k < 8 → e < 4 → Only 21 161 s (entrySet s l k e n x a)
+pub only-entrySet : (s : List ℕ) (l k e n : ℕ) (x : Extension) (a : ℕ) → l < lists → k < allOdts → e < entries → Only 21 161 s (entrySet s l k e n x a)
 unfolding entrySet
 only-entrySet s l k e n x a h p q =
     let s₁ : List ℕ = set s (runningAt l) 0 in
@@ -65,22 +65,22 @@ only-entrySet s l k e n x a h p q =
     (only-then (only-set s₁ (entryAt k e) n (omega arith) (omega arith))
     (only-then (only-set s₂ (entryAt k e + 1) (tagOf x) (omega arith) (omega arith)) (only-put16 s₃ (entryAt k e + 2) a (omega arith) (omega arith))))
 
-pub only-stopEach : (s : List ℕ) (n : ℕ) → n ≤ 4 → Only 21 225 s (stopEach s n)
+pub only-stopEach : (s : List ℕ) (n : ℕ) → n ≤ lists → Only 21 225 s (stopEach s n)
 unfolding stopEach
 only-stopEach s zero h = only-none
 only-stopEach s (suc n) h =
     only-deselected n (omega arith) (only-then (only-stopEach s n (omega arith)) (only-restarted (stopEach s n) n 0 (omega arith)))
 
-only-startOne : (s : List ℕ) (l : ℕ) → l < 4 → Only 21 225 s (startOne s l)
+only-startOne : (s : List ℕ) (l : ℕ) → l < lists → Only 21 225 s (startOne s l)
 only-startOne s l h = only-cond (flagOf s (selectedAt l)) (only-cond (runsOf s l) only-none (only-restarted s l 1 h)) only-none
 
-pub only-startSelected : (s : List ℕ) (n : ℕ) → n ≤ 4 → Only 21 225 s (startSelected s n)
+pub only-startSelected : (s : List ℕ) (n : ℕ) → n ≤ lists → Only 21 225 s (startSelected s n)
 unfolding startSelected
 only-startSelected s zero h = only-none
 only-startSelected s (suc n) h =
     only-deselected n (omega arith) (only-then (only-startSelected s n (omega arith)) (only-startOne (startSelected s n) n (omega arith)))
 
-pub only-stopSelected : (s : List ℕ) (n : ℕ) → n ≤ 4 → Only 21 225 s (stopSelected s n)
+pub only-stopSelected : (s : List ℕ) (n : ℕ) → n ≤ lists → Only 21 225 s (stopSelected s n)
 unfolding stopSelected
 only-stopSelected s zero h = only-none
 only-stopSelected s (suc n) h =
@@ -136,19 +136,19 @@ effected (Download a m) s n nc nm h = mta s _
 effected (ClearList l) s n nc nm h = listed (only-wider (lit≤ tt) (lit≤ tt) (only-listCleared s l h))
 effected (SetPointer k e) s n nc nm h = pointer _ only-none
 effected (ClearEntry k e) s n nc nm h =
-    let p : k < 8 = h .0 in
+    let p : k < allOdts = h .0 in
     pointer (nextEntry k e) (only-entryCleared s (listOf k) k e (omega arith) p (h .1))
 effected (WriteEntry k e m x a) s n nc nm h =
-    let p : k < 8 = h .0 in
+    let p : k < allOdts = h .0 in
     pointer (nextEntry k e) (only-entrySet s (listOf k) k e m x a (omega arith) p (h .1))
 effected (SetMode l event) s n nc nm h = listed (only-wider (lit≤ tt) (lit≤ tt) (only-modeSet s l event (h .0)))
 effected (Stop l) s n nc nm h = listed (only-restarted s l 0 h)
 effected (Start l) s n nc nm h = listed (only-restarted s l 1 h)
 effected (KeepRunning l) s n nc nm h = none
 effected (Select l) s n nc nm h = listed (only-set s (selectedAt l) 1 (omega arith) (omega arith))
-effected StopAll s n nc nm h = listed (only-stopEach s 4 (lit≤ tt))
-effected StartSelected s n nc nm h = listed (only-startSelected s 4 (lit≤ tt))
-effected StopSelected s n nc nm h = listed (only-stopSelected s 4 (lit≤ tt))
+effected StopAll s n nc nm h = listed (only-stopEach s lists (lit≤ tt))
+effected StartSelected s n nc nm h = listed (only-startSelected s lists (lit≤ tt))
+effected StopSelected s n nc nm h = listed (only-stopSelected s lists (lit≤ tt))
 effected ProcessorInfo s n nc nm h = none
 effected ResolutionInfo s n nc nm h = none
 
@@ -160,10 +160,10 @@ effect-message d s n nc nm h = message-reads (apart tt (effected d s n nc nm h .
 
 -- ---- the answers
 -- one that is written out
-short : {bs : List ℕ} → T (leb 1 (length bs)) → T (leb (length bs) 8) → T (kindly (length bs) (getD bs 0 0)) → Answering bs
+short : {bs : List ℕ} → T (leb 1 (length bs)) → T (leb (length bs) packetMost) → T (kindly (length bs) (getD bs 0 0)) → Answering bs
 short p q k = record { some = lit≤ p; few = lit≤ q; kind = k }
 
-uploaded : (mem : List ℕ) (a n : ℕ) → n ≤ 7 → Answering (0xFF ∷ block mem a n)
+uploaded : (mem : List ℕ) (a n : ℕ) → n ≤ uploadMost → Answering (0xFF ∷ block mem a n)
 uploaded mem a n h = record { some = omega arith; few = omega (arith, shorter); kind = tt } where
   shorter : length (block mem a n) ≤ n
   shorter = rw length-take (omega arith)

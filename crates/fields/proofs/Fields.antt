@@ -12,7 +12,7 @@ use lib.Seq.{sets, getD-set-same, getD-set-other, set-getD}
 use Rattle.line.specs.declared.Place.{Place}
 use Rattle.line.specs.declared.Place.the-variants.{Outside, Inside, Escaped}
 use Rattle.line.proofs.Laws.{cond-ind}
-use Rattle.session.specs.Layout.{size, generatorAt, mtaAt, addressAt, runningAt, sampleAt, placeAt, countAt, answerAt}
+use Rattle.session.specs.Layout.{size, generatorAt, mtaAt, addressAt, runningAt, sampleAt, placeAt, countAt, answerAt, lists, entries, allOdts, allEntries, packetMost}
 use Rattle.session.specs.Bytes.{u32At, put32, block}
 use Rattle.session.specs.Generator.{startOf}
 use Rattle.session.specs.State.{flagOf, generatorOf, setGenerator, openOf, lockAt, unlockedOf, seedOf, setSeed, mtaTag, mtaOf, setMta, pointerOf, setPointer, Pointed, closed, fresh, placeOf, setPlace, answerLength, waits, answerKind, answerOf, answered}
@@ -49,17 +49,17 @@ mta-same s Unset h l = simp (getD-set-same s 15 0 0 (omega arith))
 mta-same s (At CalibrationMemory a) h l = simp (mta-tagged s CalibrationMemory a h, mta-addressed s CalibrationMemory a h l)
 mta-same s (At Measured a) h l = simp (mta-tagged s Measured a h, mta-addressed s Measured a h l)
 
-pointer-number : (k e : ℕ) → k < 8 → e < 4 → ((4 * k + e + 1 - 1) / 4 ≡ k) × ((4 * k + e + 1 - 1) % 4 ≡ e)
+pointer-number : (k e : ℕ) → k < allOdts → e < entries → ((entries * k + e + 1 - 1) / entries ≡ k) × ((entries * k + e + 1 - 1) % entries ≡ e)
 pointer-number k e p q = (omega arith, omega arith)
 
 pub pointer-same : (s : List ℕ) (p : Pointer) → length s ≡ size → Pointed p → pointerOf (setPointer s p) ≡ p
 unfolding setPointer pointerOf
 pointer-same s NoEntry h l = simp (getD-set-same s 20 0 0 (omega arith))
 pointer-same s (Entry k e) h l =
-    let kl : k < 8 = l .0 in
-    let el : e < 4 = l .1 in
+    let kl : k < allOdts = l .0 in
+    let el : e < entries = l .1 in
     let n = pointer-number k e kl el in
-    simp (getD-set-same s 20 (4 * k + e + 1) 0 (omega arith), ne-eqb (4 * k + e + 1) 0 (omega arith), le-ltb 32 (4 * k + e + 1) (omega arith), n .0, n .1)
+    simp (getD-set-same s 20 (entries * k + e + 1) 0 (omega arith), ne-eqb (entries * k + e + 1) 0 (omega arith), le-ltb allEntries (entries * k + e + 1) (omega arith), n .0, n .1)
 
 pub seed-same : (s : List ℕ) (x : Seed) → length s ≡ size → seedOf (setSeed s x) ≡ x
 unfolding setSeed seedOf
@@ -111,16 +111,16 @@ kindly n b = cond (eqb b 0xFF) true (cond (eqb b 0xFE) (cond (eqb n 2) true (eqb
 
 pub record Answering (bs : List ℕ) : Type 0 where
   pub some : 1 ≤ length bs
-  pub few : length bs ≤ 8
+  pub few : length bs ≤ packetMost
   pub kind : T (kindly (length bs) (getD bs 0 0))
 
-pub length-answered : (s bs : List ℕ) → length s ≡ size → 1 ≤ length bs → length bs ≤ 8 → answerLength (answered s bs) ≡ length bs
+pub length-answered : (s bs : List ℕ) → length s ≡ size → 1 ≤ length bs → length bs ≤ packetMost → answerLength (answered s bs) ≡ length bs
 unfolding answered answerLength
 length-answered s bs h p q =
     let n : getD (sets s answerAt (length bs ∷ bs)) answerAt 0 ≡ length bs = sets-in s answerAt (length bs ∷ bs) 0 (omega arith) (omega arith) in
-    simp (n, ne-eqb (length bs) 0 (omega arith), le-ltb 8 (length bs) q)
+    simp (n, ne-eqb (length bs) 0 (omega arith), le-ltb packetMost (length bs) q)
 
-pub waits-answered : (s bs : List ℕ) → length s ≡ size → 1 ≤ length bs → length bs ≤ 8 → waits (answered s bs) ≡ true
+pub waits-answered : (s bs : List ℕ) → length s ≡ size → 1 ≤ length bs → length bs ≤ packetMost → waits (answered s bs) ≡ true
 waits-answered s bs h p q = rw (length-answered s bs h p q) (lt-ltb 0 (length bs) p)
 
 -- the first byte reads as it is
@@ -135,7 +135,7 @@ kind-as-it-is n b = go (eqb b 0xFF) (eqb b 0xFE) (eqb n 2) (eqb n 8) refl refl w
   go false true true eight p q o = sym (eqb-true b 0xFE q)
   go false true false true p q o = sym (eqb-true b 0xFE q)
 
-first-answered : (s bs : List ℕ) → length s ≡ size → 1 ≤ length bs → length bs ≤ 8 → getD (answered s bs) 239 0 ≡ getD bs 0 0
+first-answered : (s bs : List ℕ) → length s ≡ size → 1 ≤ length bs → length bs ≤ packetMost → getD (answered s bs) 239 0 ≡ getD bs 0 0
 unfolding answered
 first-answered s bs h p q = sets-in s answerAt (length bs ∷ bs) 1 (omega arith) (omega arith)
 
@@ -146,7 +146,7 @@ kind-answered s bs h a =
     let b : getD (answered s bs) 239 0 ≡ getD bs 0 0 = first-answered s bs h (a .some) (a .few) in
     simp (n, b) (kind-as-it-is (length bs) (getD bs 0 0) (a .kind))
 
-bytes-answered : (s bs : List ℕ) → length s ≡ size → length bs ≤ 8 → block (answered s bs) 239 (length bs) ≡ bs
+bytes-answered : (s bs : List ℕ) → length s ≡ size → length bs ≤ packetMost → block (answered s bs) 239 (length bs) ≡ bs
 unfolding answered
 bytes-answered s bs h q = block-sets (set s answerAt (length bs)) 239 bs (rw length-set (omega arith))
 
@@ -204,7 +204,7 @@ pub empty-stored : (s : List ℕ) (k : ℕ) → getD s (sampleAt k) 0 ≡ 0 → 
 unfolding storedLength
 empty-stored s k e = rw e (cond-ind (λ (n : ℕ). n ≡ 0) (ltb 0 (leastOf k)) (λ _. refl) (λ _. refl))
 
-pub closed-stored : (s : List ℕ) (k : ℕ) → length s ≡ size → k < 8 → storedLength (closed s) k ≡ 0
+pub closed-stored : (s : List ℕ) (k : ℕ) → length s ≡ size → k < allOdts → storedLength (closed s) k ≡ 0
 closed-stored s k h l = empty-stored (closed s) k (closed-zero s (161 + 8 * k) h (omega arith) (omega arith))
 
 -- ---- a fresh session
@@ -237,13 +237,13 @@ pub fresh-pointer : (s : List ℕ) → length s ≡ size → pointerOf (fresh s)
 unfolding pointerOf
 fresh-pointer s h = simp (fresh-zero s 20 h (lit≤ tt) (lit< tt))
 
-fresh-flag : (s : List ℕ) (l : ℕ) → length s ≡ size → l < 4 → flagOf (fresh s) (runningAt l) ≡ false
+fresh-flag : (s : List ℕ) (l : ℕ) → length s ≡ size → l < lists → flagOf (fresh s) (runningAt l) ≡ false
 unfolding flagOf
 fresh-flag s l h k = rw (fresh-zero s (23 + 3 * l) h (omega arith) (omega arith))
 
-pub fresh-runs : (s : List ℕ) (l : ℕ) → length s ≡ size → l < 4 → runsOf (fresh s) l ≡ false
+pub fresh-runs : (s : List ℕ) (l : ℕ) → length s ≡ size → l < lists → runsOf (fresh s) l ≡ false
 unfolding runsOf
 fresh-runs s l h k = rw (fresh-open s h, fresh-flag s l h k)
 
-pub fresh-stored : (s : List ℕ) (k : ℕ) → length s ≡ size → k < 8 → storedLength (fresh s) k ≡ 0
+pub fresh-stored : (s : List ℕ) (k : ℕ) → length s ≡ size → k < allOdts → storedLength (fresh s) k ≡ 0
 fresh-stored s k h l = empty-stored (fresh s) k (fresh-zero s (161 + 8 * k) h (omega arith) (omega arith))

@@ -12,7 +12,7 @@ use Rattle.line.specs.Unstuffing.{Fed}
 use Rattle.line.specs.declared.Place.{Place}
 use Rattle.line.specs.declared.Place.the-variants.{Outside, Inside, Escaped}
 use Rattle.line.proofs.Laws.{cond-ind}
-use Rattle.session.specs.Layout.{size, placeAt, answerAt}
+use Rattle.session.specs.Layout.{size, placeAt, answerAt, entries, packetMost}
 use Rattle.session.specs.Bytes.{put16, put32, cleared}
 use Rattle.session.specs.State.{setGenerator, lockAt, setSeed, mtaTag, setMta, setPointer, closed, fresh, setPlace, setMessage, answered}
 use Rattle.session.specs.Receive.{readOn}
@@ -120,7 +120,7 @@ only-mta s (At e a) = only-then (only-set s 15 (mtaTag e) (lit≤ tt) (lit< tt))
 pub only-pointer : (s : List ℕ) (p : Pointer) → Only 20 21 s (setPointer s p)
 unfolding setPointer
 only-pointer s NoEntry = only-set s 20 0 (lit≤ tt) (lit< tt)
-only-pointer s (Entry k e) = only-set s 20 (4 * k + e + 1) (lit≤ tt) (lit< tt)
+only-pointer s (Entry k e) = only-set s 20 (entries * k + e + 1) (lit≤ tt) (lit< tt)
 
 pub only-closed : (s : List ℕ) → Only 11 225 s (closed s)
 unfolding closed
@@ -159,7 +159,7 @@ readOn-before s f h k = only-take 225 (lit≤ tt) (only-readOn s f h k)
 pub readOn-after : (s : List ℕ) (f : Fed) → length s ≡ size → length (f .message) ≡ 11 → drop answerAt (readOn s f) ≡ drop answerAt s
 readOn-after s f h k = only-drop 238 (lit≤ tt) (only-readOn s f h k)
 
-pub only-answered : (s bs : List ℕ) → length bs ≤ 8 → Only 238 247 s (answered s bs)
+pub only-answered : (s bs : List ℕ) → length bs ≤ packetMost → Only 238 247 s (answered s bs)
 unfolding answered
 only-answered s bs h = only-sets s 238 (length bs ∷ bs) (lit≤ tt) (omega arith)
 

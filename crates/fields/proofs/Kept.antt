@@ -1,11 +1,11 @@
 -- Every reachable state is consistent: power-up makes one, and every call keeps one. Assumes nothing.
-use Prim.Native.Nat.{ℕ, zero, suc, _+_, _/_, _%_, _≤_, _<_}
+use Prim.Native.Nat.{ℕ, zero, suc, _+_, _*_, _/_, _%_, _≤_, _<_}
 use mathlib.Core.Path.{_≡_, refl, sym, ap, _∙_}
 use mathlib.Core.Bool.{Bool, true, cond}
 use mathlib.Core.List.{List, _∷_}
 use native.Mathlib.Omega.{arith}
 use borrow.Author.Tests.{eq-eqb}
-use lib.Dec.{ltb, lit<, lit≤}
+use lib.Dec.{ltb, leb, lit<, lit≤}
 use lib.ListN.{length, getD, set, take, replicate, length-set}
 use lib.Seq.{sets, length-sets, getD-take, take-set-le}
 use Rattle.line.specs.Message.{room}
@@ -14,7 +14,7 @@ use Rattle.line.specs.declared.Outcome.{Outcome}
 use Rattle.line.specs.declared.Outcome.the-variants as line
 use Rattle.line.proofs.Laws.{cond-ind}
 use Rattle.line.proofs.After.{take-length}
-use Rattle.session.specs.Layout.{mark, size, lists, modeAt, selectedAt, runningAt, entriesAt, entryAt, sampleAt, firstOdt, listOf}
+use Rattle.session.specs.Layout.{mark, size, lists, modeAt, selectedAt, runningAt, entriesAt, entryAt, sampleAt, firstOdt, listOf, events, listSize, entrySize, odtSize, odts, lastList}
 use Rattle.session.specs.Bytes.{u32At, put16, put32, block, cleared}
 use Rattle.session.specs.Generator.{startOf, nextOf}
 use Rattle.session.specs.State.{consistent, flagOf, openOf, generatorOf, setGenerator, lockAt, setSeed, setMta, setPointer, placeOf, messageOf, waits, answerKind, answered}
@@ -97,7 +97,7 @@ pub power-consistent : (start : ℕ) → consistent (powered start) ≡ true
 unfolding powered
 power-consistent start =
     let blank : List ℕ = put32 (replicate size 0) 0 mark in
-    kept (marked-then (marked-only (lit≤ tt) (only-generator blank (startOf start))) (marked-set (setGenerator blank (startOf start)) 9 3 (lit≤ tt))) marked-blank
+    kept (marked-then (marked-only (lit≤ tt) (only-generator blank (startOf start))) (marked-set (setGenerator blank (startOf start)) 9 lastList (lit≤ tt))) marked-blank
 
 -- a state of the right size is consistent after power-up, whatever it was
 pub power-up-consistent : (s : List ℕ) (start : ℕ) → length s ≡ size → consistent (powerUpOf s start .state) ≡ true
@@ -119,7 +119,7 @@ marked-deselected {s} {t} l m = marked-then m (marked-set t (selectedAt l) 0 (om
 marked-listCleared : (s : List ℕ) (l : ℕ) → Marked s (listCleared s l)
 unfolding listCleared
 marked-listCleared s l =
-    marked-then (marked-cleared s (modeAt l) 3 (omega arith)) (marked-cleared (cleared s (modeAt l) 3) (entriesAt (firstOdt l)) 32 (omega arith))
+    marked-then (marked-cleared s (modeAt l) listSize (omega arith)) (marked-cleared (cleared s (modeAt l) listSize) (entriesAt (firstOdt l)) (odts * odtSize) (omega arith))
 
 marked-modeSet : (s : List ℕ) (l event : ℕ) → Marked s (modeSet s l event)
 unfolding modeSet
@@ -129,7 +129,7 @@ marked-modeSet s l event =
 marked-entryCleared : (s : List ℕ) (l k e : ℕ) → Marked s (entryCleared s l k e)
 unfolding entryCleared
 marked-entryCleared s l k e =
-    marked-then (marked-set s (runningAt l) 0 (omega arith)) (marked-cleared (set s (runningAt l) 0) (entryAt k e) 4 (omega arith))
+    marked-then (marked-set s (runningAt l) 0 (omega arith)) (marked-cleared (set s (runningAt l) 0) (entryAt k e) entrySize (omega arith))
 
 marked-entrySet : (s : List ℕ) (l k e n : ℕ) (x : Extension) (a : ℕ) → Marked s (entrySet s l k e n x a)
 unfolding entrySet
@@ -277,7 +277,7 @@ unfolding eventOf
 marked-event s cal meas event clock =
     let Good : Happened → Type 0 = λ (o : Happened). Marked s (o .state) in
     cond-ind Good (consistent s)
-    (λ _. cond-ind Good (ltb 1 event) (λ _. marked-none) (λ _. marked-tally s event clock cal meas lists))
+    (λ _. cond-ind Good (leb events event) (λ _. marked-none) (λ _. marked-tally s event clock cal meas lists))
     (λ _. marked-none)
 
 pub event-kept : (s cal meas : List ℕ) (event clock : ℕ) → consistent s ≡ true → consistent (eventOf s cal meas event clock .state) ≡ true

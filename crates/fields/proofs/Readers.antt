@@ -10,7 +10,7 @@ use lib.ListN.{length, getD, drop, set, length-take, length-drop, length-set}
 use lib.Seq.{getD-take, getD-drop, ext-getD, getD-set-same, getD-set-other, set-out}
 use Rattle.line.specs.Unstuffing.{Fed}
 use Rattle.line.proofs.Laws.{cond-ind}
-use Rattle.session.specs.Layout.{size}
+use Rattle.session.specs.Layout.{size, entries, allOdts, packetMost}
 use Rattle.session.specs.Bytes.{u16At, u32At, block}
 use Rattle.session.specs.State.{consistent, flagOf, generatorOf, openOf, unlockedOf, maskOf, seedOf, mtaOf, pointerOf, placeOf, messageOf, answerLength, waits, answerKind, answerOf, answered, setSeed}
 use Rattle.session.specs.Lists.{sizeOf, extensionOf, addressOf, odtBytes, modeOf, fitOf, runsOf, anyRuns, storedLength}
@@ -70,11 +70,11 @@ same-set {a} {b} {s} {t} i v w = record { long = simp (length-set, w .long); byt
       rw (eqb-true j i e) (getD-set-same t i v 0 k ∙ sym (getD-set-same s i v 0 h))
   go j p q false true e l = getD-set-other t i j v 0 (eqb-false j i e) ∙ w .byte j p q ∙ sym (getD-set-other s i j v 0 (eqb-false j i e))
 
-pub answer-most : (s : List ℕ) → answerLength s ≤ 8
+pub answer-most : (s : List ℕ) → answerLength s ≤ packetMost
 unfolding answerLength
 answer-most s =
-    cond-ind (λ (n : ℕ). n ≤ 8) (eqb (getD s 238 0) 0) (λ _. omega arith)
-    (λ _. cond-ind (λ (n : ℕ). n ≤ 8) (ltb 8 (getD s 238 0)) (λ _. omega arith) (λ h. ltb-false 8 (getD s 238 0) h))
+    cond-ind (λ (n : ℕ). n ≤ packetMost) (eqb (getD s 238 0) 0) (λ _. omega arith)
+    (λ _. cond-ind (λ (n : ℕ). n ≤ packetMost) (ltb packetMost (getD s 238 0)) (λ _. omega arith) (λ h. ltb-false packetMost (getD s 238 0) h))
 
 -- ---- the readers
 module _ {s t : List ℕ} where
@@ -143,20 +143,20 @@ module _ {s t : List ℕ} where
       rw (answerKind-reads w, answerLength-reads w)
       (same-block 239 (answerLength s) (lit≤ tt) (omega (arith, answer-most s)) (same-set 239 (answerKind s) w))
 
-  pub size-reads : (k e : ℕ) → k < 8 → e < 4 → Same 33 161 s t → sizeOf t k e ≡ sizeOf s k e
+  pub size-reads : (k e : ℕ) → k < allOdts → e < entries → Same 33 161 s t → sizeOf t k e ≡ sizeOf s k e
   unfolding sizeOf
   size-reads k e p q w = rw (w .byte (33 + 16 * k + 4 * e) (omega arith) (omega arith))
 
-  pub extension-reads : (k e : ℕ) → k < 8 → e < 4 → Same 33 161 s t → extensionOf t k e ≡ extensionOf s k e
+  pub extension-reads : (k e : ℕ) → k < allOdts → e < entries → Same 33 161 s t → extensionOf t k e ≡ extensionOf s k e
   unfolding extensionOf
   extension-reads k e p q w = rw (flag-reads (33 + 16 * k + 4 * e + 1) (same-part (omega arith) (omega arith) w))
 
-  pub address-reads : (k e : ℕ) → k < 8 → e < 4 → Same 33 161 s t → addressOf t k e ≡ addressOf s k e
+  pub address-reads : (k e : ℕ) → k < allOdts → e < entries → Same 33 161 s t → addressOf t k e ≡ addressOf s k e
   unfolding addressOf u16At
   address-reads k e p q w =
       rw (w .byte (33 + 16 * k + 4 * e + 2) (omega arith) (omega arith), w .byte (33 + 16 * k + 4 * e + 2 + 1) (omega arith) (omega arith))
 
-  odt-reads : (k : ℕ) → k < 8 → Same 33 161 s t → odtBytes t k ≡ odtBytes s k
+  odt-reads : (k : ℕ) → k < allOdts → Same 33 161 s t → odtBytes t k ≡ odtBytes s k
   unfolding odtBytes
   odt-reads k p w =
       rw (size-reads k 0 p (lit< tt) w, size-reads k 1 p (lit< tt) w, size-reads k 2 p (lit< tt) w, size-reads k 3 p (lit< tt) w)
@@ -192,7 +192,7 @@ readOn-front s f h k = apart tt (only-readOn s f h k)
 pub readOn-answer : (s : List ℕ) (f : Fed) → length s ≡ size → length (f .message) ≡ 11 → answerOf (readOn s f) ≡ answerOf s
 readOn-answer s f h k = answer-reads (apart tt (only-readOn s f h k))
 
-pub answered-front : (s bs : List ℕ) → length bs ≤ 8 → Same 0 238 s (answered s bs)
+pub answered-front : (s bs : List ℕ) → length bs ≤ packetMost → Same 0 238 s (answered s bs)
 answered-front s bs h = apart tt (only-answered s bs h)
 
 pub seed-mta : (s : List ℕ) (x : Seed) → mtaOf (setSeed s x) ≡ mtaOf s

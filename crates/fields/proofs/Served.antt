@@ -8,7 +8,7 @@ use native.Mathlib.Omega.{arith}
 use lib.Dec.{lit<, lit≤}
 use lib.ListN.{length, getD, set, length-set}
 use lib.Seq.{getD-set-same, getD-set-other}
-use Rattle.session.specs.Layout.{size, sampleAt, listOf}
+use Rattle.session.specs.Layout.{size, sampleAt, listOf, allOdts}
 use Rattle.session.specs.State.{waits, answerLength, answerKind}
 use Rattle.session.specs.Lists.{storedLength}
 use Rattle.session.specs.Slot.{nextCtr, answerSent, packetSent}
@@ -70,11 +70,11 @@ packetSent-session s k =
     packetSent-same s k (lit≤ tt) (before {lo = 161 + 8 * k} {hi = 162 + 8 * k} (omega arith) (only-set s (161 + 8 * k) 0 (omega arith) (omega arith)))
 
 -- the reader, its message, and the answer
-pub packetSent-rest : (s : List ℕ) (k : ℕ) → k < 8 → Same 225 247 s (packetSent s k)
+pub packetSent-rest : (s : List ℕ) (k : ℕ) → k < allOdts → Same 225 247 s (packetSent s k)
 packetSent-rest s k h =
     packetSent-same s k (lit≤ tt) (behind {lo = 161 + 8 * k} {hi = 162 + 8 * k} (omega arith) (only-set s (161 + 8 * k) 0 (omega arith) (omega arith)))
 
-emptied : (s : List ℕ) (k : ℕ) → length s ≡ size → k < 8 → getD (packetSent s k) (sampleAt k) 0 ≡ 0
+emptied : (s : List ℕ) (k : ℕ) → length s ≡ size → k < allOdts → getD (packetSent s k) (sampleAt k) 0 ≡ 0
 unfolding packetSent
 emptied s k h q =
     let w : Same 11 247 (set s (161 + 8 * k) 0) (set (set (set (set s (161 + 8 * k) 0) 8 (nextCtr s)) 9 (listOf k)) 10 0) =
@@ -85,7 +85,7 @@ one : (s : List ℕ) (k j : ℕ) → j ≢ k → Same (161 + 8 * j) (161 + 8 * j
 one s k j n = record { long = length-set s (161 + 8 * k) 0; byte = λ i p q. getD-set-other s (161 + 8 * k) i 0 0 (omega arith) }
 
 -- the packet no longer waits; every other one does as it did
-pub packetSent-stored : (s : List ℕ) (k : ℕ) → length s ≡ size → k < 8 → storedLength (packetSent s k) k ≡ 0
+pub packetSent-stored : (s : List ℕ) (k : ℕ) → length s ≡ size → k < allOdts → storedLength (packetSent s k) k ≡ 0
 packetSent-stored s k h q = empty-stored (packetSent s k) k (emptied s k h q)
 
 pub packetSent-others : (s : List ℕ) (k j : ℕ) → j ≢ k → storedLength (packetSent s k) j ≡ storedLength s j

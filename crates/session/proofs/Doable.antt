@@ -7,7 +7,7 @@ use borrow.Author.Tests.{ltb-false, leb-false}
 use lib.Dec.{eqb, ltb, leb}
 use lib.ListN.{length, getD}
 use Rattle.line.proofs.Laws.{cond-ind}
-use Rattle.session.specs.Layout.{lists, odts, entries, entryMost, addressable, listOf}
+use Rattle.session.specs.Layout.{lists, odts, entries, allOdts, events, entryMost, uploadMost, downloadMost, addressable, listOf}
 use Rattle.session.specs.Bytes.{u16At, u32At}
 use Rattle.session.specs.Generator.{keyOf}
 use Rattle.session.specs.Memory.{pick, insideOf}
@@ -68,16 +68,16 @@ module _ (n nc nm : ℕ) where
   upload-doable Unset m = tt
   upload-doable (At e a) m =
       cond-ind Can (eqb m 0) (λ _. tt) (λ _.
-      cond-ind Can (ltb 7 m) (λ _. tt) (λ few.
-      cond-ind Can (insideOf a m (pick e nc nm)) (λ inside. (ltb-false 7 m few, inside)) (λ _. tt)))
+      cond-ind Can (ltb uploadMost m) (λ _. tt) (λ few.
+      cond-ind Can (insideOf a m (pick e nc nm)) (λ inside. (ltb-false uploadMost m few, inside)) (λ _. tt)))
 
   short-upload-doable : (m ext a : ℕ) → Can (shortUploadDeed m ext a nc nm)
   unfolding shortUploadDeed
   short-upload-doable m ext a =
       cond-ind Can (eqb m 0) (λ _. tt) (λ _.
-      cond-ind Can (ltb 7 m) (λ _. tt) (λ few.
+      cond-ind Can (ltb uploadMost m) (λ _. tt) (λ few.
       cond-ind Can (ltb 1 ext) (λ _. tt) (λ _.
-      cond-ind Can (insideOf a m (pick (extensionFrom ext) nc nm)) (λ inside. (ltb-false 7 m few, inside)) (λ _. tt))))
+      cond-ind Can (insideOf a m (pick (extensionFrom ext) nc nm)) (λ inside. (ltb-false uploadMost m few, inside)) (λ _. tt))))
 
   checksum-doable : (mta : Mta) (m : ℕ) → Can (checksumDeed mta m nc nm)
   unfolding checksumDeed
@@ -87,7 +87,7 @@ module _ (n nc nm : ℕ) where
       cond-ind Can (ltb addressable m) (λ _. tt) (λ few.
       cond-ind Can (insideOf a m (pick e nc nm)) (λ inside. (ltb-false addressable m few, inside)) (λ _. tt)))
 
-  download-to-doable : (e : Extension) (a m : ℕ) → m ≤ 6 → m + 2 ≤ n → Can (downloadTo e a m nc)
+  download-to-doable : (e : Extension) (a m : ℕ) → m ≤ downloadMost → m + 2 ≤ n → Can (downloadTo e a m nc)
   unfolding downloadTo
   download-to-doable CalibrationMemory a m few there = cond-ind Can (insideOf a m nc) (λ inside. (there, (few, inside))) (λ _. tt)
   download-to-doable Measured a m few there = tt
@@ -97,9 +97,9 @@ module _ (n nc nm : ℕ) where
   download-doable Unset m = tt
   download-doable (At e a) m =
       cond-ind Can (eqb m 0) (λ _. tt) (λ _.
-      cond-ind Can (ltb 6 m) (λ _. tt) (λ few.
+      cond-ind Can (ltb downloadMost m) (λ _. tt) (λ few.
       cond-ind Can (ltb n (m + 2)) (λ _. tt) (λ there.
-      download-to-doable e a m (ltb-false 6 m few) (ltb-false n (m + 2) there))))
+      download-to-doable e a m (ltb-false downloadMost m few) (ltb-false n (m + 2) there))))
 
   clear-doable : (s : List ℕ) (l : ℕ) → Can (clearDeed s l)
   unfolding clearDeed
@@ -115,7 +115,7 @@ module _ (n nc nm : ℕ) where
       cond-ind Can (leb entries e) (λ _. tt) (λ entry.
       (omega (arith, leb-false lists l list, leb-false odts odt in-list), leb-false entries e entry))))
 
-  write-block-doable : (k e m : ℕ) (ext : Extension) (a len : ℕ) → k < 8 → e < 4 → Can (writeBlock k e m ext a len)
+  write-block-doable : (k e m : ℕ) (ext : Extension) (a len : ℕ) → k < allOdts → e < entries → Can (writeBlock k e m ext a len)
   unfolding writeBlock
   write-block-doable k e m ext a len odt entry =
       cond-ind Can (eqb m 0) (λ _. (odt, entry)) (λ _.
@@ -136,11 +136,11 @@ module _ (n nc nm : ℕ) where
   mode-doable s mode l event prescaler priority =
       cond-ind Can (eqb mode 0x10) (λ _.
       cond-ind Can (leb lists l) (λ _. tt) (λ list.
-      cond-ind Can (ltb 1 event) (λ _. tt) (λ few.
+      cond-ind Can (leb events event) (λ _. tt) (λ few.
       cond-ind Can (eqb prescaler 1) (λ _.
       cond-ind Can (eqb priority 0) (λ _.
       cond-ind Can (runsOf s l) (λ _. tt) (λ _.
-      (leb-false lists l list, ltb-false 1 event few))) (λ _. tt)) (λ _. tt)))) (λ _. tt)
+      (leb-false lists l list, leb-false events event few))) (λ _. tt)) (λ _. tt)))) (λ _. tt)
 
   start-doable : (s : List ℕ) (l : ℕ) → l < lists → Can (startDeed s l)
   unfolding startDeed

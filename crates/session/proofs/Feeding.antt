@@ -14,7 +14,7 @@ use Rattle.line.specs.declared.Outcome.the-variants.{Good}
 use Rattle.line.specs.declared.Taken.{Taken}
 use Rattle.line.proofs.After.{take-length}
 use Rattle.line.proofs.Sound.{good-where}
-use Rattle.session.specs.Layout.{size}
+use Rattle.session.specs.Layout.{size, packetMost}
 use Rattle.session.specs.Bytes.{block}
 use Rattle.session.specs.State.{placeOf, setPlace, messageOf, setMessage}
 use Rattle.session.specs.Receive.{Receives, meant, readOn, fedOf, receivedBy}
@@ -47,7 +47,7 @@ told s b p taken m t e d st =
     }
 
 -- a good message's packet
-pub good : (s : List ℕ) (b : ℕ) (taken : Taken) (m t : List ℕ) (c at n : ℕ) → Told s b taken m t → taken .outcome ≡ Good c at n → (at ≡ 2) × (1 ≤ n) × (n ≤ 8)
+pub good : (s : List ℕ) (b : ℕ) (taken : Taken) (m t : List ℕ) (c at n : ℕ) → Told s b taken m t → taken .outcome ≡ Good c at n → (at ≡ 2) × (1 ≤ n) × (n ≤ packetMost)
 good s b taken m t c at n w e =
     let g = good-where (placeOf s) (messageOf s) b c at n (w .outcome ∙ e) in
     (g .0, g .1, g .2)
@@ -64,7 +64,7 @@ message-past s m h k =
     (rw front at (drop-append-add (take 227 s) (m ++ drop 11 (drop 227 s)) 2)) ∙ drop-append-le 2 m (drop 11 (drop 227 s)) k
 
 -- it lies in the state where the buffer lies
-pub packet-there : (s m : List ℕ) (p : Place) (n : ℕ) → length s ≡ size → length m ≡ 11 → n ≤ 8 → block m 2 n ≡ block (setPlace (returned s m) p) 229 n
+pub packet-there : (s m : List ℕ) (p : Place) (n : ℕ) → length s ≡ size → length m ≡ 11 → n ≤ packetMost → block m 2 n ≡ block (setPlace (returned s m) p) 229 n
 packet-there s m p n h k few =
     let fits : n ≤ length (drop 2 m) = rw length-drop (omega arith) in
     sym (rw (place-past (returned s m) p, message-past s m (omega arith) (omega arith)) (take-append-le n (drop 2 m) (drop 11 (drop 227 s)) fits))

@@ -9,7 +9,7 @@ use lib.ListN.{length, set, length-append}
 use lib.Seq.{sets}
 use Rattle.line.proofs.Laws.{sets-append}
 use Rattle.session.specs.Bytes.{put16}
-use Rattle.session.specs.Layout.{entries, sampleAt}
+use Rattle.session.specs.Layout.{entries, sampleAt, allOdts, entryMost}
 use Rattle.session.specs.Memory.{pick, byteOf, bytesOf}
 use Rattle.session.specs.Lists.{sizeOf, extensionOf, addressOf, odtBytes}
 use Rattle.session.specs.Event.{entryBytes, gathered, stored}
@@ -39,7 +39,7 @@ module _ (s : List ℕ) (k : ℕ) (cal meas : List ℕ) where
   unfolding gathered
   gathered-length n = length-append (gathered s k cal meas n) (entryBytes s k n cal meas) ∙ ap (λ (m : ℕ). length (gathered s k cal meas n) + m) (entry-length n)
 
-  pub gathered-most : (n : ℕ) → length (gathered s k cal meas n) ≤ 4 * n
+  pub gathered-most : (n : ℕ) → length (gathered s k cal meas n) ≤ entryMost * n
   unfolding gathered
   gathered-most zero = omega arith
   gathered-most (suc n) = omega (arith, gathered-length n, gathered-most n, size-most s k n)
@@ -49,8 +49,8 @@ module _ (s : List ℕ) (k : ℕ) (cal meas : List ℕ) where
   gathered-odt = omega (arith, gathered-length 0, gathered-length 1, gathered-length 2, gathered-length 3)
 
   -- entries are read as they were, with bytes stored past them already
-  module _ (odt : k < 8) (at : ℕ) (past : sampleAt 0 ≤ at) where
-    pub gathered-next : (n : ℕ) → n < 4 → sets (sets s at (gathered s k cal meas n)) (at + length (gathered s k cal meas n)) (entryBytes (sets s at (gathered s k cal meas n)) k n cal meas) ≡ sets s at (gathered s k cal meas (suc n))
+  module _ (odt : k < allOdts) (at : ℕ) (past : sampleAt 0 ≤ at) where
+    pub gathered-next : (n : ℕ) → n < entries → sets (sets s at (gathered s k cal meas n)) (at + length (gathered s k cal meas n)) (entryBytes (sets s at (gathered s k cal meas n)) k n cal meas) ≡ sets s at (gathered s k cal meas (suc n))
     unfolding gathered
     gathered-next n h =
         let same : Alike (sets s at (gathered s k cal meas n)) s = sets-alike (gathered s k cal meas n) s at past in
@@ -59,7 +59,7 @@ module _ (s : List ℕ) (k : ℕ) (cal meas : List ℕ) where
     pub gathered-after : (xs : List ℕ) → sets (sets s at xs) (at + length xs) (gathered (sets s at xs) k cal meas entries) ≡ sets s at (xs ++ gathered s k cal meas entries)
     gathered-after xs = rw (gathered-alike (sets s at xs) s (sets-alike xs s at past) k odt cal meas entries (omega arith)) (sets-append xs (gathered s k cal meas entries) s at)
 
-module _ (s : List ℕ) (k : ℕ) (cal meas : List ℕ) (odt : k < 8) (n : ℕ) (bytes : n ≡ odtBytes s k) where
+module _ (s : List ℕ) (k : ℕ) (cal meas : List ℕ) (odt : k < allOdts) (n : ℕ) (bytes : n ≡ odtBytes s k) where
   pub stored-second : sets (set s (sampleAt k) n) (sampleAt k + 1) (gathered (set s (sampleAt k) n) k cal meas entries) ≡ stored s k (gathered s k cal meas entries)
   unfolding stored
   stored-second =
@@ -74,7 +74,7 @@ module _ (s : List ℕ) (k : ℕ) (cal meas : List ℕ) (odt : k < 8) (n : ℕ) 
       ∙ ap (λ (m : ℕ). sets s (sampleAt k) (m ∷ clock % 256 ∷ clock / 256 % 256 ∷ gathered s k cal meas entries)) (omega (arith, gathered-odt s k cal meas)))
 
 -- a packet in store does not change what is gathered
-pub gathered-stored : (s : List ℕ) (k : ℕ) (bs : List ℕ) (j : ℕ) (cal meas : List ℕ) → j < 8 → gathered (stored s k bs) j cal meas entries ≡ gathered s j cal meas entries
+pub gathered-stored : (s : List ℕ) (k : ℕ) (bs : List ℕ) (j : ℕ) (cal meas : List ℕ) → j < allOdts → gathered (stored s k bs) j cal meas entries ≡ gathered s j cal meas entries
 unfolding stored
 gathered-stored s k bs j cal meas h =
     gathered-alike (sets s (sampleAt k) (length bs ∷ bs)) s (sets-alike (length bs ∷ bs) s (sampleAt k) (omega arith)) j h cal meas entries (omega arith)

@@ -6,11 +6,11 @@ use native.Mathlib.Nat.{add-assoc}
 use native.Mathlib.Omega.{arith}
 use lib.ListN.{length, getD, drop}
 use lib.Seq.{getD-take, getD-drop}
-use Rattle.session.specs.Layout.{packetAt, size}
+use Rattle.session.specs.Layout.{packetAt, size, packetMost}
 use Rattle.session.specs.Bytes.{u16At, u32At, block}
 use Rattle.session.proofs.Sets.{block-length}
 
-pub packet-length : (s : List ℕ) (n : ℕ) → n ≤ 8 → length s ≡ size → length (block s packetAt n) ≡ n
+pub packet-length : (s : List ℕ) (n : ℕ) → n ≤ packetMost → length s ≡ size → length (block s packetAt n) ≡ n
 packet-length s n h e = block-length s packetAt n (omega arith)
 
 pub packet-byte : (s : List ℕ) (n i : ℕ) → i < n → getD (block s packetAt n) i 0 ≡ getD s (packetAt + i) 0

@@ -7,12 +7,12 @@ use borrow.Author.Tests.{ltb-false}
 use lib.Dec.{eqb, ltb}
 use lib.ListN.{getD}
 use Rattle.line.proofs.Laws.{cond-ind}
-use Rattle.session.specs.Layout.{pointerAt}
+use Rattle.session.specs.Layout.{pointerAt, entries, allEntries}
 use Rattle.session.specs.State.{pointerOf, Pointed}
 
 pub pointed : (s : List ℕ) → Pointed (pointerOf s)
 unfolding pointerOf
 pointed s =
     cond-ind Pointed (eqb (getD s pointerAt 0) 0) (λ _. tt)
-    (λ _. cond-ind Pointed (ltb 32 (getD s pointerAt 0)) (λ _. tt)
-    (λ small. (omega (arith, ltb-false 32 (getD s pointerAt 0) small), omega arith)))
+    (λ _. cond-ind Pointed (ltb allEntries (getD s pointerAt 0)) (λ _. tt)
+    (λ small. (omega (arith, ltb-false allEntries (getD s pointerAt 0) small), omega arith)))

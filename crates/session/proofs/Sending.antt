@@ -8,7 +8,7 @@ use lib.Dec.{ltb, lit<}
 use lib.ListN.{length, getD, set, take, drop, length-set}
 use lib.Seq.{drop-cons, getD-set-same, drop-set-lt}
 use Rattle.line.proofs.Laws.{cond-ind}
-use Rattle.session.specs.Layout.{lists, servedAt, lastAt, firstOdt}
+use Rattle.session.specs.Layout.{lists, servedAt, lastAt, firstOdt, allOdts}
 use Rattle.session.specs.Bytes.{block}
 use Rattle.session.specs.State.{flagOf, answerLength}
 use Rattle.session.specs.Lists.{runsOf, storedLength}
@@ -27,7 +27,7 @@ numbered s at k n h =
 abbrev pub Within : Turn → Type 0
 Within Nobody = Unit
 Within Answer = Unit
-Within (Packet k) = k < 8
+Within (Packet k) = k < allOdts
 
 packet-within : (s : List ℕ) (l : ℕ) → l < lists → Within (packetIn s l)
 unfolding packetIn

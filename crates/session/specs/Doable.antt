@@ -2,7 +2,7 @@
 use Prim.Native.Nat.{ℕ, _+_, _≤_, _<_}
 use mathlib.Core.Path.{_≡_}
 use mathlib.Core.Bool.{true}
-use Rattle.session.specs.Layout.{lists, addressable}
+use Rattle.session.specs.Layout.{lists, entries, allOdts, events, uploadMost, downloadMost, addressable}
 use Rattle.session.specs.Memory.{pick, insideOf}
 use Rattle.session.specs.declared.Deed.{Deed}
 use Rattle.session.specs.declared.Deed.the-variants.{Refuse, RefuseSize, WrongKey, Connect, Disconnect, Status, Synch, NoSeed, GiveSeed, Unlock, SetMta, Upload, ShortUpload, Checksum, Download, ClearList, SetPointer, ClearEntry, WriteEntry, SetMode, Stop, Start, KeepRunning, Select, StopAll, StartSelected, StopSelected, ProcessorInfo, ResolutionInfo}
@@ -23,15 +23,15 @@ Doable NoSeed n nc nm = Unit
 Doable (GiveSeed r) n nc nm = Unit
 Doable (Unlock r) n nc nm = Unit
 Doable (SetMta e a) n nc nm = Unit
-Doable (Upload e a m) n nc nm = Inside 7 a m (pick e nc nm)
-Doable (ShortUpload e a m) n nc nm = Inside 7 a m (pick e nc nm)
+Doable (Upload e a m) n nc nm = Inside uploadMost a m (pick e nc nm)
+Doable (ShortUpload e a m) n nc nm = Inside uploadMost a m (pick e nc nm)
 Doable (Checksum e a m) n nc nm = Inside addressable a m (pick e nc nm)
-Doable (Download a m) n nc nm = (m + 2 ≤ n) × Inside 6 a m nc
+Doable (Download a m) n nc nm = (m + 2 ≤ n) × Inside downloadMost a m nc
 Doable (ClearList l) n nc nm = l < lists
-Doable (SetPointer k e) n nc nm = (k < 8) × (e < 4)
-Doable (ClearEntry k e) n nc nm = (k < 8) × (e < 4)
-Doable (WriteEntry k e m ext a) n nc nm = (k < 8) × (e < 4)
-Doable (SetMode l event) n nc nm = (l < lists) × (event ≤ 1)
+Doable (SetPointer k e) n nc nm = (k < allOdts) × (e < entries)
+Doable (ClearEntry k e) n nc nm = (k < allOdts) × (e < entries)
+Doable (WriteEntry k e m ext a) n nc nm = (k < allOdts) × (e < entries)
+Doable (SetMode l event) n nc nm = (l < lists) × (event < events)
 Doable (Stop l) n nc nm = l < lists
 Doable (Start l) n nc nm = l < lists
 Doable (KeepRunning l) n nc nm = l < lists

@@ -3,10 +3,10 @@ use Prim.Native.Nat.{ℕ, zero, suc, _+_, _%_, _/_}
 use mathlib.Core.Path.{_≡_}
 use mathlib.Core.Bool.{Bool, true, cond}
 use mathlib.Core.List.{List, [], _∷_, _++_}
-use lib.Dec.{eqb, ltb}
+use lib.Dec.{eqb, ltb, leb}
 use lib.ListN.{length}
 use lib.Seq.{sets}
-use Rattle.session.specs.Layout.{lists, entries, sampleAt, firstOdt}
+use Rattle.session.specs.Layout.{lists, entries, events, sampleAt, firstOdt}
 use Rattle.session.specs.Memory.{pick, bytesOf}
 use Rattle.session.specs.State.{consistent}
 use Rattle.session.specs.Lists.{sizeOf, extensionOf, addressOf, modeOf, runsOf, storedLength}
@@ -90,7 +90,7 @@ happened t = record { evented = Done (t .sampled) (t .missed); state = t .state 
 unfoldable pub eventOf : List ℕ → List ℕ → List ℕ → ℕ → ℕ → Happened
 eventOf s cal meas event clock =
     cond (consistent s)
-    (cond (ltb 1 event) (record { evented = BadEvent; state = s })
+    (cond (leb events event) (record { evented = BadEvent; state = s })
     (happened (tally s event clock cal meas lists)))
     (record { evented = NoState; state = s })
 

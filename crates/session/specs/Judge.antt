@@ -5,7 +5,7 @@ use mathlib.Core.Bool.{cond}
 use mathlib.Core.List.{List}
 use lib.Dec.{eqb, ltb, leb}
 use lib.ListN.{length, getD}
-use Rattle.session.specs.Layout.{lists, odts, entries, entryMost, addressable, firstOdt, listOf}
+use Rattle.session.specs.Layout.{lists, odts, entries, events, entryMost, uploadMost, downloadMost, addressable, firstOdt, listOf}
 use Rattle.session.specs.Bytes.{u16At, u32At}
 use Rattle.session.specs.Generator.{keyOf}
 use Rattle.session.specs.Memory.{pick, insideOf}
@@ -66,7 +66,7 @@ unfoldable pub uploadDeed : Mta → ℕ → ℕ → ℕ → Deed
 uploadDeed Unset n nc nm = deed.Refuse Sequence
 uploadDeed (At e a) n nc nm =
     cond (eqb n 0) (deed.Refuse OutOfRange)
-    (cond (ltb 7 n) (deed.Refuse OutOfRange)
+    (cond (ltb uploadMost n) (deed.Refuse OutOfRange)
     (cond (insideOf a n (pick e nc nm)) (deed.Upload e a n)
     (deed.Refuse NotInside)))
 
@@ -74,7 +74,7 @@ uploadDeed (At e a) n nc nm =
 unfoldable pub shortUploadDeed : ℕ → ℕ → ℕ → ℕ → ℕ → Deed
 shortUploadDeed n ext a nc nm =
     cond (eqb n 0) (deed.Refuse OutOfRange)
-    (cond (ltb 7 n) (deed.Refuse OutOfRange)
+    (cond (ltb uploadMost n) (deed.Refuse OutOfRange)
     (cond (ltb 1 ext) (deed.Refuse OutOfRange)
     (cond (insideOf a n (pick (extensionFrom ext) nc nm)) (deed.ShortUpload (extensionFrom ext) a n)
     (deed.Refuse NotInside))))
@@ -97,7 +97,7 @@ unfoldable pub downloadDeed : Mta → ℕ → ℕ → ℕ → Deed
 downloadDeed Unset n length nc = deed.Refuse Sequence
 downloadDeed (At e a) n length nc =
     cond (eqb n 0) (deed.Refuse OutOfRange)
-    (cond (ltb 6 n) (deed.Refuse OutOfRange)
+    (cond (ltb downloadMost n) (deed.Refuse OutOfRange)
     (cond (ltb length (n + 2)) (deed.Refuse DataMissing)
     (downloadTo e a n nc)))
 
@@ -138,7 +138,7 @@ unfoldable pub modeDeed : List ℕ → ℕ → ℕ → ℕ → ℕ → ℕ → D
 modeDeed s mode l event prescaler priority =
     cond (eqb mode 0x10)
     (cond (leb lists l) (deed.Refuse OutOfRange)
-    (cond (ltb 1 event) (deed.Refuse OutOfRange)
+    (cond (leb events event) (deed.Refuse OutOfRange)
     (cond (eqb prescaler 1)
     (cond (eqb priority 0)
     (cond (runsOf s l) (deed.Refuse ListRuns)

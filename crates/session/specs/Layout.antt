@@ -1,5 +1,6 @@
 -- Where everything lies in the lent state. Limits and places have one name each; later limits change numbers here.
-use Prim.Native.Nat.{ℕ, _+_, _*_, _/_}
+use Prim.Native.Nat.{ℕ, _+_, _*_, _-_, _/_}
+use Rattle.line.specs.Message.{most}
 
 -- four lists, each two ODTs of four entries
 abbrev pub lists : ℕ
@@ -11,15 +12,50 @@ odts = 2
 abbrev pub entries : ℕ
 entries = 4
 
+abbrev pub lastList : ℕ
+lastList = lists - 1
+
+abbrev pub lastEntry : ℕ
+lastEntry = entries - 1
+
+-- in all
+abbrev pub allOdts : ℕ
+allOdts = lists * odts
+
+abbrev pub allEntries : ℕ
+allEntries = allOdts * entries
+
+-- events 0 and 1
+abbrev pub events : ℕ
+events = 2
+
+-- most bytes of a packet, and of a sample in store, which is without its ODT's number
+abbrev pub packetMost : ℕ
+packetMost = most
+
+abbrev pub storedMost : ℕ
+storedMost = packetMost - 1
+
+-- the clock before ODT 0's bytes
+abbrev pub clockSize : ℕ
+clockSize = 2
+
 -- most bytes of an entry, and of each ODT in a packet
 abbrev pub entryMost : ℕ
 entryMost = 4
 
 abbrev pub odt0Most : ℕ
-odt0Most = 5
+odt0Most = storedMost - clockSize
 
 abbrev pub odt1Most : ℕ
-odt1Most = 7
+odt1Most = storedMost
+
+-- most bytes of an UPLOAD, after FF, and of a DOWNLOAD, after its code and count
+abbrev pub uploadMost : ℕ
+uploadMost = packetMost - 1
+
+abbrev pub downloadMost : ℕ
+downloadMost = packetMost - 2
 
 -- the first 4,096 bytes of a memory at most can be addressed
 abbrev pub addressable : ℕ
@@ -74,25 +110,37 @@ abbrev pub pointerAt : ℕ
 pointerAt = 20
 
 -- of each list: mode, selected, running
+abbrev pub listSize : ℕ
+listSize = 3
+
 abbrev pub modeAt : ℕ → ℕ
-modeAt l = 21 + 3 * l
+modeAt l = 21 + listSize * l
 
 abbrev pub selectedAt : ℕ → ℕ
-selectedAt l = 22 + 3 * l
+selectedAt l = 22 + listSize * l
 
 abbrev pub runningAt : ℕ → ℕ
-runningAt l = 23 + 3 * l
+runningAt l = 23 + listSize * l
 
 -- of each ODT, by its absolute number: four entries of size, extension, address
+abbrev pub entrySize : ℕ
+entrySize = 4
+
+abbrev pub odtSize : ℕ
+odtSize = entries * entrySize
+
 abbrev pub entriesAt : ℕ → ℕ
-entriesAt k = 33 + 16 * k
+entriesAt k = 33 + odtSize * k
 
 abbrev pub entryAt : ℕ → ℕ → ℕ
-entryAt k e = entriesAt k + 4 * e
+entryAt k e = entriesAt k + entrySize * e
 
 -- of each ODT: the length of its waiting packet without the number, and seven bytes
+abbrev pub sampleSize : ℕ
+sampleSize = storedMost + 1
+
 abbrev pub sampleAt : ℕ → ℕ
-sampleAt k = 161 + 8 * k
+sampleAt k = 161 + sampleSize * k
 
 -- the reader's place with its message buffer
 abbrev pub placeAt : ℕ

@@ -1,10 +1,10 @@
 -- How the lists read: their modes, entries and waiting packets.
-use Prim.Native.Nat.{ℕ, zero, suc, _+_, _%_}
+use Prim.Native.Nat.{ℕ, zero, suc, _+_, _*_, _%_}
 use mathlib.Core.Bool.{Bool, true, false, cond}
 use mathlib.Core.List.{List}
 use lib.Dec.{eqb, ltb}
 use lib.ListN.{getD, set}
-use Rattle.session.specs.Layout.{entryMost, odt0Most, odt1Most, modeAt, selectedAt, runningAt, entriesAt, entryAt, sampleAt, firstOdt}
+use Rattle.session.specs.Layout.{odts, events, storedMost, clockSize, entryMost, odt0Most, odt1Most, listSize, modeAt, selectedAt, runningAt, entrySize, odtSize, entriesAt, entryAt, sampleAt, firstOdt}
 use Rattle.session.specs.Bytes.{u16At, put16, cleared}
 use Rattle.session.specs.State.{flagOf, openOf}
 use Rattle.session.specs.declared.Extension.{Extension}
@@ -28,7 +28,7 @@ odtBytes s k = sizeOf s k 0 + sizeOf s k 1 + sizeOf s k 2 + sizeOf s k 3
 -- ---- lists
 -- mode never set, or set for event 0 or event 1
 unfoldable pub modeOf : List ℕ → ℕ → ℕ
-modeOf s l = cond (ltb 2 (getD s (modeAt l) 0)) 0 (getD s (modeAt l) 0)
+modeOf s l = cond (ltb events (getD s (modeAt l) 0)) 0 (getD s (modeAt l) 0)
 
 -- whether a list can be started
 unfoldable pub fitOf : List ℕ → ℕ → Bool
@@ -59,10 +59,10 @@ allFit s (suc n) = cond (allFit s n) (mayStart s n) false
 -- ---- packets
 -- the length of ODT k's packet in store, without its number: the clock at least for an ODT 0, 1 at least for an ODT 1
 unfoldable pub leastOf : ℕ → ℕ
-leastOf k = cond (eqb (k % 2) 0) 2 1
+leastOf k = cond (eqb (k % odts) 0) clockSize 1
 
 unfoldable pub storedLength : List ℕ → ℕ → ℕ
-storedLength s k = cond (ltb (getD s (sampleAt k) 0) (leastOf k)) 0 (cond (ltb 7 (getD s (sampleAt k) 0)) 0 (getD s (sampleAt k) 0))
+storedLength s k = cond (ltb (getD s (sampleAt k) 0) (leastOf k)) 0 (cond (ltb storedMost (getD s (sampleAt k) 0)) 0 (getD s (sampleAt k) 0))
 
 -- ---- changes
 -- the running flag, with both packets dropped
@@ -77,7 +77,7 @@ started s l = restarted s l 1
 
 -- as after E3
 unfoldable pub listCleared : List ℕ → ℕ → List ℕ
-listCleared s l = cleared (cleared s (modeAt l) 3) (entriesAt (firstOdt l)) 32
+listCleared s l = cleared (cleared s (modeAt l) listSize) (entriesAt (firstOdt l)) (odts * odtSize)
 
 unfoldable pub modeSet : List ℕ → ℕ → ℕ → List ℕ
 modeSet s l event = set (set s (modeAt l) (event + 1)) (runningAt l) 0
@@ -88,7 +88,7 @@ tagOf Measured = 1
 
 -- an entry of ODT k, whose list is l; one of size 0 is all zeros
 unfoldable pub entryCleared : List ℕ → ℕ → ℕ → ℕ → List ℕ
-entryCleared s l k e = cleared (set s (runningAt l) 0) (entryAt k e) 4
+entryCleared s l k e = cleared (set s (runningAt l) 0) (entryAt k e) entrySize
 
 unfoldable pub entrySet : List ℕ → ℕ → ℕ → ℕ → ℕ → Extension → ℕ → List ℕ
 entrySet s l k e n ext a =

@@ -1,12 +1,12 @@
 -- What is done: of each deed the answer, the state after it, and the calibration memory after it. No check is left.
-use Prim.Native.Nat.{ℕ, _+_, _*_}
+use Prim.Native.Nat.{ℕ, _+_}
 use mathlib.Core.Path.{_≡_}
 use mathlib.Core.Bool.{cond}
 use mathlib.Core.List.{List, [], _∷_}
 use lib.Dec.{eqb}
 use lib.ListN.{set}
 use lib.Seq.{sets}
-use Rattle.session.specs.Layout.{lists, selectedAt, listOf}
+use Rattle.session.specs.Layout.{lists, lastEntry, events, packetMost, entryMost, selectedAt, firstOdt, listOf}
 use Rattle.session.specs.Bytes.{block, bytes32}
 use Rattle.session.specs.Generator.{nextOf}
 use Rattle.session.specs.Memory.{pick, blockSum}
@@ -24,7 +24,7 @@ use Rattle.session.specs.declared.Deed.the-variants.{Refuse, RefuseSize,
 
 -- after an ODT's last entry the pointer is unset
 unfoldable pub nextEntry : ℕ → ℕ → Pointer
-nextEntry k e = cond (eqb e 3) NoEntry (Entry k (e + 1))
+nextEntry k e = cond (eqb e lastEntry) NoEntry (Entry k (e + 1))
 
 -- ---- the state after a deed, but for its answer
 unfoldable pub effect : Deed → List ℕ → List ℕ
@@ -63,7 +63,7 @@ unfoldable pub reply : Deed → List ℕ → List ℕ → List ℕ → List ℕ
 reply (Refuse r) s cal meas = 0xFE ∷ codeOf r ∷ []
 reply RefuseSize s cal meas = 0xFE ∷ 0x22 ∷ 0x00 ∷ 0x00 ∷ 0x00 ∷ 0x10 ∷ 0x00 ∷ 0x00 ∷ []
 reply WrongKey s cal meas = 0xFE ∷ codeOf reason.WrongKey ∷ []
-reply Connect s cal meas = 0xFF ∷ 0x05 ∷ 0x00 ∷ 0x08 ∷ 0x08 ∷ 0x00 ∷ 0x01 ∷ 0x01 ∷ []
+reply Connect s cal meas = 0xFF ∷ 0x05 ∷ 0x00 ∷ packetMost ∷ packetMost ∷ 0x00 ∷ 0x01 ∷ 0x01 ∷ []
 reply Disconnect s cal meas = 0xFF ∷ []
 reply Status s cal meas = 0xFF ∷ cond (anyRuns s lists) 0x40 0x00 ∷ maskOf s ∷ 0x00 ∷ 0x00 ∷ 0x00 ∷ []
 reply Synch s cal meas = 0xFE ∷ 0x00 ∷ []
@@ -80,15 +80,15 @@ reply (SetPointer k e) s cal meas = 0xFF ∷ []
 reply (ClearEntry k e) s cal meas = 0xFF ∷ []
 reply (WriteEntry k e n ext a) s cal meas = 0xFF ∷ []
 reply (SetMode l event) s cal meas = 0xFF ∷ []
-reply (Stop l) s cal meas = 0xFF ∷ 2 * l ∷ []
-reply (Start l) s cal meas = 0xFF ∷ 2 * l ∷ []
-reply (KeepRunning l) s cal meas = 0xFF ∷ 2 * l ∷ []
-reply (Select l) s cal meas = 0xFF ∷ 2 * l ∷ []
+reply (Stop l) s cal meas = 0xFF ∷ firstOdt l ∷ []
+reply (Start l) s cal meas = 0xFF ∷ firstOdt l ∷ []
+reply (KeepRunning l) s cal meas = 0xFF ∷ firstOdt l ∷ []
+reply (Select l) s cal meas = 0xFF ∷ firstOdt l ∷ []
 reply StopAll s cal meas = 0xFF ∷ []
 reply StartSelected s cal meas = 0xFF ∷ []
 reply StopSelected s cal meas = 0xFF ∷ []
-reply ProcessorInfo s cal meas = 0xFF ∷ 0x10 ∷ 0x04 ∷ 0x00 ∷ 0x02 ∷ 0x00 ∷ 0x00 ∷ 0x00 ∷ []
-reply ResolutionInfo s cal meas = 0xFF ∷ 0x01 ∷ 0x04 ∷ 0x00 ∷ 0x00 ∷ 0x6A ∷ 0x01 ∷ 0x00 ∷ []
+reply ProcessorInfo s cal meas = 0xFF ∷ 0x10 ∷ lists ∷ 0x00 ∷ events ∷ 0x00 ∷ 0x00 ∷ 0x00 ∷ []
+reply ResolutionInfo s cal meas = 0xFF ∷ 0x01 ∷ entryMost ∷ 0x00 ∷ 0x00 ∷ 0x6A ∷ 0x01 ∷ 0x00 ∷ []
 
 -- ---- the calibration memory after a deed whose packet is p: DOWNLOAD alone writes there
 unfoldable pub written : Deed → List ℕ → List ℕ → List ℕ

@@ -5,16 +5,16 @@ use mathlib.Core.Bool.{cond}
 use mathlib.Core.List.{List}
 use lib.Dec.{eqb}
 use lib.ListN.{length, set, replicate}
-use Rattle.session.specs.Layout.{mark, markAt, servedAt, size}
+use Rattle.session.specs.Layout.{lastList, mark, markAt, servedAt, size}
 use Rattle.session.specs.Bytes.{put32}
 use Rattle.session.specs.Generator.{startOf}
 use Rattle.session.specs.State.{setGenerator}
 use Rattle.session.specs.declared.PoweredUp.{PoweredUp}
 use Rattle.session.specs.declared.PoweredUp.the-variants.{Done, NoState}
 
--- list 3 counts as last served; all else is 0
+-- the last list counts as last served; all else is 0
 unfoldable pub powered : ℕ → List ℕ
-powered start = set (setGenerator (put32 (replicate size 0) markAt mark) (startOf start)) servedAt 3
+powered start = set (setGenerator (put32 (replicate size 0) markAt mark) (startOf start)) servedAt lastList
 
 pub record Power : Type 0 where
   pub poweredUp : PoweredUp

@@ -8,7 +8,7 @@ use lib.Seq.{sets}
 use Rattle.line.specs.Message.{longest}
 use Rattle.line.specs.declared.Place.{Place}
 use Rattle.line.specs.declared.Place.the-variants.{Outside, Inside, Escaped}
-use Rattle.session.specs.Layout.{mark, markAt, generatorAt, ctrAt, openAt, calibrationAt, listsAt, seedAt, mtaAt, addressAt, pointerAt, placeAt, countAt, messageAt, answerAt, sessionAt, sessionSize, size}
+use Rattle.session.specs.Layout.{entries, allOdts, allEntries, packetMost, mark, markAt, generatorAt, ctrAt, openAt, calibrationAt, listsAt, seedAt, mtaAt, addressAt, pointerAt, placeAt, countAt, messageAt, answerAt, sessionAt, sessionSize, size}
 use Rattle.session.specs.Bytes.{u32At, put32, block, cleared}
 use Rattle.session.specs.Generator.{startOf}
 use Rattle.session.specs.declared.Resource.{Resource}
@@ -81,16 +81,16 @@ setMta s (At e a) = put32 (set s mtaAt (mtaTag e)) addressAt a
 
 -- one more than the entry's number among all of them
 unfoldable pub pointerOf : List ℕ → Pointer
-pointerOf s = cond (eqb (getD s pointerAt 0) 0) NoEntry (cond (ltb 32 (getD s pointerAt 0)) NoEntry (Entry ((getD s pointerAt 0 - 1) / 4) ((getD s pointerAt 0 - 1) % 4)))
+pointerOf s = cond (eqb (getD s pointerAt 0) 0) NoEntry (cond (ltb allEntries (getD s pointerAt 0)) NoEntry (Entry ((getD s pointerAt 0 - 1) / entries) ((getD s pointerAt 0 - 1) % entries)))
 
 unfoldable pub setPointer : List ℕ → Pointer → List ℕ
 setPointer s NoEntry = set s pointerAt 0
-setPointer s (Entry k e) = set s pointerAt (4 * k + e + 1)
+setPointer s (Entry k e) = set s pointerAt (entries * k + e + 1)
 
 -- one of the entries
 abbrev pub Pointed : Pointer → Type 0
 Pointed NoEntry = Unit
-Pointed (Entry k e) = (k < 8) × (e < 4)
+Pointed (Entry k e) = (k < allOdts) × (e < entries)
 
 -- a closed session, with everything in it as in a fresh one; and a fresh one
 unfoldable pub closed : List ℕ → List ℕ
@@ -117,7 +117,7 @@ setMessage s m = take messageAt s ++ (m ++ drop answerAt s)
 
 -- ---- the waiting answer: none, or 1 to 8 bytes
 unfoldable pub answerLength : List ℕ → ℕ
-answerLength s = cond (eqb (getD s answerAt 0) 0) 0 (cond (ltb 8 (getD s answerAt 0)) 0 (getD s answerAt 0))
+answerLength s = cond (eqb (getD s answerAt 0) 0) 0 (cond (ltb packetMost (getD s answerAt 0)) 0 (getD s answerAt 0))
 
 abbrev pub waits : List ℕ → Bool
 waits s = ltb 0 (answerLength s)

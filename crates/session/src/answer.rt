@@ -3,7 +3,7 @@ ghost use mathlib.Core.Path.{_≡_};
 ghost use mathlib.Core.List.{[], _∷_};
 ghost use Prim.Native.Nat.{_+_, _≤_};
 ghost use lib.ListN.{length};
-ghost use Rattle.session.specs.Layout.{size};
+ghost use Rattle.session.specs.Layout.{uploadMost, size};
 ghost use Rattle.session.specs.Bytes.{block, bytes32};
 ghost use Rattle.session.specs.Command.{codeOf};
 ghost use Rattle.session.specs.State.{answered};
@@ -84,7 +84,7 @@ pub fn sum(s: &mut [u8], x: u32)
 
 // FF and n bytes of a memory.
 pub fn bytes(s: &mut [u8], mem: &[u8], at: usize, n: u8)
-    requires { ⌜ (length (now s) ≡ size) × (n ≤ 7) × (at + n ≤ length (now mem)) ⌝ }
+    requires { ⌜ (length (now s) ≡ size) × (n ≤ uploadMost) × (at + n ≤ length (now mem)) ⌝ }
     ensures { λ _. ⌜ now (s .exit) ≡ answered (now (s .entry)) (0xFF ∷ block (now (mem .entry)) at n) ⌝ }
 {
     s[layout::ANSWER] = n + 1;

@@ -1,8 +1,8 @@
 // The lists: how they are changed.
 ghost use mathlib.Core.Path.{_≡_};
-ghost use Prim.Native.Nat.{_≤_, _<_};
+ghost use Prim.Native.Nat.{_<_};
 ghost use lib.ListN.{length, set};
-ghost use Rattle.session.specs.Layout.{lists, size, selectedAt, listOf};
+ghost use Rattle.session.specs.Layout.{lists, entries, allOdts, events, size, selectedAt, listOf};
 ghost use Rattle.session.specs.Lists.{restarted, stopped, started, listCleared, modeSet, tagOf, entryCleared, entrySet, stopEach, startOne, startSelected, stopOne, stopSelected};
 use crate::Extension;
 use crate::bytes::clear;
@@ -17,8 +17,8 @@ fn restart(s: &mut [u8], l: usize, on: u8)
     ensures { λ _. ⌜ now (s .exit) ≡ restarted (now (s .entry)) l on ⌝ }
 {
     s[layout::RUNNING + layout::LIST_SIZE * l] = on;
-    s[layout::SAMPLE + layout::SAMPLE_SIZE * (2 * l)] = 0;
-    s[layout::SAMPLE + layout::SAMPLE_SIZE * (2 * l + 1)] = 0;
+    s[layout::SAMPLE + layout::SAMPLE_SIZE * (layout::ODTS * l)] = 0;
+    s[layout::SAMPLE + layout::SAMPLE_SIZE * (layout::ODTS * l + 1)] = 0;
 }
 
 pub fn stop(s: &mut [u8], l: usize)
@@ -48,11 +48,15 @@ pub fn clear_list(s: &mut [u8], l: usize)
     ensures { λ _. ⌜ now (s .exit) ≡ listCleared (now (s .entry)) l ⌝ }
 {
     clear(s, layout::MODE + layout::LIST_SIZE * l, layout::LIST_SIZE);
-    clear(s, layout::ENTRY + layout::ODT_SIZE * (2 * l), 32);
+    clear(
+        s,
+        layout::ENTRY + layout::ODT_SIZE * (layout::ODTS * l),
+        layout::LIST_ENTRIES_SIZE,
+    );
 }
 
 pub fn set_mode(s: &mut [u8], l: usize, event: u8)
-    requires { ⌜ (length (now s) ≡ size) × (l < lists) × (event ≤ 1) ⌝ }
+    requires { ⌜ (length (now s) ≡ size) × (l < lists) × (event < events) ⌝ }
     ensures { λ _. ⌜ now (s .exit) ≡ modeSet (now (s .entry)) l event ⌝ }
 {
     s[layout::MODE + layout::LIST_SIZE * l] = event + 1;
@@ -69,10 +73,10 @@ fn tag(extension: Extension) -> u8
 }
 
 pub fn clear_entry(s: &mut [u8], k: usize, e: usize)
-    requires { ⌜ (length (now s) ≡ size) × (k < 8) × (e < 4) ⌝ }
+    requires { ⌜ (length (now s) ≡ size) × (k < allOdts) × (e < entries) ⌝ }
     ensures { λ _. ⌜ now (s .exit) ≡ entryCleared (now (s .entry)) (listOf k) k e ⌝ }
 {
-    s[layout::RUNNING + layout::LIST_SIZE * (k / 2)] = 0;
+    s[layout::RUNNING + layout::LIST_SIZE * (k / layout::ODTS)] = 0;
     clear(
         s,
         layout::ENTRY + layout::ODT_SIZE * k + layout::ENTRY_SIZE * e,
@@ -81,11 +85,11 @@ pub fn clear_entry(s: &mut [u8], k: usize, e: usize)
 }
 
 pub fn set_entry(s: &mut [u8], k: usize, e: usize, n: u8, extension: Extension, address: u32)
-    requires { ⌜ (length (now s) ≡ size) × (k < 8) × (e < 4) ⌝ }
+    requires { ⌜ (length (now s) ≡ size) × (k < allOdts) × (e < entries) ⌝ }
     ensures { λ _. ⌜ now (s .exit) ≡ entrySet (now (s .entry)) (listOf k) k e n extension address ⌝ }
 {
     let at = layout::ENTRY + layout::ODT_SIZE * k + layout::ENTRY_SIZE * e;
-    s[layout::RUNNING + layout::LIST_SIZE * (k / 2)] = 0;
+    s[layout::RUNNING + layout::LIST_SIZE * (k / layout::ODTS)] = 0;
     s[at] = n;
     s[at + 1] = tag(extension);
     store16(s, at + 2, address);
@@ -98,7 +102,7 @@ pub fn stop_all(s: &mut [u8])
     ensures { λ _. ⌜ now (s .exit) ≡ stopEach (now (s .entry)) lists ⌝ }
 {
     let mut l = 0;
-    while l < 4 {
+    while l < layout::LISTS {
         stop(s, l);
         select(s, l, 0);
         l += 1;
@@ -121,7 +125,7 @@ pub fn start_selected(s: &mut [u8])
     ensures { λ _. ⌜ now (s .exit) ≡ startSelected (now (s .entry)) lists ⌝ }
 {
     let mut l = 0;
-    while l < 4 {
+    while l < layout::LISTS {
         start_one(s, l);
         select(s, l, 0);
         l += 1;
@@ -142,7 +146,7 @@ pub fn stop_selected(s: &mut [u8])
     ensures { λ _. ⌜ now (s .exit) ≡ stopSelected (now (s .entry)) lists ⌝ }
 {
     let mut l = 0;
-    while l < 4 {
+    while l < layout::LISTS {
         stop_one(s, l);
         select(s, l, 0);
         l += 1;

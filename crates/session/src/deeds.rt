@@ -4,7 +4,7 @@ ghost use mathlib.Core.Bool.{cond};
 ghost use mathlib.Core.List.{[], _∷_};
 ghost use Prim.Native.Nat.{_+_, _≤_};
 ghost use lib.ListN.{length};
-ghost use Rattle.session.specs.Layout.{size, addressable, packetAt};
+ghost use Rattle.session.specs.Layout.{packetMost, uploadMost, downloadMost, size, addressable, packetAt};
 ghost use Rattle.session.specs.Bytes.{block};
 ghost use Rattle.session.specs.Memory.{pick, blockSum};
 ghost use Rattle.session.specs.State.{answered};
@@ -35,7 +35,17 @@ pub fn connect(s: &mut [u8])
     ensures { λ _. ⌜ now (s .exit) ≡ after Deed.Connect (now (s .entry)) [] [] ⌝ }
 {
     state::begin(s);
-    answer::eight(s, 0xFF, 0x05, 0x00, 0x08, 0x08, 0x00, 0x01, 0x01);
+    answer::eight(
+        s,
+        0xFF,
+        0x05,
+        0x00,
+        layout::PACKET_MOST,
+        layout::PACKET_MOST,
+        0x00,
+        0x01,
+        0x01,
+    );
 }
 
 pub fn disconnect(s: &mut [u8])
@@ -102,7 +112,7 @@ pub fn set_mta(s: &mut [u8], extension: Extension, address: u32)
 
 // FF and a block of the memory that the extension stands for. MTA stays.
 pub fn read(s: &mut [u8], cal: &[u8], meas: &[u8], extension: Extension, address: u32, n: u8)
-    requires { ⌜ (length (now s) ≡ size) × Inside 7 address n (pick extension (length (now cal)) (length (now meas))) ⌝ }
+    requires { ⌜ (length (now s) ≡ size) × Inside uploadMost address n (pick extension (length (now cal)) (length (now meas))) ⌝ }
     ensures { λ _. ⌜ now (s .exit) ≡ answered (now (s .entry)) (0xFF ∷ block (pick extension (now (cal .entry)) (now (meas .entry))) address n) ⌝ }
 {
     match extension {
@@ -116,7 +126,7 @@ pub fn read(s: &mut [u8], cal: &[u8], meas: &[u8], extension: Extension, address
 }
 
 pub fn upload(s: &mut [u8], cal: &[u8], meas: &[u8], extension: Extension, address: u32, n: u8)
-    requires { ⌜ (length (now s) ≡ size) × Inside 7 address n (pick extension (length (now cal)) (length (now meas))) ⌝ }
+    requires { ⌜ (length (now s) ≡ size) × Inside uploadMost address n (pick extension (length (now cal)) (length (now meas))) ⌝ }
     ensures { λ _. ⌜ now (s .exit) ≡ after (Deed.Upload extension address n) (now (s .entry)) (now (cal .entry)) (now (meas .entry)) ⌝ }
 {
     state::set_mta(s, Mta::At(extension, address + n as u32));
@@ -144,7 +154,7 @@ pub fn checksum(s: &mut [u8], cal: &[u8], meas: &[u8], extension: Extension, add
 
 // The data lies in the packet from its third byte on.
 pub fn download(s: &mut [u8], cal: &mut [u8], address: u32, n: u8, len: u8)
-    requires { ⌜ (length (now s) ≡ size) × (len ≤ 8) × (n + 2 ≤ len) × Inside 6 address n (length (now cal)) ⌝ }
+    requires { ⌜ (length (now s) ≡ size) × (len ≤ packetMost) × (n + 2 ≤ len) × Inside downloadMost address n (length (now cal)) ⌝ }
     ensures { λ _. ⌜ (now (s .exit) ≡ after (Deed.Download address n) (now (s .entry)) [] []) × (now (cal .exit) ≡ written (Deed.Download address n) (block (now (s .entry)) packetAt len) (now (cal .entry))) ⌝ }
 {
     copy(cal, address as usize, s, layout::PACKET + 2, n as usize);

@@ -4,7 +4,7 @@ ghost use mathlib.Core.List.{_∷_};
 ghost use Prim.Native.Nat.{_+_, _*_, _≤_, _<_, _%_, _/_};
 ghost use lib.ListN.{length};
 ghost use lib.Seq.{sets};
-ghost use Rattle.session.specs.Layout.{lists, entries, size, entryAt, sampleAt};
+ghost use Rattle.session.specs.Layout.{lists, entries, allOdts, events, entryMost, size, entryAt, sampleAt};
 ghost use Rattle.session.specs.Memory.{pick, bytesOf};
 ghost use Rattle.session.specs.Event.{unsent, samplingOf, entryBytes, gathered, stored, captured, sampledState, sampledBy, missedBy, Counts, tally};
 use crate::Counted;
@@ -20,15 +20,15 @@ fn is_unsent(s: &[u8], l: usize) -> bool
     requires { ⌜ (length (now s) ≡ size) × (l < lists) ⌝ }
     ensures { λ r. ⌜ r ≡ unsent (now (s .entry)) l ⌝ }
 {
-    if 0 < lists::stored_length(s, 2 * l) {
+    if 0 < lists::stored_length(s, layout::ODTS * l) {
         return true;
     }
-    0 < lists::stored_length(s, 2 * l + 1)
+    0 < lists::stored_length(s, layout::ODTS * l + 1)
 }
 
 // What an event is to a list.
 fn sampling(s: &[u8], l: usize, event: u8) -> Sampling
-    requires { ⌜ (length (now s) ≡ size) × (l < lists) × (event ≤ 1) ⌝ }
+    requires { ⌜ (length (now s) ≡ size) × (l < lists) × (event < events) ⌝ }
     ensures { λ r. ⌜ r ≡ samplingOf (now (s .entry)) l event ⌝ }
 {
     if !lists::runs(s, l) {
@@ -57,7 +57,7 @@ fn take_block(s: &mut [u8], to: usize, mem: &[u8], address: usize, n: usize)
 
 // The bytes of one entry.
 fn take_entry(s: &mut [u8], to: usize, cal: &[u8], meas: &[u8], k: usize, e: usize)
-    requires { ⌜ (length (now s) ≡ size) × (k < 8) × (e < 4) × (to + 4 ≤ size) ⌝ }
+    requires { ⌜ (length (now s) ≡ size) × (k < allOdts) × (e < entries) × (to + entryMost ≤ size) ⌝ }
     ensures { λ _. ⌜ now (s .exit) ≡ sets (now (s .entry)) to (entryBytes (now (s .entry)) k e (now (cal .entry)) (now (meas .entry))) ⌝ }
 {
     let n = lists::entry_size(s, k, e) as usize;
@@ -71,12 +71,12 @@ fn take_entry(s: &mut [u8], to: usize, cal: &[u8], meas: &[u8], k: usize, e: usi
 
 // The bytes of an ODT's entries, in entry order. They go past all entries.
 fn gather(s: &mut [u8], from: usize, cal: &[u8], meas: &[u8], k: usize)
-    requires { ⌜ (length (now s) ≡ size) × (k < 8) × (sampleAt 0 ≤ from) × (from + 16 ≤ size) ⌝ }
+    requires { ⌜ (length (now s) ≡ size) × (k < allOdts) × (sampleAt 0 ≤ from) × (from + entries * entryMost ≤ size) ⌝ }
     ensures { λ _. ⌜ now (s .exit) ≡ sets (now (s .entry)) from (gathered (now (s .entry)) k (now (cal .entry)) (now (meas .entry)) entries) ⌝ }
 {
     let mut to = from;
     let mut e = 0;
-    while e < 4 {
+    while e < layout::ENTRIES {
         let n = lists::entry_size(s, k, e) as usize;
         take_entry(s, to, cal, meas, k, e);
         to += n;
@@ -86,19 +86,19 @@ fn gather(s: &mut [u8], from: usize, cal: &[u8], meas: &[u8], k: usize)
 
 // ODT 0: the clock, then its bytes.
 fn capture_first(s: &mut [u8], cal: &[u8], meas: &[u8], k: usize, clock: u16)
-    requires { ⌜ (length (now s) ≡ size) × (k < 8) ⌝ }
+    requires { ⌜ (length (now s) ≡ size) × (k < allOdts) ⌝ }
     ensures { λ _. ⌜ now (s .exit) ≡ stored (now (s .entry)) k (clock % 256 ∷ clock / 256 % 256 ∷ gathered (now (s .entry)) k (now (cal .entry)) (now (meas .entry)) entries) ⌝ }
 {
     let at = layout::SAMPLE + layout::SAMPLE_SIZE * k;
     let n = lists::odt_bytes(s, k);
-    s[at] = n + 2;
+    s[at] = n + layout::CLOCK_SIZE;
     store16(s, at + 1, clock as u32);
-    gather(s, at + 3, cal, meas, k);
+    gather(s, at + layout::CLOCKED, cal, meas, k);
 }
 
 // ODT 1: its bytes alone.
 fn capture_second(s: &mut [u8], cal: &[u8], meas: &[u8], k: usize)
-    requires { ⌜ (length (now s) ≡ size) × (k < 8) ⌝ }
+    requires { ⌜ (length (now s) ≡ size) × (k < allOdts) ⌝ }
     ensures { λ _. ⌜ now (s .exit) ≡ stored (now (s .entry)) k (gathered (now (s .entry)) k (now (cal .entry)) (now (meas .entry)) entries) ⌝ }
 {
     let at = layout::SAMPLE + layout::SAMPLE_SIZE * k;
@@ -112,13 +112,13 @@ fn capture(s: &mut [u8], cal: &[u8], meas: &[u8], l: usize, clock: u16)
     requires { ⌜ (length (now s) ≡ size) × (l < lists) ⌝ }
     ensures { λ _. ⌜ now (s .exit) ≡ captured (now (s .entry)) l clock (now (cal .entry)) (now (meas .entry)) ⌝ }
 {
-    capture_first(s, cal, meas, 2 * l, clock);
-    capture_second(s, cal, meas, 2 * l + 1);
+    capture_first(s, cal, meas, layout::ODTS * l, clock);
+    capture_second(s, cal, meas, layout::ODTS * l + 1);
 }
 
 // One list.
 fn sample(s: &mut [u8], cal: &[u8], meas: &[u8], l: usize, event: u8, clock: u16) -> Sampling
-    requires { ⌜ (length (now s) ≡ size) × (l < lists) × (event ≤ 1) ⌝ }
+    requires { ⌜ (length (now s) ≡ size) × (l < lists) × (event < events) ⌝ }
     ensures { λ r. ⌜ (r ≡ samplingOf (now (s .entry)) l event) × (now (s .exit) ≡ sampledState r (now (s .entry)) l clock (now (cal .entry)) (now (meas .entry))) ⌝ }
 {
     let c = sampling(s, l, event);
@@ -154,13 +154,13 @@ fn missed_by(c: Sampling) -> u8
 
 // All lists: how many sampled and how many missed.
 pub fn happen(s: &mut [u8], cal: &[u8], meas: &[u8], event: u8, clock: u16) -> Counted
-    requires { ⌜ (length (now s) ≡ size) × (event ≤ 1) ⌝ }
+    requires { ⌜ (length (now s) ≡ size) × (event < events) ⌝ }
     ensures { λ r. ⌜ Counts (tally (now (s .entry)) event clock (now (cal .entry)) (now (meas .entry)) lists) (now (s .exit)) (r .sampled) (r .missed) ⌝ }
 {
     let mut sampled: u8 = 0;
     let mut missed: u8 = 0;
     let mut l = 0;
-    while l < 4 {
+    while l < layout::LISTS {
         let c = sample(s, cal, meas, l, event, clock);
         sampled += sampled_by(c);
         missed += missed_by(c);

@@ -2,7 +2,7 @@
 ghost use mathlib.Core.Path.{_≡_};
 ghost use Prim.Native.Nat.{_+_, _≤_, _<_};
 ghost use lib.ListN.{length};
-ghost use Rattle.session.specs.Layout.{lists, size, packetAt};
+ghost use Rattle.session.specs.Layout.{lists, packetMost, size, packetAt};
 ghost use Rattle.session.specs.Bytes.{block};
 ghost use Rattle.session.specs.State.{seedOf, pointerOf};
 ghost use Rattle.session.specs.Command.{commandOf, fewest, needsOf, lockedOf};
@@ -178,7 +178,7 @@ fn get_seed(s: &[u8], mode: u8, resource: u8) -> Deed
 }
 
 fn unlock(s: &[u8], n: u8) -> Deed
-    requires { ⌜ (length (now s) ≡ size) × (2 ≤ n) × (n ≤ 8) ⌝ }
+    requires { ⌜ (length (now s) ≡ size) × (2 ≤ n) × (n ≤ packetMost) ⌝ }
     ensures { λ r. ⌜ r ≡ unlockBy (seedOf (now (s .entry))) (block (now (s .entry)) packetAt n) (now (s .entry)) ⌝ }
 {
     let seed = state::seed(s);
@@ -219,7 +219,7 @@ fn upload(mta: Mta, n: u8, nc: usize, nm: usize) -> Deed
             if n == 0 {
                 return Deed::Refuse(Reason::OutOfRange);
             }
-            if 7 < n {
+            if layout::UPLOAD_MOST < n {
                 return Deed::Refuse(Reason::OutOfRange);
             }
             if inside(address, n as u32, length_of(extension, nc, nm)) {
@@ -237,7 +237,7 @@ fn short_upload(n: u8, extension: u8, address: u32, nc: usize, nm: usize) -> Dee
     if n == 0 {
         return Deed::Refuse(Reason::OutOfRange);
     }
-    if 7 < n {
+    if layout::UPLOAD_MOST < n {
         return Deed::Refuse(Reason::OutOfRange);
     }
     if 1 < extension {
@@ -260,7 +260,7 @@ fn build_checksum(mta: Mta, n: u32, nc: usize, nm: usize) -> Deed
             if n == 0 {
                 return Deed::RefuseSize;
             }
-            if 4096 < n {
+            if layout::CHECKSUM_MOST < n {
                 return Deed::RefuseSize;
             }
             if inside(address, n, length_of(extension, nc, nm)) {
@@ -296,7 +296,7 @@ fn download(mta: Mta, n: u8, length: u8, nc: usize) -> Deed
             if n == 0 {
                 return Deed::Refuse(Reason::OutOfRange);
             }
-            if 6 < n {
+            if layout::DOWNLOAD_MOST < n {
                 return Deed::Refuse(Reason::OutOfRange);
             }
             if length < n + 2 {
@@ -311,7 +311,7 @@ fn clear_list(s: &[u8], l: u16) -> Deed
     requires { ⌜ length (now s) ≡ size ⌝ }
     ensures { λ r. ⌜ r ≡ clearDeed (now (s .entry)) l ⌝ }
 {
-    if layout::LISTS <= l {
+    if layout::LISTS_U16 <= l {
         return Deed::Refuse(Reason::OutOfRange);
     }
     if runs(s, l as usize) {
@@ -323,16 +323,16 @@ fn clear_list(s: &[u8], l: u16) -> Deed
 fn set_pointer(l: u16, odt: u8, entry: u8) -> Deed
     ensures { λ r. ⌜ r ≡ pointerDeed l odt entry ⌝ }
 {
-    if layout::LISTS <= l {
+    if layout::LISTS_U16 <= l {
         return Deed::Refuse(Reason::OutOfRange);
     }
-    if layout::ODTS <= odt {
+    if layout::ODTS_U8 <= odt {
         return Deed::Refuse(Reason::OutOfRange);
     }
-    if layout::ENTRIES <= entry {
+    if layout::ENTRIES_U8 <= entry {
         return Deed::Refuse(Reason::OutOfRange);
     }
-    Deed::SetPointer(layout::ODTS * l as u8 + odt, entry)
+    Deed::SetPointer(layout::ODTS_U8 * l as u8 + odt, entry)
 }
 
 // A block of size 0 is always inside.
@@ -366,7 +366,7 @@ fn write_entry(s: &[u8], bit: u8, n: u8, extension: u8, address: u32, nc: usize,
             if 1 < extension {
                 return Deed::Refuse(Reason::OutOfRange);
             }
-            if runs(s, (odt / 2) as usize) {
+            if runs(s, (odt / layout::ODTS_U8) as usize) {
                 return Deed::Refuse(Reason::ListRuns);
             }
             let from = extension_from(extension);
@@ -382,10 +382,10 @@ fn set_mode(s: &[u8], mode: u8, l: u16, event: u16, prescaler: u8, priority: u8)
     if mode != 0x10 {
         return Deed::Refuse(Reason::OutOfRange);
     }
-    if layout::LISTS <= l {
+    if layout::LISTS_U16 <= l {
         return Deed::Refuse(Reason::OutOfRange);
     }
-    if 1 < event {
+    if layout::EVENTS_U16 <= event {
         return Deed::Refuse(Reason::OutOfRange);
     }
     if prescaler != 1 {
@@ -420,7 +420,7 @@ fn start_stop(s: &[u8], mode: u8, l: u16) -> Deed
     if 2 < mode {
         return Deed::Refuse(Reason::OutOfRange);
     }
-    if layout::LISTS <= l {
+    if layout::LISTS_U16 <= l {
         return Deed::Refuse(Reason::OutOfRange);
     }
     if mode == 0 {
@@ -453,7 +453,7 @@ fn start_stop_synch(s: &[u8], mode: u8) -> Deed
 
 // Each command's own checks, on the n bytes of its packet.
 fn judge_the(command: Command, s: &[u8], n: u8, nc: usize, nm: usize) -> Deed
-    requires { ⌜ (length (now s) ≡ size) × (fewest command ≤ n) × (n ≤ 8) ⌝ }
+    requires { ⌜ (length (now s) ≡ size) × (fewest command ≤ n) × (n ≤ packetMost) ⌝ }
     ensures { λ r. ⌜ r ≡ judgeThe command (block (now (s .entry)) packetAt n) (now (s .entry)) nc nm ⌝ }
 {
     let p = layout::PACKET;
@@ -490,7 +490,7 @@ fn judge_the(command: Command, s: &[u8], n: u8, nc: usize, nm: usize) -> Deed
 
 // The command in the n bytes of the packet; unknown, too short and locked are judged once for all.
 pub fn judge(s: &[u8], n: u8, nc: usize, nm: usize) -> Deed
-    requires { ⌜ (length (now s) ≡ size) × (1 ≤ n) × (n ≤ 8) ⌝ }
+    requires { ⌜ (length (now s) ≡ size) × (1 ≤ n) × (n ≤ packetMost) ⌝ }
     ensures { λ r. ⌜ r ≡ judge (block (now (s .entry)) packetAt n) (now (s .entry)) nc nm ⌝ }
 {
     let c = command(s[layout::PACKET]);

@@ -1,20 +1,61 @@
 // Where everything lies in the lent state. docs/STATE.md says how each value reads.
 
-pub const LISTS: u16 = 4;
+// Four lists, each of two ODTs of four entries.
+pub const LISTS: usize = 4;
 
-pub const ODTS: u8 = 2;
+pub const ODTS: usize = 2;
 
-pub const ENTRIES: u8 = 4;
+pub const ENTRIES: usize = 4;
+
+pub const EVENTS: u32 = 2;
+
+// The same, in the widths of packets and of the state.
+pub const LISTS_U16: u16 = LISTS as u16;
+
+pub const LISTS_U8: u8 = LISTS as u8;
+
+pub const ODTS_U8: u8 = ODTS as u8;
+
+pub const ENTRIES_U8: u8 = ENTRIES as u8;
+
+pub const EVENTS_U16: u16 = EVENTS as u16;
+
+pub const EVENTS_U8: u8 = EVENTS as u8;
+
+pub const LAST_LIST: u8 = LISTS_U8 - 1;
+
+pub const LAST_ENTRY: u8 = ENTRIES_U8 - 1;
+
+// In all.
+pub const ALL_ENTRIES: u8 = (LISTS * ODTS * ENTRIES) as u8;
+
+// Most bytes of a packet, and of a sample in store, which is without its ODT's number.
+pub const PACKET_MOST: u8 = 8;
+
+pub const STORED_MOST: u8 = PACKET_MOST - 1;
+
+// The clock before ODT 0's bytes.
+pub const CLOCK_SIZE: u8 = 2;
 
 // Most bytes of an entry, and of each ODT in a packet.
 pub const ENTRY_MOST: u8 = 4;
 
-pub const ODT0_MOST: u8 = 5;
+pub const ODT0_MOST: u8 = STORED_MOST - CLOCK_SIZE;
 
-pub const ODT1_MOST: u8 = 7;
+pub const ODT1_MOST: u8 = STORED_MOST;
+
+// Most bytes of an UPLOAD, after FF, and of a DOWNLOAD, after its code and count.
+pub const UPLOAD_MOST: u8 = PACKET_MOST - 1;
+
+pub const DOWNLOAD_MOST: u8 = PACKET_MOST - 2;
 
 // The first 4,096 bytes of a memory at most can be addressed.
 pub const ADDRESSABLE: usize = 4096;
+
+pub const CHECKSUM_MOST: u32 = ADDRESSABLE as u32;
+
+// The room that the line asks for a frame.
+pub const ROOM: usize = 23;
 
 // The mark that power-up writes; it changes with every layout.
 pub const MARK: u32 = 0x3150_4358;
@@ -61,14 +102,19 @@ pub const LIST_SIZE: usize = 3;
 // Of each ODT: four entries of size, extension and address.
 pub const ENTRY: usize = 33;
 
-pub const ODT_SIZE: usize = 16;
-
 pub const ENTRY_SIZE: usize = 4;
+
+pub const ODT_SIZE: usize = ENTRIES * ENTRY_SIZE;
+
+pub const LIST_ENTRIES_SIZE: usize = ODTS * ODT_SIZE;
 
 // Of each ODT: the length of its waiting packet without the number, and seven bytes.
 pub const SAMPLE: usize = 161;
 
-pub const SAMPLE_SIZE: usize = 8;
+pub const SAMPLE_SIZE: usize = 1 + STORED_MOST as usize;
+
+// What stands before ODT 0's bytes there.
+pub const CLOCKED: usize = 1 + CLOCK_SIZE as usize;
 
 // The reader's place with its message buffer.
 pub const PLACE: usize = 225;
@@ -82,6 +128,6 @@ pub const PACKET: usize = 229;
 // The waiting answer: its length, and eight bytes.
 pub const ANSWER: usize = 238;
 
-pub const ANSWER_BYTES: usize = 239;
+pub const ANSWER_BYTES: usize = ANSWER + 1;
 
 pub const STATE: usize = 247;

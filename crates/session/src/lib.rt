@@ -242,7 +242,7 @@ pub fn event(state: &mut [u8], cal: &[u8], meas: &[u8], number: u32, clock: u16)
     if !state::is_consistent(state) {
         return Evented::NoState;
     }
-    if 1 < number {
+    if layout::EVENTS <= number {
         return Evented::BadEvent;
     }
     let c = events::happen(state, cal, meas, number as u8, clock);
@@ -259,7 +259,7 @@ pub fn slot(state: &mut [u8], out: &mut [u8]) -> Slotted
     if !state::is_consistent(state) {
         return Slotted::NoState;
     }
-    if out.len() < 23 {
+    if out.len() < layout::ROOM {
         return Slotted::NoRoom;
     }
     slots::send(state, out)

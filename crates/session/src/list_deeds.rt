@@ -1,9 +1,9 @@
 // The deeds of the lists: of each its effect, then its answer.
 ghost use mathlib.Core.Path.{_≡_};
 ghost use mathlib.Core.List.{[]};
-ghost use Prim.Native.Nat.{_≤_, _<_};
+ghost use Prim.Native.Nat.{_<_};
 ghost use lib.ListN.{length};
-ghost use Rattle.session.specs.Layout.{lists, size};
+ghost use Rattle.session.specs.Layout.{lists, entries, allOdts, events, size};
 ghost use Rattle.session.specs.Perform.{nextEntry, after};
 ghost use Rattle.session.specs.State.{Pointed};
 use crate::Deed;
@@ -11,6 +11,7 @@ use crate::Extension;
 use crate::Pointer;
 use crate::answer;
 use crate::changes;
+use crate::layout;
 use crate::state;
 
 pub fn clear_list(s: &mut [u8], l: u8)
@@ -22,7 +23,7 @@ pub fn clear_list(s: &mut [u8], l: u8)
 }
 
 pub fn set_pointer(s: &mut [u8], k: u8, e: u8)
-    requires { ⌜ (length (now s) ≡ size) × (k < 8) × (e < 4) ⌝ }
+    requires { ⌜ (length (now s) ≡ size) × (k < allOdts) × (e < entries) ⌝ }
     ensures { λ _. ⌜ now (s .exit) ≡ after (Deed.SetPointer k e) (now (s .entry)) [] [] ⌝ }
 {
     state::set_pointer(s, Pointer::At { odt: k, entry: e });
@@ -31,10 +32,10 @@ pub fn set_pointer(s: &mut [u8], k: u8, e: u8)
 
 // After an ODT's last entry the pointer is unset.
 fn next_entry(k: u8, e: u8) -> Pointer
-    requires { ⌜ (k < 8) × (e < 4) ⌝ }
+    requires { ⌜ (k < allOdts) × (e < entries) ⌝ }
     ensures { λ r. ⌜ (r ≡ nextEntry k e) × Pointed r ⌝ }
 {
-    if e == 3 {
+    if e == layout::LAST_ENTRY {
         return Pointer::Unset;
     }
     Pointer::At {
@@ -44,7 +45,7 @@ fn next_entry(k: u8, e: u8) -> Pointer
 }
 
 pub fn clear_entry(s: &mut [u8], k: u8, e: u8)
-    requires { ⌜ (length (now s) ≡ size) × (k < 8) × (e < 4) ⌝ }
+    requires { ⌜ (length (now s) ≡ size) × (k < allOdts) × (e < entries) ⌝ }
     ensures { λ _. ⌜ now (s .exit) ≡ after (Deed.ClearEntry k e) (now (s .entry)) [] [] ⌝ }
 {
     changes::clear_entry(s, k as usize, e as usize);
@@ -53,7 +54,7 @@ pub fn clear_entry(s: &mut [u8], k: u8, e: u8)
 }
 
 pub fn write_entry(s: &mut [u8], k: u8, e: u8, n: u8, extension: Extension, address: u32)
-    requires { ⌜ (length (now s) ≡ size) × (k < 8) × (e < 4) ⌝ }
+    requires { ⌜ (length (now s) ≡ size) × (k < allOdts) × (e < entries) ⌝ }
     ensures { λ _. ⌜ now (s .exit) ≡ after (Deed.WriteEntry k e n extension address) (now (s .entry)) [] [] ⌝ }
 {
     changes::set_entry(s, k as usize, e as usize, n, extension, address);
@@ -62,7 +63,7 @@ pub fn write_entry(s: &mut [u8], k: u8, e: u8, n: u8, extension: Extension, addr
 }
 
 pub fn set_mode(s: &mut [u8], l: u8, event: u8)
-    requires { ⌜ (length (now s) ≡ size) × (l < lists) × (event ≤ 1) ⌝ }
+    requires { ⌜ (length (now s) ≡ size) × (l < lists) × (event < events) ⌝ }
     ensures { λ _. ⌜ now (s .exit) ≡ after (Deed.SetMode l event) (now (s .entry)) [] [] ⌝ }
 {
     changes::set_mode(s, l as usize, event);
@@ -74,7 +75,7 @@ pub fn stop(s: &mut [u8], l: u8)
     ensures { λ _. ⌜ now (s .exit) ≡ after (Deed.Stop l) (now (s .entry)) [] [] ⌝ }
 {
     changes::stop(s, l as usize);
-    answer::two(s, 0xFF, 2 * l);
+    answer::two(s, 0xFF, layout::ODTS_U8 * l);
 }
 
 pub fn start(s: &mut [u8], l: u8)
@@ -82,7 +83,7 @@ pub fn start(s: &mut [u8], l: u8)
     ensures { λ _. ⌜ now (s .exit) ≡ after (Deed.Start l) (now (s .entry)) [] [] ⌝ }
 {
     changes::start(s, l as usize);
-    answer::two(s, 0xFF, 2 * l);
+    answer::two(s, 0xFF, layout::ODTS_U8 * l);
 }
 
 pub fn select(s: &mut [u8], l: u8)
@@ -90,7 +91,7 @@ pub fn select(s: &mut [u8], l: u8)
     ensures { λ _. ⌜ now (s .exit) ≡ after (Deed.Select l) (now (s .entry)) [] [] ⌝ }
 {
     changes::select(s, l as usize, 1);
-    answer::two(s, 0xFF, 2 * l);
+    answer::two(s, 0xFF, layout::ODTS_U8 * l);
 }
 
 pub fn stop_all(s: &mut [u8])

@@ -1,8 +1,8 @@
 // The lists: how they read.
 ghost use mathlib.Core.Path.{_≡_};
-ghost use Prim.Native.Nat.{_≤_, _<_};
+ghost use Prim.Native.Nat.{_*_, _≤_, _<_};
 ghost use lib.ListN.{length};
-ghost use Rattle.session.specs.Layout.{lists, size, selectedAt};
+ghost use Rattle.session.specs.Layout.{lists, entries, allOdts, events, storedMost, entryMost, size, selectedAt};
 ghost use Rattle.session.specs.State.{flagOf};
 ghost use Rattle.session.specs.Lists.{sizeOf, extensionOf, addressOf, odtBytes, modeOf, fitOf, runsOf, anyRuns, mayStart, allFit, leastOf, storedLength};
 use crate::Extension;
@@ -14,8 +14,8 @@ use crate::state::flag;
 
 // An entry's size; above 4 it reads as 0.
 pub fn entry_size(s: &[u8], k: usize, e: usize) -> u8
-    requires { ⌜ (length (now s) ≡ size) × (k < 8) × (e < 4) ⌝ }
-    ensures { λ r. ⌜ (r ≡ sizeOf (now (s .entry)) k e) × (r ≤ 4) ⌝ }
+    requires { ⌜ (length (now s) ≡ size) × (k < allOdts) × (e < entries) ⌝ }
+    ensures { λ r. ⌜ (r ≡ sizeOf (now (s .entry)) k e) × (r ≤ entryMost) ⌝ }
 {
     let n = s[layout::ENTRY + layout::ODT_SIZE * k + layout::ENTRY_SIZE * e];
     if layout::ENTRY_MOST < n {
@@ -25,7 +25,7 @@ pub fn entry_size(s: &[u8], k: usize, e: usize) -> u8
 }
 
 pub fn entry_extension(s: &[u8], k: usize, e: usize) -> Extension
-    requires { ⌜ (length (now s) ≡ size) × (k < 8) × (e < 4) ⌝ }
+    requires { ⌜ (length (now s) ≡ size) × (k < allOdts) × (e < entries) ⌝ }
     ensures { λ r. ⌜ r ≡ extensionOf (now (s .entry)) k e ⌝ }
 {
     if flag(
@@ -39,7 +39,7 @@ pub fn entry_extension(s: &[u8], k: usize, e: usize) -> Extension
 }
 
 pub fn entry_address(s: &[u8], k: usize, e: usize) -> u16
-    requires { ⌜ (length (now s) ≡ size) × (k < 8) × (e < 4) ⌝ }
+    requires { ⌜ (length (now s) ≡ size) × (k < allOdts) × (e < entries) ⌝ }
     ensures { λ r. ⌜ r ≡ addressOf (now (s .entry)) k e ⌝ }
 {
     get16(
@@ -50,8 +50,8 @@ pub fn entry_address(s: &[u8], k: usize, e: usize) -> u16
 
 // The bytes of an ODT.
 pub fn odt_bytes(s: &[u8], k: usize) -> u8
-    requires { ⌜ (length (now s) ≡ size) × (k < 8) ⌝ }
-    ensures { λ r. ⌜ (r ≡ odtBytes (now (s .entry)) k) × (r ≤ 16) ⌝ }
+    requires { ⌜ (length (now s) ≡ size) × (k < allOdts) ⌝ }
+    ensures { λ r. ⌜ (r ≡ odtBytes (now (s .entry)) k) × (r ≤ entries * entryMost) ⌝ }
 {
     entry_size(s, k, 0) + entry_size(s, k, 1) + entry_size(s, k, 2) + entry_size(s, k, 3)
 }
@@ -61,10 +61,10 @@ pub fn odt_bytes(s: &[u8], k: usize) -> u8
 // 0 where a list's mode was never set, else 1 more than its event.
 pub fn mode(s: &[u8], l: usize) -> u8
     requires { ⌜ (length (now s) ≡ size) × (l < lists) ⌝ }
-    ensures { λ r. ⌜ (r ≡ modeOf (now (s .entry)) l) × (r ≤ 2) ⌝ }
+    ensures { λ r. ⌜ (r ≡ modeOf (now (s .entry)) l) × (r ≤ events) ⌝ }
 {
     let n = s[layout::MODE + layout::LIST_SIZE * l];
-    if 2 < n {
+    if layout::EVENTS_U8 < n {
         return 0;
     }
     n
@@ -85,8 +85,8 @@ pub fn fit(s: &[u8], l: usize) -> bool
     if mode(s, l) == 0 {
         return false;
     }
-    let first = odt_bytes(s, 2 * l);
-    let second = odt_bytes(s, 2 * l + 1);
+    let first = odt_bytes(s, layout::ODTS * l);
+    let second = odt_bytes(s, layout::ODTS * l + 1);
     if first + second == 0 {
         return false;
     }
@@ -117,7 +117,7 @@ pub fn any_runs(s: &[u8]) -> bool
     ensures { λ r. ⌜ r ≡ anyRuns (now (s .entry)) lists ⌝ }
 {
     let mut l = 0;
-    while l < 4 {
+    while l < layout::LISTS {
         if runs(s, l) {
             return true;
         }
@@ -143,7 +143,7 @@ pub fn all_fit(s: &[u8]) -> bool
     ensures { λ r. ⌜ r ≡ allFit (now (s .entry)) lists ⌝ }
 {
     let mut l = 0;
-    while l < 4 {
+    while l < layout::LISTS {
         if !may_start(s, l) {
             return false;
         }
@@ -157,19 +157,23 @@ pub fn all_fit(s: &[u8]) -> bool
 fn least(k: usize) -> u8
     ensures { λ r. ⌜ r ≡ leastOf k ⌝ }
 {
-    if k % 2 == 0 { 2 } else { 1 }
+    if k % layout::ODTS == 0 {
+        layout::CLOCK_SIZE
+    } else {
+        1
+    }
 }
 
 // The length of an ODT's packet in store, without its number; 0 where there is none.
 pub fn stored_length(s: &[u8], k: usize) -> u8
-    requires { ⌜ (length (now s) ≡ size) × (k < 8) ⌝ }
-    ensures { λ r. ⌜ (r ≡ storedLength (now (s .entry)) k) × (r ≤ 7) ⌝ }
+    requires { ⌜ (length (now s) ≡ size) × (k < allOdts) ⌝ }
+    ensures { λ r. ⌜ (r ≡ storedLength (now (s .entry)) k) × (r ≤ storedMost) ⌝ }
 {
     let n = s[layout::SAMPLE + layout::SAMPLE_SIZE * k];
     if n < least(k) {
         return 0;
     }
-    if 7 < n {
+    if layout::STORED_MOST < n {
         return 0;
     }
     n

@@ -2,18 +2,19 @@
 ghost use mathlib.Core.Path.{_≡_};
 ghost use Prim.Native.Nat.{_≤_};
 ghost use lib.ListN.{length};
-ghost use Rattle.session.specs.Layout.{size, packetAt};
+ghost use Rattle.session.specs.Layout.{packetMost, size, packetAt};
 ghost use Rattle.session.specs.Bytes.{block};
 ghost use Rattle.session.specs.Perform.{Performs};
 ghost use Rattle.session.specs.Doable.{Doable};
 use crate::Deed;
 use crate::answer;
 use crate::deeds;
+use crate::layout;
 use crate::list_deeds;
 
 // A deed whose packet has len bytes.
 pub fn perform(deed: Deed, s: &mut [u8], cal: &mut [u8], meas: &[u8], len: u8)
-    requires { ⌜ (length (now s) ≡ size) × (len ≤ 8) × Doable deed len (length (now cal)) (length (now meas)) ⌝ }
+    requires { ⌜ (length (now s) ≡ size) × (len ≤ packetMost) × Doable deed len (length (now cal)) (length (now meas)) ⌝ }
     ensures { λ _. ⌜ Performs deed (block (now (s .entry)) packetAt len) (now (s .entry)) (now (cal .entry)) (now (meas .entry)) (now (s .exit)) (now (cal .exit)) ⌝ }
 {
     match deed {
@@ -46,12 +47,32 @@ pub fn perform(deed: Deed, s: &mut [u8], cal: &mut [u8], meas: &[u8], len: u8)
         Deed::SetMode(l, event) => list_deeds::set_mode(s, l, event),
         Deed::Stop(l) => list_deeds::stop(s, l),
         Deed::Start(l) => list_deeds::start(s, l),
-        Deed::KeepRunning(l) => answer::two(s, 0xFF, 2 * l),
+        Deed::KeepRunning(l) => answer::two(s, 0xFF, layout::ODTS_U8 * l),
         Deed::Select(l) => list_deeds::select(s, l),
         Deed::StopAll => list_deeds::stop_all(s),
         Deed::StartSelected => list_deeds::start_selected(s),
         Deed::StopSelected => list_deeds::stop_selected(s),
-        Deed::ProcessorInfo => answer::eight(s, 0xFF, 0x10, 0x04, 0x00, 0x02, 0x00, 0x00, 0x00),
-        Deed::ResolutionInfo => answer::eight(s, 0xFF, 0x01, 0x04, 0x00, 0x00, 0x6A, 0x01, 0x00),
+        Deed::ProcessorInfo => answer::eight(
+            s,
+            0xFF,
+            0x10,
+            layout::LISTS_U8,
+            0x00,
+            layout::EVENTS_U8,
+            0x00,
+            0x00,
+            0x00,
+        ),
+        Deed::ResolutionInfo => answer::eight(
+            s,
+            0xFF,
+            0x01,
+            layout::ENTRY_MOST,
+            0x00,
+            0x00,
+            0x6A,
+            0x01,
+            0x00,
+        ),
     }
 }

@@ -2,7 +2,7 @@
 ghost use mathlib.Core.Path.{_≡_};
 ghost use Prim.Native.Nat.{_≤_};
 ghost use lib.ListN.{length};
-ghost use Rattle.session.specs.Layout.{size, packetAt};
+ghost use Rattle.session.specs.Layout.{packetMost, size, packetAt};
 ghost use Rattle.session.specs.Bytes.{block};
 ghost use Rattle.session.specs.Receive.{Receives, greets, heeded, fedOf, receivedBy};
 use crate::Deed;
@@ -15,7 +15,7 @@ use line::Outcome;
 
 // Whether the packet of n bytes is a good CONNECT.
 fn is_greeting(s: &[u8], n: u8) -> bool
-    requires { ⌜ (length (now s) ≡ size) × (1 ≤ n) × (n ≤ 8) ⌝ }
+    requires { ⌜ (length (now s) ≡ size) × (1 ≤ n) × (n ≤ packetMost) ⌝ }
     ensures { λ r. ⌜ r ≡ greets (block (now (s .entry)) packetAt n) ⌝ }
 {
     if s[layout::PACKET] != 0xFF {
@@ -29,7 +29,7 @@ fn is_greeting(s: &[u8], n: u8) -> bool
 
 // A good message, whose packet has n bytes.
 fn heed(s: &mut [u8], cal: &mut [u8], meas: &[u8], n: u8) -> Received
-    requires { ⌜ (length (now s) ≡ size) × (1 ≤ n) × (n ≤ 8) ⌝ }
+    requires { ⌜ (length (now s) ≡ size) × (1 ≤ n) × (n ≤ packetMost) ⌝ }
     ensures { λ r. ⌜ Receives (heeded (block (now (s .entry)) packetAt n) (now (s .entry)) (now (cal .entry)) (now (meas .entry))) r (now (s .exit)) (now (cal .exit)) ⌝ }
 {
     if 0 < state::answer_length(s) {

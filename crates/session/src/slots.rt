@@ -2,7 +2,7 @@
 ghost use mathlib.Core.Path.{_≡_};
 ghost use Prim.Native.Nat.{_+_, _<_};
 ghost use lib.ListN.{length, getD};
-ghost use Rattle.session.specs.Layout.{lists, servedAt, size};
+ghost use Rattle.session.specs.Layout.{lists, allOdts, servedAt, size};
 ghost use Rattle.session.specs.Slot.{packetIn, orElse, roundFrom, turnOf, slottedAs, sentBy, Sends};
 use crate::Slotted;
 use crate::Turn;
@@ -19,11 +19,11 @@ fn packet_in(s: &[u8], l: usize) -> Turn
     if !lists::runs(s, l) {
         return Turn::Nobody;
     }
-    if 0 < lists::stored_length(s, 2 * l) {
-        return Turn::Packet(2 * l);
+    if 0 < lists::stored_length(s, layout::ODTS * l) {
+        return Turn::Packet(layout::ODTS * l);
     }
-    if 0 < lists::stored_length(s, 2 * l + 1) {
-        return Turn::Packet(2 * l + 1);
+    if 0 < lists::stored_length(s, layout::ODTS * l + 1) {
+        return Turn::Packet(layout::ODTS * l + 1);
     }
     Turn::Nobody
 }
@@ -34,9 +34,9 @@ fn round(s: &[u8]) -> Turn
     ensures { λ r. ⌜ r ≡ roundFrom lists (packetIn (now (s .entry))) (getD (now (s .entry)) servedAt 0 + 1) lists ⌝ }
 {
     let mut l = s[layout::SERVED] as usize + 1;
-    let mut n: usize = 4;
+    let mut n = layout::LISTS;
     while 0 < n {
-        let turn = packet_in(s, l % 4);
+        let turn = packet_in(s, l % layout::LISTS);
         match turn {
             Turn::Nobody => {
                 l += 1;
@@ -100,7 +100,7 @@ fn send_answer(s: &mut [u8], out: &mut [u8]) -> Slotted
 
 // A packet's frame. The ODT's number goes where its length stood, before the bytes.
 fn send_packet(s: &mut [u8], out: &mut [u8], k: usize) -> Slotted
-    requires { ⌜ (length (now s) ≡ size) × (k < 8) ⌝ }
+    requires { ⌜ (length (now s) ≡ size) × (k < allOdts) ⌝ }
     ensures { λ r. ⌜ Sends (sentBy (Turn.Packet k) (now (s .entry)) (now (out .entry))) r (now (s .exit)) (now (out .exit)) ⌝ }
 {
     let at = layout::SAMPLE + layout::SAMPLE_SIZE * k;
@@ -111,7 +111,7 @@ fn send_packet(s: &mut [u8], out: &mut [u8], k: usize) -> Slotted
     let written = line::write(&s[at..end], ctr, out);
     s[at] = 0;
     s[layout::CTR] = line::next_ctr(ctr);
-    s[layout::SERVED] = (k / 2) as u8;
+    s[layout::SERVED] = (k / layout::ODTS) as u8;
     s[layout::LAST] = 0;
     slotted(written)
 }

@@ -2,7 +2,7 @@
 ghost use mathlib.Core.Path.{_≡_};
 ghost use Prim.Native.Nat.{_≤_, _<_};
 ghost use lib.ListN.{length, set};
-ghost use Rattle.session.specs.Layout.{size};
+ghost use Rattle.session.specs.Layout.{packetMost, size};
 ghost use Rattle.session.specs.State.{consistent, flagOf, generatorOf, setGenerator, lockAt, bitOf, maskOf, seedOf, setSeed, mtaTag, mtaOf, setMta, pointerOf, setPointer, Pointed, closed, fresh, placeOf, setPlace, answerLength, answerKind};
 use crate::Extension;
 use crate::Generator;
@@ -171,12 +171,12 @@ pub fn pointer(s: &[u8]) -> Pointer
     if n == 0 {
         return Pointer::Unset;
     }
-    if 32 < n {
+    if layout::ALL_ENTRIES < n {
         return Pointer::Unset;
     }
     Pointer::At {
-        odt: (n - 1) / 4,
-        entry: (n - 1) % 4,
+        odt: (n - 1) / layout::ENTRIES_U8,
+        entry: (n - 1) % layout::ENTRIES_U8,
     }
 }
 
@@ -189,7 +189,7 @@ pub fn set_pointer(s: &mut [u8], pointer: Pointer)
             s[layout::POINTER] = 0;
         }
         Pointer::At { odt, entry } => {
-            s[layout::POINTER] = 4 * odt + entry + 1;
+            s[layout::POINTER] = layout::ENTRIES_U8 * odt + entry + 1;
         }
     }
 }
@@ -246,13 +246,13 @@ pub fn set_place(s: &mut [u8], place: Place)
 // The length of the waiting answer, 0 where none waits.
 pub fn answer_length(s: &[u8]) -> u8
     requires { ⌜ length (now s) ≡ size ⌝ }
-    ensures { λ r. ⌜ (r ≡ answerLength (now (s .entry))) × (r ≤ 8) ⌝ }
+    ensures { λ r. ⌜ (r ≡ answerLength (now (s .entry))) × (r ≤ packetMost) ⌝ }
 {
     let n = s[layout::ANSWER];
     if n == 0 {
         return 0;
     }
-    if 8 < n {
+    if layout::PACKET_MOST < n {
         return 0;
     }
     n

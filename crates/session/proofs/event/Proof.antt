@@ -1,4 +1,4 @@
-use borrow.Author.Tests.{not-true, not-false, lt-ltb, le-ltb}
+use borrow.Author.Tests.{not-true, not-false, le-leb, lt-leb}
 use mathlib.Core.Path.{refl, sym, _∙_}
 use Rattle.session.specs.Event.{eventOf}
 use Rattle.session.proofs.Consistent.{consistent-size}
@@ -21,7 +21,7 @@ same-length-2 c = search needs
 
 returns-2 : tie.Need-returns-2
 unfolding eventOf
-returns-2 c = simp (sym (c .before .before .is-consistent .ensures) ∙ not-false (c .before .before .is-consistent .result) (c .before .if1 .left), lt-ltb _ _ (c .if2 .taken)) (record { result = refl; state = refl })
+returns-2 c = simp (sym (c .before .before .is-consistent .ensures) ∙ not-false (c .before .before .is-consistent .result) (c .before .if1 .left), le-leb _ _ (c .if2 .taken)) (record { result = refl; state = refl })
 
 cast-happen : tie.Need-cast-happen
 cast-happen c = search needs
@@ -34,7 +34,7 @@ same-length-3 c = search needs
 
 returns-3 : tie.Need-returns-3
 unfolding eventOf
-returns-3 c = simp (sym (c .before .before .before .before .before .before .is-consistent .ensures) ∙ not-false (c .before .before .before .before .before .before .is-consistent .result) (c .before .before .before .before .before .if1 .left), le-ltb _ _ (c .before .before .before .before .if2 .left)) (record { result = rw (c .before .before .happen .ensures .sampled, c .before .before .happen .ensures .missed); state = c .before .before .happen .ensures .state })
+returns-3 c = simp (sym (c .before .before .before .before .before .before .is-consistent .ensures) ∙ not-false (c .before .before .before .before .before .before .is-consistent .result) (c .before .before .before .before .before .if1 .left), lt-leb _ _ (c .before .before .before .before .if2 .left)) (record { result = rw (c .before .before .happen .ensures .sampled, c .before .before .happen .ensures .missed); state = c .before .before .happen .ensures .state })
 
 pub event-spec : {M : Type 1} → statement M
 event-spec =

@@ -1,4 +1,4 @@
-use borrow.Author.Tests.{eq-eqb, le-leb, le-ltb, lt-leb, lt-ltb, ne-eqb}
+use borrow.Author.Tests.{eq-eqb, le-leb, lt-leb, ne-eqb}
 use Rattle.session.specs.Judge.{modeDeed}
 use borrow.Author.Needs.{needs}
 use Rattle.session.proofs.judge.set_mode.Statement.{statement}
@@ -14,22 +14,22 @@ returns-2 c = simp (le-leb _ _ (c .if2 .taken), eq-eqb _ _ (c .before .if1 .left
 
 returns-3 : tie.Need-returns-3
 unfolding modeDeed
-returns-3 c = simp (lt-ltb _ _ (c .if3 .taken), lt-leb _ _ (c .before .if2 .left), eq-eqb _ _ (c .before .before .if1 .left))
+returns-3 c = simp (le-leb _ _ (c .if3 .taken), lt-leb _ _ (c .before .if2 .left), eq-eqb _ _ (c .before .before .if1 .left))
 
 returns-4 : tie.Need-returns-4
 unfolding modeDeed
-returns-4 c = simp (ne-eqb _ _ (c .if4 .taken), le-ltb _ _ (c .before .if3 .left), lt-leb _ _ (c .before .before .if2 .left), eq-eqb _ _ (c .before .before .before .if1 .left))
+returns-4 c = simp (ne-eqb _ _ (c .if4 .taken), lt-leb _ _ (c .before .if3 .left), lt-leb _ _ (c .before .before .if2 .left), eq-eqb _ _ (c .before .before .before .if1 .left))
 
 returns-5 : tie.Need-returns-5
 unfolding modeDeed
-returns-5 c = simp (ne-eqb _ _ (c .if5 .taken), eq-eqb _ _ (c .before .if4 .left), le-ltb _ _ (c .before .before .if3 .left), lt-leb _ _ (c .before .before .before .if2 .left), eq-eqb _ _ (c .before .before .before .before .if1 .left))
+returns-5 c = simp (ne-eqb _ _ (c .if5 .taken), eq-eqb _ _ (c .before .if4 .left), lt-leb _ _ (c .before .before .if3 .left), lt-leb _ _ (c .before .before .before .if2 .left), eq-eqb _ _ (c .before .before .before .before .if1 .left))
 
 runs-requires : tie.Need-runs-requires
 runs-requires c κs = search needs
 
 returns-6 : tie.Need-returns-6
 unfolding modeDeed
-returns-6 c = simp (c .if6 .taken, eq-eqb _ _ (c .before .before .if5 .left), eq-eqb _ _ (c .before .before .before .if4 .left), le-ltb _ _ (c .before .before .before .before .if3 .left), lt-leb _ _ (c .before .before .before .before .before .if2 .left), eq-eqb _ _ (c .before .before .before .before .before .before .if1 .left), ← (c .before .runs .ensures))
+returns-6 c = simp (c .if6 .taken, eq-eqb _ _ (c .before .before .if5 .left), eq-eqb _ _ (c .before .before .before .if4 .left), lt-leb _ _ (c .before .before .before .before .if3 .left), lt-leb _ _ (c .before .before .before .before .before .if2 .left), eq-eqb _ _ (c .before .before .before .before .before .before .if1 .left), ← (c .before .runs .ensures))
 
 cast-t16 : tie.Need-cast-t16
 cast-t16 c = search needs
@@ -39,7 +39,7 @@ cast-t17 c = search needs
 
 returns-7 : tie.Need-returns-7
 unfolding modeDeed
-returns-7 c = simp (c .if6 .left, eq-eqb _ _ (c .before .before .if5 .left), eq-eqb _ _ (c .before .before .before .if4 .left), le-ltb _ _ (c .before .before .before .before .if3 .left), lt-leb _ _ (c .before .before .before .before .before .if2 .left), eq-eqb _ _ (c .before .before .before .before .before .before .if1 .left), ← (c .before .runs .ensures))
+returns-7 c = simp (c .if6 .left, eq-eqb _ _ (c .before .before .if5 .left), eq-eqb _ _ (c .before .before .before .if4 .left), lt-leb _ _ (c .before .before .before .before .if3 .left), lt-leb _ _ (c .before .before .before .before .before .if2 .left), eq-eqb _ _ (c .before .before .before .before .before .before .if1 .left), ← (c .before .runs .ensures))
 
 pub set-mode-spec : {M : Type 1} → statement M
 set-mode-spec =
