@@ -1,0 +1,79 @@
+"""A tool's end of the line: packets out as frames, frames in as packets. Every frame that comes is checked."""
+import os
+import select
+import time
+import tty
+
+SYNC, ESC = 0x9A, 0x9B
+# So long a tool waits for a frame before it gives up: a bound on a run that went wrong, and no promise of the slave's.
+PATIENCE = 20
+
+
+class Wrong(Exception):
+    """Something on the line is not as it should be."""
+
+
+def hexed(packet):
+    return " ".join(f"{byte:02X}" for byte in packet)
+
+
+def frame(ctr, packet):
+    message = bytes([len(packet), ctr]) + bytes(packet)
+    message += bytes([sum(message) % 256])
+    return bytes([SYNC]) + message.replace(b"\x9b", b"\x9b\x00").replace(b"\x9a", b"\x9b\x01")
+
+
+class Wire:
+    def __init__(self, name):
+        self.line = os.open(name, os.O_RDWR | os.O_NOCTTY)
+        tty.setraw(self.line)
+        self.to_slave = 0
+        self.from_slave = 0
+        self.waiting = b""
+
+    def send(self, packet):
+        os.write(self.line, frame(self.to_slave, packet))
+        self.to_slave = (self.to_slave + 1) % 256
+
+    def send_torn(self, packet):
+        """The front of a frame, as when the plug is pulled."""
+        os.write(self.line, frame(self.to_slave, packet)[:-3])
+
+    def byte(self, until):
+        if not self.waiting:
+            ready, _, _ = select.select([self.line], [], [], max(0, until - time.monotonic()))
+            if not ready:
+                raise Wrong(f"nothing has come from the slave for {PATIENCE} seconds")
+            self.waiting = os.read(self.line, 4096)
+        first, self.waiting = self.waiting[0], self.waiting[1:]
+        return first
+
+    def message_byte(self, until):
+        byte = self.byte(until)
+        if byte == ESC:
+            after = self.byte(until)
+            if after > 1:
+                raise Wrong(f"ESC is followed by {after:02X}")
+            return ESC - after
+        if byte == SYNC:
+            raise Wrong("a SYNC stands inside a frame")
+        return byte
+
+    def packet(self):
+        """The packet of the next frame, which must be whole and carry the next CTR."""
+        until = time.monotonic() + PATIENCE
+        first = self.byte(until)
+        if first != SYNC:
+            raise Wrong(f"{first:02X} stands where a frame begins")
+        length = self.message_byte(until)
+        if not 1 <= length <= 8:
+            raise Wrong(f"a frame has the length {length}")
+        ctr = self.message_byte(until)
+        packet = bytes(self.message_byte(until) for _ in range(length))
+        check = self.message_byte(until)
+        if check != (length + ctr + sum(packet)) % 256:
+            raise Wrong(f"the checksum of {hexed(packet)} is {check:02X}")
+        if ctr != self.from_slave:
+            raise Wrong(f"{hexed(packet)} has CTR {ctr}, and {self.from_slave} is the next")
+        self.from_slave = (ctr + 1) % 256
+        return packet
