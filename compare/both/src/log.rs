@@ -1,33 +1,34 @@
 //! A difference as a replay log: records in hex, and after # what a record cannot say.
 
-use crate::pair::{Call, Pair, Step};
-use crate::proved::STATE;
+use crate::proved::{first_unlike, Proved, STATE};
+use crate::reference::expected;
+use crate::step::{Call, Step};
 use crate::wire::hex;
 
 /// What the replay program lends.
 const REPLAYED: usize = 4096;
 const MOST: usize = 64;
 
-/// The words of the first difference, and the steps up to it.
-fn first_difference(steps: &[Step]) -> Option<(usize, String)> {
-    let mut pair = Pair::new();
-    for (at, step) in steps.iter().enumerate() {
-        if let Err(words) = pair.make(step) {
-            return Some((at + 1, words));
-        }
-    }
-    None
+/// The words of the first difference, and how many steps lead to it.
+fn first_difference(proved: &mut dyn Proved, steps: &[Step]) -> Option<(usize, String)> {
+    let (expected, effects) = (expected(steps), proved.run(steps));
+    let at = first_unlike(&expected, &effects)?;
+    let did = effects.get(at).map_or("crashed".to_string(), |e| e.words());
+    Some((
+        at + 1,
+        format!("proved: {}\nplain:  {}", did, expected[at].words()),
+    ))
 }
 
 /// Leaves out whatever the difference does not need: halves first, single steps last.
-fn shorten(mut steps: Vec<Step>) -> Vec<Step> {
+fn shorten(proved: &mut dyn Proved, mut steps: Vec<Step>) -> Vec<Step> {
     let mut part = steps.len() / 2;
     while part > 0 {
         let mut from = 0;
         while from < steps.len() {
             let mut fewer = steps.clone();
             fewer.drain(from..steps.len().min(from + part));
-            match first_difference(&fewer) {
+            match first_difference(proved, &fewer) {
                 Some((end, _)) => {
                     fewer.truncate(end);
                     steps = fewer;
@@ -41,12 +42,12 @@ fn shorten(mut steps: Vec<Step>) -> Vec<Step> {
 }
 
 /// Lends what the replay program lends wherever the difference comes all the same.
-fn plainly_lent(mut steps: Vec<Step>) -> Vec<Step> {
+fn plainly_lent(proved: &mut dyn Proved, mut steps: Vec<Step>) -> Vec<Step> {
     for at in 0..steps.len() {
         let mut plainer = steps.clone();
         plainer[at].cal = REPLAYED;
         plainer[at].meas = REPLAYED;
-        if let Some((end, _)) = first_difference(&plainer) {
+        if let Some((end, _)) = first_difference(proved, &plainer) {
             plainer.truncate(end);
             steps = plainer;
             if at + 1 >= end {
@@ -57,20 +58,26 @@ fn plainly_lent(mut steps: Vec<Step>) -> Vec<Step> {
     steps
 }
 
-/// The shortest log found of a difference that these steps lead to, and both results.
-pub fn print(steps: &[Step], words: &str) {
-    // Where both slaves do the same wrong thing, no shorter log can be found by comparing.
-    let (steps, words) = match first_difference(steps) {
+/// Prints the shortest log found of a difference that these steps lead to, and both results. Without
+/// a difference all steps are printed, with these words.
+pub fn print(proved: &mut dyn Proved, steps: &[Step], words: &str) {
+    let (steps, words) = match first_difference(proved, steps) {
         None => (steps.to_vec(), words.to_string()),
         Some((end, words)) => {
-            let steps = plainly_lent(shorten(steps[..end].to_vec()));
-            let last = first_difference(&steps).map_or(words, |d| d.1);
+            let steps = shorten(proved, steps[..end].to_vec());
+            let steps = plainly_lent(proved, steps);
+            let last = first_difference(proved, &steps).map_or(words, |d| d.1);
             (steps, last)
         }
     };
+    print_steps(&steps);
+    println!("{}", words);
+}
+
+fn print_steps(steps: &[Step]) {
     let mut lent = (STATE, REPLAYED, REPLAYED);
     let mut wire = Vec::new();
-    for step in &steps {
+    for step in steps {
         let now = (step.state, step.cal, step.meas);
         let on_wire = matches!(step.call, Call::Byte(_));
         if !on_wire || now != lent || wire.len() == MOST {
@@ -89,7 +96,6 @@ pub fn print(steps: &[Step], words: &str) {
         }
     }
     flush(&mut wire);
-    println!("{}", words);
 }
 
 /// Prints the wire bytes gathered so far as one record.

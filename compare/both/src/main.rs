@@ -1,22 +1,30 @@
 //! Makes the same calls to the proved slave and to the plain one, and compares all they do.
-//!   both [CALLS [SEED]]
-//! Built sequences come first, then calls by chance until there were CALLS in all.
+//!   both [CALLS [SEED [DRIVER WORDS...]]]
+//! Built sequences come first, then calls by chance until there were CALLS in all. With DRIVER the
+//! proved slave is the program compare/driver.c, run by these words; else it is linked in.
 
 #![deny(unsafe_code)]
 
 mod built;
 mod dice;
+mod effect;
+#[cfg(linked)]
 #[allow(unsafe_code)]
 mod ffi;
+#[cfg(linked)]
+mod linked;
 mod log;
-mod pair;
+mod piped;
 mod proved;
 mod random;
+mod reference;
 mod rig;
 mod seen;
+mod step;
 mod tool;
 mod wire;
 
+use proved::Proved;
 use rig::Rig;
 use std::process::exit;
 
@@ -34,14 +42,37 @@ fn argument(at: usize, default: u64) -> u64 {
     }
 }
 
+#[cfg(linked)]
+fn linked() -> Box<dyn Proved> {
+    Box::new(linked::Linked)
+}
+
+#[cfg(not(linked))]
+fn linked() -> Box<dyn Proved> {
+    eprintln!("both: the slave was not linked in; name its driver");
+    exit(2)
+}
+
 fn main() {
     let (calls, seed) = (argument(1, CALLS), argument(2, SEED));
-    let mut rig = Rig::new(calls, seed);
-    let mut failed = usize::from(ffi::state_size() != proved::STATE);
+    let driver: Vec<String> = std::env::args().skip(3).collect();
+    let mut proved = if driver.is_empty() {
+        linked()
+    } else {
+        Box::new(piped::Piped::new(driver))
+    };
+    println!("The proved slave is {}", proved.way());
+    if proved.state_size() != proved::STATE {
+        println!("Its state has {} bytes", proved.state_size());
+        println!("0 passed, 1 failed");
+        exit(1);
+    }
+    let mut rig = Rig::new(calls, seed, proved);
     built::run(&mut rig);
     println!("{} calls were built, the rest comes by chance\n", rig.calls);
     random::run(&mut rig);
-    failed += rig.differences;
+    rig.settle();
+    let mut failed = rig.differences;
     let uncovered = rig.seen.print();
     if rig.cut_short() {
         println!("So much differs that the rest was left out: what it covered is not judged.");

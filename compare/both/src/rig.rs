@@ -1,10 +1,12 @@
 //! Makes calls to the pair, keeps the log of them, and notes what they covered.
 
 use crate::dice::Dice;
+use crate::effect::Effect;
 use crate::log;
-use crate::pair::{Call, Outcome, Pair, Step};
-use crate::proved::STATE;
+use crate::proved::{first_unlike, Proved, STATE};
+use crate::reference::Reference;
 use crate::seen::{Seen, LENGTHS, WRONG_SIZES};
+use crate::step::{Call, Step};
 use crate::wire;
 
 /// After so many differences the rest would say little more.
@@ -17,11 +19,14 @@ pub struct Rig {
     pub calls: u64,
     pub differences: usize,
     limit: u64,
-    pair: Pair,
-    /// All calls since the pair was made.
+    proved: Box<dyn Proved>,
+    reference: Reference,
+    /// All calls since the last beginning, and what the plain slave made of them: the proved one is
+    /// given them all at once before the next beginning.
     steps: Vec<Step>,
-    /// After a difference no more calls are made until the next beginning.
-    broken: bool,
+    expected: Vec<Effect>,
+    /// What is wrong with both slaves; then no more calls are made until the next beginning.
+    broken: Option<&'static str>,
     /// Whether the memories' lengths change from call to call.
     vary: bool,
     cal: usize,
@@ -32,16 +37,18 @@ pub struct Rig {
 }
 
 impl Rig {
-    pub fn new(limit: u64, seed: u64) -> Rig {
+    pub fn new(limit: u64, seed: u64, proved: Box<dyn Proved>) -> Rig {
         Rig {
             dice: Dice::new(seed),
             seen: Seen::default(),
             calls: 0,
             differences: 0,
             limit,
-            pair: Pair::new(),
+            proved,
+            reference: Reference::new(),
             steps: Vec::new(),
-            broken: false,
+            expected: Vec::new(),
+            broken: None,
             vary: false,
             cal: 4096,
             meas: 4096,
@@ -52,7 +59,7 @@ impl Rig {
 
     /// Whether this run of calls is to end.
     pub fn over(&self) -> bool {
-        self.broken || self.done()
+        self.broken.is_some() || self.done()
     }
 
     pub fn done(&self) -> bool {
@@ -66,9 +73,8 @@ impl Rig {
 
     /// Two new slaves; a few calls that come too early, then their power-up.
     pub fn begin(&mut self, start: u32, vary: bool) {
-        self.pair = Pair::new();
-        self.steps.clear();
-        self.broken = false;
+        self.settle();
+        self.reference = Reference::new();
         self.vary = vary;
         self.lend(4096, 4096);
         if vary {
@@ -85,7 +91,7 @@ impl Rig {
         self.meas = meas;
     }
 
-    fn call(&mut self, call: Call) -> Outcome {
+    fn call(&mut self, call: Call) -> Effect {
         if self.vary && self.dice.once_in(8) {
             let (cal, meas) = (self.dice.one_of(&LENGTHS), self.dice.one_of(&LENGTHS));
             self.lend(cal, meas);
@@ -93,44 +99,47 @@ impl Rig {
         self.call_with(call, STATE)
     }
 
-    fn call_with(&mut self, call: Call, state: usize) -> Outcome {
+    fn call_with(&mut self, call: Call, state: usize) -> Effect {
         if self.over() {
-            return Outcome::default();
+            return Effect::default();
         }
         let (cal, meas) = (self.cal, self.meas);
-        self.steps.push(Step {
+        let step = Step {
             call,
             state,
             cal,
             meas,
-        });
-        let step = &self.steps[self.steps.len() - 1];
-        match self.pair.make(step) {
-            Ok(outcome) => {
-                let step = step.clone();
-                // New measured values are the host's own doing, no call.
-                self.calls += u64::from(!matches!(step.call, Call::Measure(..)));
-                self.note(&step, &outcome);
-                outcome
-            }
-            Err(words) => {
-                self.differ(&words);
-                Outcome::default()
-            }
-        }
+        };
+        let effect = self.reference.make(&step);
+        self.note(&step, &effect);
+        self.calls += is_call(&step);
+        self.steps.push(step);
+        self.expected.push(effect.clone());
+        effect
     }
 
-    fn differ(&mut self, words: &str) {
-        self.broken = true;
-        self.differences += 1;
-        println!("DIFFERENCE {}", self.differences);
-        log::print(&self.steps, words);
-        println!();
+    /// Has the proved slave make the calls that the plain one has made, and compares all they did.
+    pub fn settle(&mut self) {
+        let effects = self.proved.run(&self.steps);
+        let unlike = first_unlike(&self.expected, &effects);
+        if unlike.is_some() || self.broken.is_some() {
+            self.differences += 1;
+            println!("DIFFERENCE {}", self.differences);
+            let words = self.broken.unwrap_or_default();
+            log::print(self.proved.as_mut(), &self.steps, words);
+            println!();
+            // From the difference on nothing was compared.
+            let beyond = unlike.unwrap_or(self.steps.len());
+            self.calls -= self.steps[beyond..].iter().map(is_call).sum::<u64>();
+        }
+        self.steps.clear();
+        self.expected.clear();
+        self.broken = None;
     }
 
     /// Counts what the call covered.
-    fn note(&mut self, step: &Step, outcome: &Outcome) {
-        let number = (outcome.result >> 16) as usize;
+    fn note(&mut self, step: &Step, effect: &Effect) {
+        let number = (effect.result >> 16) as usize;
         let seen = &mut self.seen;
         match &step.call {
             Call::Measure(..) => return,
@@ -139,7 +148,7 @@ impl Rig {
             Call::Event(..) => {
                 seen.event[number] += 1;
                 if number == 0 {
-                    let counts = outcome.result as usize;
+                    let counts = effect.result as usize;
                     seen.sampled[counts / 256][counts % 256] += 1;
                 }
             }
@@ -204,19 +213,20 @@ impl Rig {
 
     /// A slot; its packet, if it sent one.
     pub fn slot(&mut self, room: usize) -> Option<Vec<u8>> {
-        let outcome = self.call(Call::Slot(room));
-        if outcome.frame.is_empty() {
-            let idle = room >= AMPLE && !self.broken;
+        let effect = self.call(Call::Slot(room));
+        let frame = effect.frame();
+        if frame.is_empty() {
+            let idle = room >= AMPLE && !self.over();
             self.seen.no_frame += u64::from(idle);
             return None;
         }
-        match wire::unframe(&outcome.frame) {
+        match wire::unframe(&frame) {
             Some((ctr, packet)) if ctr == self.ctr => {
-                self.sent(&outcome.frame, &packet);
+                self.sent(&frame, &packet);
                 Some(packet)
             }
             _ => {
-                self.differ("both slaves sent this, which is no frame or has a wrong CTR");
+                self.broken = Some("both: what was sent last is no frame or has a wrong CTR");
                 None
             }
         }
@@ -272,4 +282,9 @@ impl Rig {
         };
         self.call_with(call, size);
     }
+}
+
+/// New measured values are the host's own doing, no call.
+fn is_call(step: &Step) -> u64 {
+    u64::from(!matches!(step.call, Call::Measure(..)))
 }

@@ -41,7 +41,7 @@ const ANSWERS: [u8; 11] = [
 
 pub const LENGTHS: [usize; 5] = [0, 1, 4095, 4096, 5000];
 pub const ROOMS: usize = 31;
-pub const WRONG_SIZES: [usize; 3] = [246, 248, 0];
+pub const WRONG_SIZES: [usize; 5] = [0, 3, 4, 246, 248];
 
 #[derive(Default)]
 pub struct Seen {
