@@ -1,7 +1,6 @@
 //! The proved slave linked into this program, lent its state at another address with every call.
 
 use crate::effect::{written, Effect, Memory, ROOM, UNTOUCHED};
-use crate::ffi;
 use crate::proved::{Proved, STATE};
 use crate::step::{Call, Step};
 

@@ -3,15 +3,12 @@
 //! Built sequences come first, then calls by chance until there were CALLS in all. With DRIVER the
 //! proved slave is the program compare/driver.c, run by these words; else it is linked in.
 
-#![deny(unsafe_code)]
+#![forbid(unsafe_code)]
 
 mod built;
 mod dice;
 mod effect;
-#[cfg(linked)]
-#[allow(unsafe_code)]
-mod ffi;
-#[cfg(linked)]
+#[cfg(feature = "linked")]
 mod linked;
 mod log;
 mod piped;
@@ -42,12 +39,12 @@ fn argument(at: usize, default: u64) -> u64 {
     }
 }
 
-#[cfg(linked)]
+#[cfg(feature = "linked")]
 fn linked() -> Box<dyn Proved> {
     Box::new(linked::Linked)
 }
 
-#[cfg(not(linked))]
+#[cfg(not(feature = "linked"))]
 fn linked() -> Box<dyn Proved> {
     eprintln!("both: the slave was not linked in; name its driver");
     exit(2)

@@ -1,0 +1,106 @@
+//! Times the proved slave and the plain one on the same input, and prints rows of a table: what, the
+//! proved slave's nanoseconds, how many times the Rust call's, how many times the inlined loop's.
+//! Asserts no time.
+
+#![forbid(unsafe_code)]
+
+mod loads;
+mod master;
+mod single;
+mod subject;
+mod timing;
+
+use master::Load;
+use single::Times;
+use std::ops::Range;
+use subject::{Called, Inlined, Proved};
+use timing::{median, trace, Run};
+
+const RUNS: usize = 51;
+/// Slots to a part of a run: short enough that most parts go by without a disturbance.
+const PART: usize = 2000;
+
+fn print_row(what: &str, times: &Times) {
+    let inlined = times
+        .inlined
+        .map_or("-".to_string(), |t| format!("{:.2}", times.proved / t));
+    println!(
+        "| {} | {:.1} | {:.2} | {} |",
+        what,
+        times.proved,
+        times.proved / times.called,
+        inlined
+    );
+}
+
+/// The three slaves take turns at each part of the load, so that all meet the same disturbance.
+fn one_run(load: &Load, parts: &[Range<usize>], times: &mut [[Vec<f64>; 3]]) {
+    let (mut proved, mut called, mut inlined) = (
+        Run::<Proved>::new(),
+        Run::<Called>::new(),
+        Run::<Inlined>::new(),
+    );
+    for (part, times) in parts.iter().zip(times) {
+        times[0].push(proved.go(load, part.clone()));
+        times[1].push(called.go(load, part.clone()));
+        times[2].push(inlined.go(load, part.clone()));
+    }
+    assert!(called.sum == inlined.sum && proved.sum > 0);
+}
+
+/// For each slave the sum of its parts' medians over the runs, for a byte.
+fn bytes(load: &Load) -> Times {
+    let ends = (0..load.slots.len()).step_by(PART);
+    let parts: Vec<_> = ends.map(|s| s..load.slots.len().min(s + PART)).collect();
+    let mut times = vec![[Vec::new(), Vec::new(), Vec::new()]; parts.len()];
+    for _ in 0..RUNS {
+        one_run(load, &parts, &mut times);
+    }
+    let mut each = |which: usize| {
+        let medians = times.iter_mut().map(|part| median(&mut part[which]));
+        medians.sum::<f64>() / load.bytes.len() as f64
+    };
+    Times {
+        proved: each(0),
+        called: each(1),
+        inlined: Some(each(2)),
+    }
+}
+
+/// Both slaves must do the same, and the input must be what it is meant to be.
+fn checked(load: Load, wanted: &[u32]) -> Load {
+    let proved = trace::<Proved>(&load);
+    assert!(proved == trace::<Called>(&load), "the slaves differ");
+    assert!(proved == trace::<Inlined>(&load), "the plain slaves differ");
+    for number in 0..8 {
+        let met = proved.0.contains(&number);
+        assert_eq!(met, wanted.contains(&number), "number {}", number);
+    }
+    load
+}
+
+fn main() {
+    let clean = checked(loads::clean(), &[0, 1]);
+    print_row(
+        "a byte of a million clean ones, slots between",
+        &bytes(&clean),
+    );
+    let dirty = checked(loads::dirty(), &[0, 1, 2, 3, 4, 5, 6, 7]);
+    print_row(
+        "a byte of a million damaged ones, slots between",
+        &bytes(&dirty),
+    );
+    print_row(
+        "the byte that ends BUILD_CHECKSUM over 4,096",
+        &single::checksum(),
+    );
+    print_row("an event that samples four full lists", &single::event());
+    print_row(
+        "a slot that sends an answer of 8 bytes",
+        &single::slot_of_answer(),
+    );
+    print_row(
+        "a slot that sends a sample of 8 bytes",
+        &single::slot_of_sample(),
+    );
+}

@@ -1,0 +1,119 @@
+//! The slaves that are timed, behind one face.
+
+use plain::Slave;
+
+pub const STATE: usize = 247;
+pub const LENGTH: usize = 4096;
+
+pub struct Memories {
+    pub cal: Vec<u8>,
+    pub meas: Vec<u8>,
+}
+
+impl Memories {
+    pub fn new() -> Memories {
+        Memories {
+            cal: vec![0; LENGTH],
+            meas: (0..LENGTH).map(|i| (i * 7 + i / 64) as u8).collect(),
+        }
+    }
+}
+
+pub trait Subject: Clone {
+    fn power_up(start: u32) -> Self;
+    fn byte(&mut self, memories: &mut Memories, byte: u8) -> u32;
+    fn event(&mut self, memories: &Memories, event: u32, clock: u16) -> u32;
+    fn slot(&mut self, out: &mut [u8]) -> u32;
+    /// The paper's number in what `byte` has returned.
+    fn number(result: u32) -> u32;
+}
+
+/// The archive, called as C calls it.
+#[derive(Clone)]
+pub struct Proved([u8; STATE]);
+
+impl Subject for Proved {
+    fn power_up(start: u32) -> Proved {
+        let mut state = [0; STATE];
+        ffi::power_up(&mut state, start);
+        Proved(state)
+    }
+
+    #[inline(always)]
+    fn byte(&mut self, memories: &mut Memories, byte: u8) -> u32 {
+        ffi::receive_byte(&mut self.0, &mut memories.cal, &memories.meas, byte)
+    }
+
+    #[inline(always)]
+    fn event(&mut self, memories: &Memories, event: u32, clock: u16) -> u32 {
+        ffi::event(&mut self.0, &memories.cal, &memories.meas, event, clock)
+    }
+
+    #[inline(always)]
+    fn slot(&mut self, out: &mut [u8]) -> u32 {
+        ffi::slot(&mut self.0, out)
+    }
+
+    fn number(result: u32) -> u32 {
+        result >> 16
+    }
+}
+
+/// The plain slave; each byte is a call.
+#[derive(Clone)]
+pub struct Called(Slave);
+
+impl Subject for Called {
+    fn power_up(start: u32) -> Called {
+        Called(Slave::power_up(start))
+    }
+
+    #[inline(always)]
+    fn byte(&mut self, memories: &mut Memories, byte: u8) -> u32 {
+        self.0.receive_byte(&mut memories.cal, &memories.meas, byte)
+    }
+
+    #[inline(always)]
+    fn event(&mut self, memories: &Memories, event: u32, clock: u16) -> u32 {
+        self.0.event(&memories.cal, &memories.meas, event, clock)
+    }
+
+    #[inline(always)]
+    fn slot(&mut self, out: &mut [u8]) -> u32 {
+        self.0.slot(out)
+    }
+
+    fn number(result: u32) -> u32 {
+        result
+    }
+}
+
+/// The plain slave; the loop over the bytes has its reader inside.
+#[derive(Clone)]
+pub struct Inlined(Slave);
+
+impl Subject for Inlined {
+    fn power_up(start: u32) -> Inlined {
+        Inlined(Slave::power_up(start))
+    }
+
+    #[inline(always)]
+    fn byte(&mut self, memories: &mut Memories, byte: u8) -> u32 {
+        self.0
+            .receive_byte_inlined(&mut memories.cal, &memories.meas, byte)
+    }
+
+    #[inline(always)]
+    fn event(&mut self, memories: &Memories, event: u32, clock: u16) -> u32 {
+        self.0.event(&memories.cal, &memories.meas, event, clock)
+    }
+
+    #[inline(always)]
+    fn slot(&mut self, out: &mut [u8]) -> u32 {
+        self.0.slot(out)
+    }
+
+    fn number(result: u32) -> u32 {
+        result
+    }
+}
