@@ -1,0 +1,176 @@
+"""docs/controller.a2l against what the slave answers, and against examples/. Arguments: how to run the replay program."""
+import re
+import subprocess
+import sys
+
+SYNC, ESC = 0x9A, 0x9B
+# What opens both locks after the replay program's start number, 1.
+OPENING = ["FF 00", "F8 00 01", "F7 04 00 7F F0 04", "F8 00 04", "F7 04 04 01 E0 08"]
+MANDATORY = {0xFF, 0xFE, 0xFD, 0xFC}  # CONNECT, DISCONNECT, GET_STATUS, SYNCH
+CODES = {
+    "GET_SEED": 0xF8, "UNLOCK": 0xF7, "SET_MTA": 0xF6, "UPLOAD": 0xF5, "SHORT_UPLOAD": 0xF4, "BUILD_CHECKSUM": 0xF3,
+    "DOWNLOAD": 0xF0, "CLEAR_DAQ_LIST": 0xE3, "SET_DAQ_PTR": 0xE2, "WRITE_DAQ": 0xE1, "SET_DAQ_LIST_MODE": 0xE0,
+    "START_STOP_DAQ_LIST": 0xDE, "START_STOP_SYNCH": 0xDD, "GET_DAQ_PROCESSOR_INFO": 0xDA,
+    "GET_DAQ_RESOLUTION_INFO": 0xD9,
+}
+SIZES = {"SIZE_BYTE": 1, "SIZE_WORD": 2, "SIZE_DWORD": 4}
+
+
+class Block:
+    """The words of a block, and the blocks inside it by name."""
+
+    def __init__(self):
+        self.words, self.blocks = [], {}
+
+    def all(self, name):
+        return self.blocks.get(name, [])
+
+    def one(self, *names):
+        block = self
+        for name in names:
+            block, = block.all(name)
+        return block
+
+    def after(self, word):
+        return self.words[self.words.index(word) + 1]
+
+    def values(self):
+        return [value(word) for word in self.words]
+
+
+def value(word):
+    return int(word, 0) if re.fullmatch(r"-?(0x[0-9A-Fa-f]+|\d+)", word) else word
+
+
+def parsed(text):
+    words = re.findall(r'"[^"]*"|[^\s"]+', re.sub(r"/\*.*?\*/", " ", text, flags=re.S))
+    stack = [(None, Block())]
+    while words:
+        word = words.pop(0)
+        if word == "/begin":
+            stack.append((words.pop(0), Block()))
+        elif word == "/end":
+            name, block = stack.pop()
+            if words.pop(0) != name:
+                sys.exit(f"docs/controller.a2l: the block {name} ends under another name\n0 passed, 1 failed")
+            stack[-1][1].blocks.setdefault(name, []).append(block)
+        else:
+            stack[-1][1].words.append(word)
+    (_, whole), = stack
+    return whole
+
+
+def record(kind, body=b""):
+    return len(body).to_bytes(2, "little") + kind.to_bytes(2, "little") + body
+
+
+def frame(packet):
+    message = bytes([len(packet), 0]) + packet
+    message += bytes([sum(message) % 256])
+    return bytes([SYNC]) + message.replace(b"\x9b", b"\x9b\x00").replace(b"\x9a", b"\x9b\x01")
+
+
+def answers(commands):
+    """The slave's answer to each command, from a power-up on."""
+    log = b"".join(record(1, frame(bytes.fromhex(command))) + record(3) for command in commands)
+    lines = subprocess.run(sys.argv[1:], input=log, stdout=subprocess.PIPE, check=True).stdout.decode().splitlines()
+    frames = [bytes.fromhex(line) for line in lines]
+    return [f[1:].replace(b"\x9b\x01", b"\x9a").replace(b"\x9b\x00", b"\x9b")[2:-1] for f in frames]
+
+
+def asked(command):
+    return answers(OPENING + [command])[-1]
+
+
+class Checks:
+    passed = failed = 0
+
+    def same(self, what, described, told):
+        if described == told:
+            self.passed += 1
+        else:
+            self.failed += 1
+            print(f"{what}: docs/controller.a2l has {described!r}, and {told!r} is right")
+
+
+def protocol(c, xcp):
+    words = xcp.one("PROTOCOL_LAYER").values()
+    _, resources, mode, cto, dto, dto_high, layer, transport = asked("FF 00")
+    c.same("version of the protocol layer", words[0] >> 8, layer)
+    c.same("version of the transport", xcp.one("XCP_ON_SxI").values()[0] >> 8, transport)
+    c.same("MAX_CTO", words[8], cto)
+    c.same("MAX_DTO", words[9], dto + 256 * dto_high)
+    c.same("byte order", words[10], ["BYTE_ORDER_MSB_LAST", "BYTE_ORDER_MSB_FIRST"][mode & 1])
+    c.same("granularity", words[11], ["ADDRESS_GRANULARITY_BYTE", "ADDRESS_GRANULARITY_WORD"][mode >> 1 & 3])
+    c.same("calibration and lists, each with a key", "SEED_AND_KEY_EXTERNAL_FUNCTION" in words, resources == 0x05)
+    listed = {CODES[words[i + 1]] for i, word in enumerate(words) if word == "OPTIONAL_CMD"}
+    for code in range(0xC0, 0x100):
+        known = asked(f"{code:02X} 00 00 00 00 00 00 00")[:2] != b"\xfe\x20"
+        c.same(f"command {code:02X}", code in listed | MANDATORY, known)
+
+
+def lists(c, daq):
+    words = daq.values()
+    _, properties, lists_low, lists_high, events, events_high, fewest, key = asked("DA")
+    c.same("kind of lists", words[0], ["STATIC", "DYNAMIC"][properties & 1])
+    c.same("MAX_DAQ", words[1], lists_low + 256 * lists_high)
+    c.same("MAX_EVENT_CHANNEL", words[2], events + 256 * events_high)
+    c.same("events described", [e.values()[2] for e in daq.all("EVENT")], list(range(events)))
+    c.same("MIN_DAQ", words[3], fewest)
+    c.same("optimisation, extension, identification", words[4:7] == [
+        "OPTIMISATION_TYPE_DEFAULT", "ADDRESS_EXTENSION_FREE", "IDENTIFICATION_FIELD_TYPE_ABSOLUTE"], key == 0)
+    _, granularity, size, _, _, stamp, ticks, _ = asked("D9")
+    c.same("granularity of an entry", words[7] == "GRANULARITY_ODT_ENTRY_SIZE_DAQ_BYTE", granularity == 1)
+    c.same("MAX_ODT_ENTRY_SIZE_DAQ", words[8], size)
+    described = daq.one("TIMESTAMP_SUPPORTED").values()
+    c.same("timestamps", bool(described), bool(properties & 0x10))
+    c.same("tick", described[0], ticks)
+    c.same("bytes of a timestamp", SIZES[described[1]], stamp & 7)
+    c.same("unit of a timestamp", described[2] == "UNIT_1MS", stamp >> 4 == 6)
+    c.same("timestamp fixed", "TIMESTAMP_FIXED" in described, bool(stamp & 8))
+    c.same("lists described", [one.values()[0] for one in daq.all("DAQ_LIST")], list(range(lists_low)))
+    for one in daq.all("DAQ_LIST"):
+        each_list(c, one)
+
+
+def each_list(c, one):
+    number, odts, entries = value(one.words[0]), value(one.after("MAX_ODT")), value(one.after("MAX_ODT_ENTRIES"))
+    c.same(f"FIRST_PID of list {number}", value(one.after("FIRST_PID")), asked(f"DE 02 {number:02X} 00")[1])
+    for odt, entry, there in [(odts - 1, entries - 1, True), (odts, 0, False), (0, entries, False)]:
+        answer = asked(f"E2 00 {number:02X} 00 {odt:02X} {entry:02X}")
+        c.same(f"entry {entry} of ODT {odt} of list {number}", there, answer == b"\xff")
+
+
+def checksum(c, segment):
+    described = segment.one("CHECKSUM").values()
+    at_start = OPENING + ["F6 00 00 00 00 00 00 00"]
+    kind = answers(at_start + ["F3 00 00 00 10 00 00 00"])[-1][1]
+    most = answers(at_start + ["F3 00 00 00 00 00 00 00"])[-1][4:]
+    c.same("checksum", described[0] == "XCP_ADD_12", kind == 2)
+    c.same("MAX_BLOCK_SIZE", described[2], int.from_bytes(most, "little"))
+
+
+def example(c, module):
+    host, board = open("examples/host.c").read(), open("examples/board.c").read()
+    places = {name: int(at, 0) for name, at in re.findall(r"\b([A-Z]+) = (0x[0-9A-Fa-f]+)", host)}
+    described = {one.words[0]: value(one.words[3]) for one in module.all("CHARACTERISTIC")}
+    described.update({one.words[0]: value(one.after("ECU_ADDRESS")) for one in module.all("MEASUREMENT")})
+    c.same("places of examples/host.c", described, places)
+    sxi = module.one("IF_DATA", "XCP_ON_SxI")
+    c.same("baud rate", sxi.values()[1], int(re.search(r"BAUD = (\d+)", board).group(1)))
+    c.same("SYNC and ESC", sxi.one("FRAMING").values(), [SYNC, ESC])
+
+
+def main():
+    c = Checks()
+    module = parsed(open("docs/controller.a2l").read()).one("PROJECT", "MODULE")
+    xcp = module.one("IF_DATA")
+    protocol(c, xcp)
+    lists(c, xcp.one("DAQ"))
+    checksum(c, module.one("MOD_PAR", "MEMORY_SEGMENT", "IF_DATA", "SEGMENT"))
+    example(c, module)
+    print(f"{c.passed} passed, {c.failed} failed")
+    sys.exit(c.failed > 0)
+
+
+main()
