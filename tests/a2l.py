@@ -70,16 +70,12 @@ def frame(packet):
     return bytes([SYNC]) + message.replace(b"\x9b", b"\x9b\x00").replace(b"\x9a", b"\x9b\x01")
 
 
-def answers(commands):
-    """The slave's answer to each command, from a power-up on."""
-    log = b"".join(record(1, frame(bytes.fromhex(command))) + record(3) for command in commands)
+def asked(*commands):
+    """The slave's answer to each command, in one session with both locks open."""
+    log = b"".join(record(1, frame(bytes.fromhex(command))) + record(3) for command in OPENING + list(commands))
     lines = subprocess.run(sys.argv[1:], input=log, stdout=subprocess.PIPE, check=True).stdout.decode().splitlines()
-    frames = [bytes.fromhex(line) for line in lines]
+    frames = [bytes.fromhex(line) for line in lines[len(OPENING):]]
     return [f[1:].replace(b"\x9b\x01", b"\x9a").replace(b"\x9b\x00", b"\x9b")[2:-1] for f in frames]
-
-
-def asked(command):
-    return answers(OPENING + [command])[-1]
 
 
 class Checks:
@@ -95,7 +91,7 @@ class Checks:
 
 def protocol(c, xcp):
     words = xcp.one("PROTOCOL_LAYER").values()
-    _, resources, mode, cto, dto, dto_high, layer, transport = asked("FF 00")
+    (_, resources, mode, cto, dto, dto_high, layer, transport), = asked("FF 00")
     c.same("version of the protocol layer", words[0] >> 8, layer)
     c.same("version of the transport", xcp.one("XCP_ON_SxI").values()[0] >> 8, transport)
     c.same("MAX_CTO", words[8], cto)
@@ -104,14 +100,16 @@ def protocol(c, xcp):
     c.same("granularity", words[11], ["ADDRESS_GRANULARITY_BYTE", "ADDRESS_GRANULARITY_WORD"][mode >> 1 & 3])
     c.same("calibration and lists, each with a key", "SEED_AND_KEY_EXTERNAL_FUNCTION" in words, resources == 0x05)
     listed = {CODES[words[i + 1]] for i, word in enumerate(words) if word == "OPTIONAL_CMD"}
-    for code in range(0xC0, 0x100):
-        known = asked(f"{code:02X} 00 00 00 00 00 00 00")[:2] != b"\xfe\x20"
-        c.same(f"command {code:02X}", code in listed | MANDATORY, known)
+    # DISCONNECT comes last, and CONNECT before it: after one there is silence, after the other all is locked.
+    codes = [*range(0xC0, 0xFE), 0xFF, 0xFE]
+    for code, answer in zip(codes, asked(*(f"{code:02X} 00 00 00 00 00 00 00" for code in codes))):
+        c.same(f"command {code:02X}", code in listed | MANDATORY, answer[:2] != b"\xfe\x20")
 
 
 def lists(c, daq):
     words = daq.values()
-    _, properties, lists_low, lists_high, events, events_high, fewest, key = asked("DA")
+    processor, resolution = asked("DA", "D9")
+    _, properties, lists_low, lists_high, events, events_high, fewest, key = processor
     c.same("kind of lists", words[0], ["STATIC", "DYNAMIC"][properties & 1])
     c.same("MAX_DAQ", words[1], lists_low + 256 * lists_high)
     c.same("MAX_EVENT_CHANNEL", words[2], events + 256 * events_high)
@@ -119,7 +117,7 @@ def lists(c, daq):
     c.same("MIN_DAQ", words[3], fewest)
     c.same("optimisation, extension, identification", words[4:7] == [
         "OPTIMISATION_TYPE_DEFAULT", "ADDRESS_EXTENSION_FREE", "IDENTIFICATION_FIELD_TYPE_ABSOLUTE"], key == 0)
-    _, granularity, size, _, _, stamp, ticks, _ = asked("D9")
+    _, granularity, size, _, _, stamp, ticks, _ = resolution
     c.same("granularity of an entry", words[7] == "GRANULARITY_ODT_ENTRY_SIZE_DAQ_BYTE", granularity == 1)
     c.same("MAX_ODT_ENTRY_SIZE_DAQ", words[8], size)
     described = daq.one("TIMESTAMP_SUPPORTED").values()
@@ -135,19 +133,19 @@ def lists(c, daq):
 
 def each_list(c, one):
     number, odts, entries = value(one.words[0]), value(one.after("MAX_ODT")), value(one.after("MAX_ODT_ENTRIES"))
-    c.same(f"FIRST_PID of list {number}", value(one.after("FIRST_PID")), asked(f"DE 02 {number:02X} 00")[1])
-    for odt, entry, there in [(odts - 1, entries - 1, True), (odts, 0, False), (0, entries, False)]:
-        answer = asked(f"E2 00 {number:02X} 00 {odt:02X} {entry:02X}")
+    places = [(odts - 1, entries - 1, True), (odts, 0, False), (0, entries, False)]
+    pointed = (f"E2 00 {number:02X} 00 {odt:02X} {entry:02X}" for odt, entry, _ in places)
+    selected, *answers = asked(f"DE 02 {number:02X} 00", *pointed)
+    c.same(f"FIRST_PID of list {number}", value(one.after("FIRST_PID")), selected[1])
+    for (odt, entry, there), answer in zip(places, answers):
         c.same(f"entry {entry} of ODT {odt} of list {number}", there, answer == b"\xff")
 
 
 def checksum(c, segment):
     described = segment.one("CHECKSUM").values()
-    at_start = OPENING + ["F6 00 00 00 00 00 00 00"]
-    kind = answers(at_start + ["F3 00 00 00 10 00 00 00"])[-1][1]
-    most = answers(at_start + ["F3 00 00 00 00 00 00 00"])[-1][4:]
-    c.same("checksum", described[0] == "XCP_ADD_12", kind == 2)
-    c.same("MAX_BLOCK_SIZE", described[2], int.from_bytes(most, "little"))
+    _, done, refused = asked("F6 00 00 00 00 00 00 00", "F3 00 00 00 10 00 00 00", "F3 00 00 00 00 00 00 00")
+    c.same("checksum", described[0] == "XCP_ADD_12", done[1] == 2)
+    c.same("MAX_BLOCK_SIZE", described[2], int.from_bytes(refused[4:], "little"))
 
 
 def example(c, module):

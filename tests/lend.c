@@ -46,11 +46,11 @@ uint8_t *lend(size_t size, uint8_t fill)
 
 void lend_end(uint8_t *buffer, size_t size)
 {
-    uint8_t *first = first_page(buffer, size);
+    uint8_t *first = first_page(buffer, size), *end = first + pages_of(size);
     uint32_t touched = 0;
-    for (uint8_t *p = first; p < first + pages_of(size); p++)
+    for (uint8_t *p = first; p < end; p++)
         if ((p < buffer || p >= buffer + size) && *p != BESIDE)
             touched++;
     insist("bytes written beside a lent buffer", 0, touched);
-    munmap(first - page(), pages_of(size) + 2 * page());
+    munmap(first - page(), (size_t)(end - first) + 2 * page());
 }

@@ -124,7 +124,7 @@ impl Rig {
         let unlike = first_unlike(&self.expected, &effects);
         if unlike.is_some() || self.broken.is_some() {
             self.differences += 1;
-            println!("DIFFERENCE {}", self.differences);
+            println!("DIFFERENCE {}: records for the replay program in hex, and after # what they cannot say", self.differences);
             let words = self.broken.unwrap_or_default();
             log::print(self.proved.as_mut(), &self.steps, words);
             println!();
