@@ -163,7 +163,7 @@ def exchange(tool):
     read_unit(tool)
     tool.ask("DD 00")
     # Stopped lists drop what waits: nothing but answers comes now.
-    tool.show("stops all lists; how do you do?", "FD", "FF 00 00 00 00 00", "no list runs, nothing locked")
+    tool.show("stops all lists, asks for status", "FD", "FF 00 00 00 00 00", "no list runs, nothing locked")
     tool.show("disconnects", "FE")
     # Without a session there is silence: what comes next is the answer to the next CONNECT.
     tool.wire.send(b"\xfd")
@@ -179,18 +179,24 @@ def name_of_line(host):
     return name
 
 
-def main():
+def talk():
+    """Runs the host, and the exchange with it; the line to end with."""
     host = subprocess.Popen(sys.argv[1:], stdin=subprocess.DEVNULL, stdout=subprocess.PIPE, text=True)
     try:
         tool = Tool(name_of_line(host))
         exchange(tool)
-        print(f"\n{tool.answers} answers and {sum(tool.samples)} samples came, each as it should be.")
-    except (Wrong, OSError) as why:
-        print(f"tool: {why}", flush=True)
-        sys.exit(1)
+        return f"\n{tool.answers} answers and {sum(tool.samples)} samples came, each as it should be."
     finally:
         host.terminate()
         host.wait()
+
+
+def main():
+    try:
+        print(talk())
+    except (Wrong, OSError) as why:
+        print(f"tool: {why}", flush=True)
+        sys.exit(1)
 
 
 main()

@@ -45,6 +45,8 @@ class Wire:
             if not ready:
                 raise Wrong(f"nothing has come from the slave for {PATIENCE} seconds")
             self.waiting = os.read(self.line, 4096)
+            if not self.waiting:
+                raise Wrong("the line has ended")
         first, self.waiting = self.waiting[0], self.waiting[1:]
         return first
 

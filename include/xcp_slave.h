@@ -17,7 +17,7 @@
  * bytes of memory. Let the ring buffer hold what can arrive in that time. Bytes lost there are
  * damage on the line like any other: the message is dropped and the master repeats it.
  *
- * A main loop:
+ * A main loop (examples/host.c is a whole one):
  *
  *   static uint8_t state[XCP_STATE_SIZE], room[XCP_SLOT_ROOM];
  *   static uint8_t settings[4096], values[64];     // calibration, measured values

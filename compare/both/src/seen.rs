@@ -142,6 +142,39 @@ impl Seen {
         }
     }
 
+    /// Every count of lists that sampled and that missed.
+    fn samples(&self) -> Vec<(String, u64)> {
+        let mut samples = Vec::new();
+        for (sampled, row) in self.sampled.iter().enumerate() {
+            for (missed, count) in row.iter().enumerate().take(5 - sampled) {
+                samples.push((format!("{} and {}", sampled, missed), *count));
+            }
+        }
+        samples
+    }
+
+    fn frames(&self) -> Vec<(String, u64)> {
+        let mut frames = vec![
+            ("none".to_string(), self.no_frame),
+            ("answer".to_string(), self.answer_frame),
+        ];
+        for (number, count) in self.list_frame.iter().enumerate() {
+            frames.push((format!("packet {:02X}", number), *count));
+        }
+        frames
+    }
+
+    /// What a frame may have that most have not.
+    fn oddities(&self) -> Vec<(String, u64)> {
+        let mut oddities: Vec<(String, u64)> = ["CTR escaped", "packet escaped", "sum escaped"]
+            .iter()
+            .map(|name| name.to_string())
+            .zip(self.escaped)
+            .collect();
+        oddities.push(("CTR from 255 to 0".to_string(), self.wrapped));
+        oddities
+    }
+
     /// Everything else that must be covered, by name.
     fn groups(&self) -> Vec<(&'static str, Vec<(String, u64)>)> {
         let numbers = |all: &[u64; 11], which: &[usize]| -> Vec<(String, u64)> {
@@ -151,25 +184,6 @@ impl Seen {
             let names = names.iter().map(usize::to_string);
             names.zip(counts.iter().copied()).collect()
         };
-        let mut samples = Vec::new();
-        for (sampled, row) in self.sampled.iter().enumerate() {
-            for (missed, count) in row.iter().enumerate().take(5 - sampled) {
-                samples.push((format!("{} and {}", sampled, missed), *count));
-            }
-        }
-        let mut frames = vec![
-            ("none".to_string(), self.no_frame),
-            ("answer".to_string(), self.answer_frame),
-        ];
-        for (number, count) in self.list_frame.iter().enumerate() {
-            frames.push((format!("packet {:02X}", number), *count));
-        }
-        let mut oddities: Vec<(String, u64)> = ["CTR escaped", "packet escaped", "sum escaped"]
-            .iter()
-            .map(|name| name.to_string())
-            .zip(self.escaped)
-            .collect();
-        oddities.push(("CTR from 255 to 0".to_string(), self.wrapped));
         let rooms: Vec<usize> = (0..ROOMS).collect();
         vec![
             (
@@ -177,10 +191,10 @@ impl Seen {
                 numbers(&self.byte, &[0, 1, 2, 3, 4, 5, 6, 7, 10]),
             ),
             ("Numbers of an event", numbers(&self.event, &[0, 8, 10])),
-            ("Lists that sampled and that missed", samples),
+            ("Lists that sampled and that missed", self.samples()),
             ("Numbers of a slot", numbers(&self.slot, &[0, 9, 10])),
-            ("Frames of a slot", frames),
-            ("Frames with", oddities),
+            ("Frames of a slot", self.frames()),
+            ("Frames with", self.oddities()),
             ("Numbers of a power-up", numbers(&self.power_up, &[0, 10])),
             ("Room lent to a slot", each(&rooms, &self.room)),
             ("Calibration bytes lent", each(&LENGTHS, &self.cal_length)),

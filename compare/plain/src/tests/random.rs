@@ -4,6 +4,8 @@ use super::frame;
 use crate::seed::{Generator, Resource};
 use crate::Slave;
 
+/// Seldom the two that end a session.
+const OTHERS: [u8; 8] = [0xFF, 0xFE, 0xFC, 0xFC, 0xFC, 0xDB, 0xDB, 0xDC];
 const LENGTHS: [usize; 8] = [0, 1, 5, 100, 4095, 4096, 4097, 5000];
 
 struct Dice(Generator);
@@ -24,46 +26,7 @@ impl Dice {
 
     /// A command that is likely to be done, with one byte spoilt now and then.
     fn packet(&mut self, slave: &Slave) -> Vec<u8> {
-        let (list, few, small) = (
-            self.below(4) as u8,
-            self.below(3) as u8,
-            self.below(8) as u8,
-        );
-        // A session must last and its locks be opened, or little would be tried in it.
-        let kind = match (slave.session.open, slave.session.seed) {
-            (false, _) => 0,
-            (true, Some(_)) if few > 0 => 3,
-            (true, None) if few > 0 && slave.session.locked_mask() > 0 => 2,
-            (true, _) => self.below(24),
-        };
-        let mut packet = match kind {
-            0 if slave.session.open => {
-                vec![
-                    [0xFF, 0xFE, 0xFC, 0xFC, 0xFC, 0xDB, 0xDB, 0xDC][small as usize],
-                    0,
-                ]
-            }
-            0 => vec![0xFF, 0],
-            1 => vec![[0xFD, 0xDA, 0xD9, 0x00][self.below(4)]],
-            2 => vec![0xF8, 0, [0x01, 0x04][self.below(2)]],
-            3 => {
-                let (resource, seed) = slave.session.seed.unwrap_or((Resource::Lists, 0));
-                let mut packet = vec![0xF7, 4];
-                packet.extend_from_slice(&resource.key(seed).to_le_bytes());
-                packet
-            }
-            4 | 5 => vec![0xF6, 0, 0, list / 3, small, list * 5, 0, 0],
-            6 => vec![0xF5, small],
-            7 => vec![0xF4, small, 0, list / 2, small, 15, 0, 0],
-            8 => vec![0xF3, 0, 0, 0, small, few, 0, 0],
-            9 | 10 => vec![0xF0, small, 1, 2, 3, 4, 0x9A, 0x9B],
-            11 => vec![0xE3, 0, list, 0],
-            12 | 13 => vec![0xE2, 0, list, 0, small / 4, small % 4],
-            14..=16 => vec![0xE1, 0xFF, few, list / 2, small, list * 5, 0, 0],
-            17 | 18 => vec![0xE0, 0x10, list, 0, small / 4, 0, 1, 0],
-            19..=21 => vec![0xDE, few, list, 0],
-            _ => vec![0xDD, few],
-        };
+        let mut packet = self.good_packet(slave);
         // A wrong key ends everything, so keys are spoilt less often.
         let spoil = if packet[0] == 0xF7 { 60 } else { 10 };
         if self.below(spoil) == 0 {
@@ -75,73 +38,135 @@ impl Dice {
         }
         packet
     }
+
+    fn good_packet(&mut self, slave: &Slave) -> Vec<u8> {
+        let few = self.below(3);
+        // A session must last and its locks be opened, or little would be tried in it.
+        match slave.session.seed {
+            _ if !slave.session.open => vec![0xFF, 0],
+            Some((resource, seed)) if few > 0 => unlock(resource, seed),
+            None if few > 0 && slave.session.locked_mask() > 0 => self.get_seed(),
+            _ => self.any_packet(slave),
+        }
+    }
+
+    fn get_seed(&mut self) -> Vec<u8> {
+        vec![0xF8, 0, [0x01, 0x04][self.below(2)]]
+    }
+
+    fn any_packet(&mut self, slave: &Slave) -> Vec<u8> {
+        let (list, few) = (self.below(4) as u8, self.below(3) as u8);
+        let small = self.below(8) as u8;
+        let (resource, seed) = slave.session.seed.unwrap_or((Resource::Lists, 0));
+        match self.below(24) {
+            0 => vec![OTHERS[small as usize], 0],
+            1 => vec![[0xFD, 0xDA, 0xD9, 0x00][list as usize]],
+            2 => self.get_seed(),
+            3 => unlock(resource, seed),
+            4 | 5 => vec![0xF6, 0, 0, list / 3, small, list * 5, 0, 0],
+            6 => vec![0xF5, small],
+            7 => vec![0xF4, small, 0, list / 2, small, 15, 0, 0],
+            8 => vec![0xF3, 0, 0, 0, small, few, 0, 0],
+            9 | 10 => vec![0xF0, small, 1, 2, 3, 4, 0x9A, 0x9B],
+            11 => vec![0xE3, 0, list, 0],
+            12 | 13 => vec![0xE2, 0, list, 0, small / 4, small % 4],
+            14..=16 => vec![0xE1, 0xFF, few, list / 2, small, list * 5, 0, 0],
+            17 | 18 => vec![0xE0, 0x10, list, 0, small / 4, 0, 1, 0],
+            19..=21 => vec![0xDE, few, list, 0],
+            _ => vec![0xDD, few],
+        }
+    }
+}
+
+fn unlock(resource: Resource, seed: u32) -> Vec<u8> {
+    let key = resource.key(seed).to_le_bytes();
+    [&[0xF7, 4][..], &key].concat()
+}
+
+/// A slave and its memories, with what was met so far.
+struct Trial {
+    slave: Slave,
+    cal: Vec<u8>,
+    meas: Vec<u8>,
+    /// How much of each memory is lent.
+    lent: (usize, usize),
+    taken: u32,
+    sampled: u32,
+    written: u32,
+}
+
+impl Trial {
+    /// One byte: nothing is written but by a command, with calibration unlocked, and below 4,096.
+    fn byte(&mut self, byte: u8) {
+        let before = self.cal.clone();
+        let locked = self.slave.session.calibration_locked;
+        let (cal, meas) = (&mut self.cal[..self.lent.0], &self.meas[..self.lent.1]);
+        let number = self.slave.receive_byte(cal, meas, byte);
+        assert!(number <= 7);
+        self.taken += u32::from(number == 1);
+        if self.cal != before {
+            assert!(!locked && number == 1);
+            assert_eq!(self.cal[4096..], before[4096..]);
+            self.written += 1;
+        }
+    }
+
+    fn event(&mut self, event: u32) {
+        let (cal, meas) = (&self.cal[..self.lent.0], &self.meas[..self.lent.1]);
+        let result = self.slave.event(cal, meas, event, 0x9B9A);
+        if event < 2 {
+            assert!(result / 256 + result % 256 <= 4);
+            self.sampled += result / 256;
+        } else {
+            assert_eq!(result, 8 * 65_536);
+        }
+    }
+
+    fn slot(&mut self, room: usize) {
+        let mut out = [0xEE; 40];
+        let size = self.slave.slot(&mut out[..room]) as usize;
+        if room < 23 {
+            assert_eq!(size, 9 * 65_536);
+            return;
+        }
+        assert!(size <= 23);
+        assert!(out[size..].iter().all(|b| *b == 0xEE));
+        if size > 0 {
+            super::unframe(&out[..size]);
+        }
+    }
 }
 
 #[test]
 fn any_calls_in_any_order() {
     let mut dice = Dice(Generator::new(2024));
-    let mut cal = vec![0u8; 5000];
-    let meas = vec![0x9Au8; 5000];
-    let mut slave = Slave::power_up(1);
-    let (mut taken, mut sampled, mut written) = (0, 0, 0);
-    for _ in 0..150_000 {
-        let (c, m) = if dice.below(4) == 0 {
-            (
-                LENGTHS[dice.below(LENGTHS.len())],
-                LENGTHS[dice.below(LENGTHS.len())],
-            )
-        } else {
-            (4096, 4096)
+    let mut trial = Trial {
+        slave: Slave::power_up(1),
+        cal: vec![0; 5000],
+        meas: vec![0x9A; 5000],
+        lent: (4096, 4096),
+        taken: 0,
+        sampled: 0,
+        written: 0,
+    };
+    for _ in 0..250_000 {
+        trial.lent = match dice.below(4) {
+            0 => (LENGTHS[dice.below(8)], LENGTHS[dice.below(8)]),
+            _ => (4096, 4096),
         };
         match dice.below(10) {
-            0 => {
-                let byte = dice.byte();
-                let number = slave.receive_byte(&mut cal[..c], &meas[..m], byte);
-                assert!(number <= 7);
-            }
-            1 => {
-                let event = dice.below(3) as u32;
-                let result = slave.event(&cal[..c], &meas[..m], event, 0x9B9A);
-                if event < 2 {
-                    assert!(result / 256 + result % 256 <= 4);
-                    sampled += result / 256;
-                } else {
-                    assert_eq!(result, 8 * 65_536);
-                }
-            }
-            2..=5 => {
-                let mut out = [0xEE; 40];
-                let room = [0, 22, 23, 40, 40, 40][dice.below(6)];
-                let size = slave.slot(&mut out[..room]) as usize;
-                if room < 23 {
-                    assert_eq!(size, 9 * 65_536);
-                } else {
-                    assert!(size <= 23);
-                    assert!(out[size..].iter().all(|b| *b == 0xEE));
-                    if size > 0 {
-                        super::unframe(&out[..size]);
-                    }
-                }
-            }
+            0 => trial.byte(dice.byte()),
+            1 => trial.event(dice.below(3) as u32),
+            2..=5 => trial.slot([0, 22, 23, 40, 40, 40][dice.below(6)]),
             _ => {
-                let packet = dice.packet(&slave);
-                for byte in frame(dice.byte(), &packet) {
-                    let before = cal.clone();
-                    let locked = slave.session.calibration_locked;
-                    let number = slave.receive_byte(&mut cal[..c], &meas[..m], byte);
-                    assert!(number <= 7);
-                    taken += u32::from(number == 1);
-                    if cal != before {
-                        assert!(!locked && number == 1);
-                        assert_eq!(cal[4096..], before[4096..]);
-                        written += 1;
-                    }
-                }
+                let packet = dice.packet(&trial.slave);
+                let bytes = frame(dice.byte(), &packet);
+                bytes.iter().for_each(|byte| trial.byte(*byte));
             }
         }
     }
     // The dice did reach what they are there for.
-    assert!(taken > 5_000, "{}", taken);
-    assert!(sampled > 500, "{}", sampled);
-    assert!(written > 100, "{}", written);
+    assert!(trial.taken > 5_000, "{}", trial.taken);
+    assert!(trial.sampled > 500, "{}", trial.sampled);
+    assert!(trial.written > 100, "{}", trial.written);
 }
