@@ -1,0 +1,22 @@
+use Rattle.session.specs.Generator.{keyOf}
+use borrow.Author.Needs.{needs}
+use Rattle.bench.proofs.keys.key_for.Statement.{statement}
+use Rattle.bench.proofs.keys.key_for.Tie as tie
+
+addend-for-requires : tie.Need-addend-for-requires
+addend-for-requires c κs = search needs
+
+wrapping-add-u32-requires : tie.Need-wrapping-add-u32-requires
+wrapping-add-u32-requires c κs = search needs
+
+wrapping-add-u32-requires-2 : tie.Need-wrapping-add-u32-requires-2
+wrapping-add-u32-requires-2 c κs = search needs
+
+returns : tie.Need-returns
+unfolding keyOf
+returns c = simp (← (c .wrapping-add-u322 .ensures), ← (c .before .wrapping-add-u32 .ensures), ← (c .before .before .addend-for .ensures))
+
+pub key-for-spec : {M : Type 1} → statement M
+key-for-spec =
+    tie.close
+    (tie.spec addend-for-requires wrapping-add-u32-requires wrapping-add-u32-requires-2 returns)

@@ -1,0 +1,79 @@
+-- The place stays within the sheet, and each line takes it further.
+use Prim.Native.Nat.{_≤_, _-_}
+use lib.ListN.{length}
+use borrow.Author.Needs.{needs}
+use Rattle.bench.proofs.sheet.run.Statement.{statement}
+use Rattle.bench.proofs.sheet.run.Tie as tie
+
+abbrev Inv-loop : tie.InvT-loop
+Inv-loop text state₀ cal₀ meas₀ tool₀ at₀ t8 state cal meas tool at = at ≤ length text
+
+abbrev μ-loop : tie.MeasureT-loop
+μ-loop text state₀ cal₀ meas₀ tool₀ at₀ t8 state cal meas tool at = length text - at
+
+new-requires : tie.Need-new-requires Inv-loop μ-loop
+new-requires c κs = search needs
+
+loop-holds : tie.Need-loop-holds Inv-loop μ-loop
+loop-holds c = search needs
+
+find-requires : tie.Need-find-requires Inv-loop μ-loop
+find-requires c κs = search needs
+
+sub-run-line : tie.Need-sub-run-line Inv-loop μ-loop
+sub-run-line c = search needs
+
+part-run-line-start : tie.Need-part-run-line-start Inv-loop μ-loop
+part-run-line-start c = search needs
+
+part-run-line-end : tie.Need-part-run-line-end Inv-loop μ-loop
+part-run-line-end c = search needs
+
+run-line-requires : tie.Need-run-line-requires Inv-loop μ-loop
+run-line-requires c κs = search needs
+
+slice-aggregate-print : tie.Need-slice-aggregate-print Inv-loop μ-loop
+slice-aggregate-print c = search needs
+
+print-requires : tie.Need-print-requires Inv-loop μ-loop
+print-requires c κs = search needs
+
+add-at : tie.Need-add-at Inv-loop μ-loop
+add-at c = search needs
+
+loop-less : tie.Need-loop-less Inv-loop μ-loop
+loop-less c = search needs
+
+loop-again : tie.Need-loop-again Inv-loop μ-loop
+loop-again c = search needs
+
+next-case-requires : tie.Need-next-case-requires Inv-loop μ-loop
+next-case-requires c κs = search needs
+
+print-end-requires : tie.Need-print-end-requires Inv-loop μ-loop
+print-end-requires c κs = search needs
+
+returns : tie.Need-returns Inv-loop μ-loop
+returns c = search needs
+
+pub run-spec : {M : Type 1} → statement M
+run-spec =
+    tie.close
+    (tie.spec
+    Inv-loop
+    μ-loop
+    new-requires
+    loop-holds
+    find-requires
+    sub-run-line
+    part-run-line-start
+    part-run-line-end
+    run-line-requires
+    slice-aggregate-print
+    print-requires
+    add-at
+    loop-less
+    loop-again
+    next-case-requires
+    print-end-requires
+    returns)

@@ -1,0 +1,62 @@
+-- The index stays within the numbers.
+use Prim.Native.Nat.{_≤_, _-_}
+use borrow.Author.Needs.{needs}
+use Rattle.bench.proofs.show.print_numbers.Statement.{statement}
+use Rattle.bench.proofs.show.print_numbers.Tie as tie
+
+abbrev Inv-loop : tie.InvT-loop
+Inv-loop numbers count end i₀ t5 i = i ≤ end
+
+abbrev μ-loop : tie.MeasureT-loop
+μ-loop numbers count end i₀ t5 i = end - i
+
+least-requires : tie.Need-least-requires Inv-loop μ-loop
+least-requires c κs = search needs
+
+loop-holds : tie.Need-loop-holds Inv-loop μ-loop
+loop-holds c = search needs
+
+slice-aggregate-print : tie.Need-slice-aggregate-print Inv-loop μ-loop
+slice-aggregate-print c = search needs
+
+print-requires : tie.Need-print-requires Inv-loop μ-loop
+print-requires c κs = search needs
+
+mul-print-number : tie.Need-mul-print-number Inv-loop μ-loop
+mul-print-number c = search needs
+
+element-copy-out-print-number : tie.Need-element-copy-out-print-number Inv-loop μ-loop
+element-copy-out-print-number c = search needs
+
+print-number-requires : tie.Need-print-number-requires Inv-loop μ-loop
+print-number-requires c κs = search needs
+
+add-i : tie.Need-add-i Inv-loop μ-loop
+add-i c = search needs
+
+loop-less : tie.Need-loop-less Inv-loop μ-loop
+loop-less c = search needs
+
+loop-again : tie.Need-loop-again Inv-loop μ-loop
+loop-again c = search needs
+
+returns : tie.Need-returns Inv-loop μ-loop
+returns c = search needs
+
+pub print-numbers-spec : {M : Type 1} → statement M
+print-numbers-spec =
+    tie.close
+    (tie.spec
+    Inv-loop
+    μ-loop
+    least-requires
+    loop-holds
+    slice-aggregate-print
+    print-requires
+    mul-print-number
+    element-copy-out-print-number
+    print-number-requires
+    add-i
+    loop-less
+    loop-again
+    returns)

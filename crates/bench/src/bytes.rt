@@ -1,0 +1,58 @@
+// Parts of bytes, and the numbers in them.
+ghost use Prim.Native.Nat.{_≤_, _<_};
+ghost use lib.ListN.{length};
+
+// The longest frame, and the longest list that a line of the sheet has.
+pub const ROOM: usize = 23;
+
+pub fn least(a: usize, b: usize) -> usize
+    ensures { λ r. ⌜ (r ≤ a) × (r ≤ b) ⌝ }
+{
+    if a < b { a } else { b }
+}
+
+// The len bytes from at on, or as many of them as there are.
+pub fn part(bytes: &[u8], at: usize, len: usize) -> &[u8] {
+    let from = least(at, bytes.len());
+    let end = from + least(len, bytes.len() - from);
+    &bytes[from..end]
+}
+
+// The first len bytes of a frame or a list.
+pub fn front(bytes: &[u8; 23], len: usize) -> &[u8] {
+    part(bytes, 0, len)
+}
+
+// The place of the first such byte from a place on, or the end.
+pub fn find(bytes: &[u8], from: usize, byte: u8) -> usize
+    requires { ⌜ from ≤ length (now bytes) ⌝ }
+    ensures { λ r. ⌜ (from ≤ r) × (r ≤ length (now (bytes .entry))) ⌝ }
+{
+    let mut at = from;
+    while at < bytes.len() {
+        if bytes[at] == byte {
+            return at;
+        }
+        at += 1;
+    }
+    at
+}
+
+// The byte at a place, and 0 past the end.
+pub fn byte(bytes: &[u8], at: usize) -> u8 {
+    if at < bytes.len() { bytes[at] } else { 0 }
+}
+
+// The number in two bytes.
+pub fn word(bytes: &[u8], at: usize) -> u16
+    requires { ⌜ at < 23 ⌝ }
+{
+    byte(bytes, at) as u16 + 256 * (byte(bytes, at + 1) as u16)
+}
+
+// The number in four bytes.
+pub fn long(bytes: &[u8], at: usize) -> u32
+    requires { ⌜ at < 21 ⌝ }
+{
+    word(bytes, at) as u32 + 65536 * (word(bytes, at + 2) as u32)
+}

@@ -1,0 +1,23 @@
+// Runs a bench sheet against the slave, as a tool at the other end of the wire would. The sheet
+// comes by standard input; for each step it prints what came, and whether that was expected.
+mod bytes;
+mod hex;
+mod keys;
+mod sheet;
+mod show;
+mod steps;
+mod tool;
+mod wire;
+
+fn main() {
+    let mut state = [0; 247];
+    let mut cal = [0; 4096];
+    let mut meas = [0; 4096];
+    let mut text = io::large_buffer();
+    let size = io::read_full(0, &mut text);
+    if size == 65536 {
+        show::print(b"The sheet has more than 65,535 bytes and was not run.\n");
+        return;
+    }
+    sheet::run(&text[..size], &mut state, &mut cal, &mut meas);
+}

@@ -1,0 +1,83 @@
+// What is printed.
+use crate::bytes;
+use crate::bytes::ROOM;
+
+pub fn print(text: &[u8]) {
+    io::write_all(1, text);
+}
+
+// A capital digit: io::print_hex writes small ones.
+fn digit(n: u8) -> u8 {
+    let d = n % 16;
+    if d < 10 { b'0' + d } else { b'A' + (d - 10) }
+}
+
+fn print_byte(byte: u8) {
+    let text = [digit(byte / 16), digit(byte)];
+    print(&text);
+}
+
+pub fn print_bytes(bytes: &[u8]) {
+    if bytes.len() == 0 {
+        print(b"nothing");
+        return;
+    }
+    let mut i = 0;
+    while i < bytes.len() {
+        if 0 < i {
+            print(b" ");
+        }
+        print_byte(bytes[i]);
+        i += 1;
+    }
+}
+
+// As wide as a byte, so that it stands under its byte.
+fn print_number(number: u32) {
+    if number < 10 {
+        print(b" ");
+    }
+    io::print_decimal(1, number as u64);
+}
+
+// The first of them.
+pub fn print_numbers(numbers: &[u32; 23], count: usize) {
+    let end = bytes::least(count, ROOM);
+    let mut i = 0;
+    while i < end {
+        if 0 < i {
+            print(b" ");
+        }
+        print_number(numbers[i]);
+        i += 1;
+    }
+}
+
+pub fn print_verdict(good: bool) {
+    if good {
+        print(b"   as expected");
+        return;
+    }
+    print(b"   DIFFERENT");
+}
+
+// Whether these bytes are the expected ones.
+pub fn check(came: &[u8], expected: &[u8]) -> bool {
+    let good = check::same(came, expected);
+    print_verdict(good);
+    if !good {
+        print(b": expected ");
+        print_bytes(expected);
+    }
+    good
+}
+
+// A frame, and whether it is the expected one where the sheet says what to expect.
+pub fn on_the_wire(frame: &[u8], expected: &[u8]) -> bool {
+    print(b"\n    on the wire               ");
+    print_bytes(frame);
+    if expected.len() == 0 {
+        return true;
+    }
+    check(frame, expected)
+}

@@ -1,0 +1,148 @@
+// What the steps of a sheet do. Each prints what came, and hands the tool on with its verdict.
+use crate::bytes;
+use crate::keys;
+use crate::show;
+use crate::tool::Tool;
+use crate::wire;
+use session::Evented;
+
+const MEMORY: usize = 4096;
+
+// Power-up: the start number, four bytes.
+pub fn power_up(bytes: &[u8], was: Tool, state: &mut [u8; 247]) -> Tool {
+    show::print_bytes(bytes);
+    session::power_up(state, bytes::long(bytes, 0));
+    let mut now = was;
+    now.ctr = 0;
+    now
+}
+
+// Measured bytes: their place, two bytes, and they.
+pub fn measured(bytes: &[u8], meas: &mut [u8; 4096]) {
+    show::print_bytes(bytes);
+    set(
+        bytes::part(bytes, 2, 21),
+        meas,
+        bytes::word(bytes, 0) as usize,
+    );
+}
+
+// Bytes past the memory's end have no place and are left out.
+fn set(bytes: &[u8], meas: &mut [u8; 4096], at: usize) {
+    let from = bytes::least(at, MEMORY);
+    let count = bytes::least(bytes.len(), MEMORY - from);
+    let mut i = 0;
+    while i < count {
+        meas[from + i] = bytes[i];
+        i += 1;
+    }
+}
+
+// A command, and the frame that it is to be in.
+pub fn command(
+    bytes: &[u8],
+    expected: &[u8],
+    was: Tool,
+    state: &mut [u8; 247],
+    cal: &mut [u8; 4096],
+    meas: &[u8; 4096],
+) -> Tool {
+    let mut frame = [0; 23];
+    let mut numbers = [0; 23];
+    let size = wire::frame(bytes, was.ctr, &mut frame);
+    wire::send(&frame, size, &mut numbers, state, cal, meas);
+    show::print_bytes(bytes);
+    let good = show::on_the_wire(bytes::front(&frame, size), expected);
+    show::print(b"\n    each byte gave            ");
+    show::print_numbers(&numbers, size);
+    was.judged(good).sent(1)
+}
+
+// A slot: the packet that is to come, and the frame that it is to be in.
+pub fn slot(expected: &[u8], frame_expected: &[u8], was: Tool, state: &mut [u8; 247]) -> Tool {
+    let mut frame = [0; 23];
+    let mut message = [0; 11];
+    let size = wire::take_frame(state, &mut frame);
+    let outcome = wire::read(bytes::front(&frame, size), &mut message);
+    let packet = wire::packet(outcome, &message);
+    show::print_bytes(packet);
+    let good = show::check(packet, expected);
+    let good_frame = show::on_the_wire(bytes::front(&frame, size), frame_expected);
+    let mut now = was.judged(good & good_frame);
+    now.seed = bytes::long(packet, 2);
+    now
+}
+
+// UNLOCK: the resource, and the key that the seed in the last answer is to give.
+pub fn unlock(
+    bytes: &[u8],
+    expected: &[u8],
+    was: Tool,
+    state: &mut [u8; 247],
+    cal: &mut [u8; 4096],
+    meas: &[u8; 4096],
+) -> Tool {
+    let key = keys::key_for(keys::resource(bytes::byte(bytes, 0)), was.seed);
+    let packet = keys::unlock(key);
+    show::print(b"key ");
+    show::print_bytes(&packet[2..]);
+    let good = show::check(&packet[2..], expected);
+    show::print(b"\n    the command               ");
+    command(&packet, b"", was.judged(good), state, cal, meas)
+}
+
+// A command as often as the first byte says, and the answer that is to come each time.
+pub fn repeat(
+    bytes: &[u8],
+    expected: &[u8],
+    was: Tool,
+    state: &mut [u8; 247],
+    cal: &mut [u8; 4096],
+    meas: &[u8; 4096],
+) -> Tool {
+    let times = bytes::byte(bytes, 0);
+    let command = bytes::part(bytes, 1, 8);
+    show::print_bytes(command);
+    show::print(b"\n    times                     ");
+    io::print_decimal(1, times as u64);
+    show::print(b"\n    each answer is to be      ");
+    show::print_bytes(expected);
+    let good = wire::exchanges(times, command, expected, was.ctr, state, cal, meas);
+    show::print_verdict(good);
+    was.judged(good).sent(times)
+}
+
+// An event: its number and two bytes of clock; the lists that are to sample, and to miss it.
+pub fn event(
+    bytes: &[u8],
+    expected: &[u8],
+    was: Tool,
+    state: &mut [u8; 247],
+    cal: &[u8; 4096],
+    meas: &[u8; 4096],
+) -> Tool {
+    show::print_bytes(bytes);
+    show::print(b"\n    sampled, missed           ");
+    let number = bytes::byte(bytes, 0) as u32;
+    let evented = session::event(state, cal, meas, number, bytes::word(bytes, 1));
+    was.judged(counted(evented, expected))
+}
+
+fn counted(evented: Evented, expected: &[u8]) -> bool {
+    match evented {
+        Evented::Done { sampled, missed } => {
+            let counts = [sampled, missed];
+            show::print_bytes(&counts);
+            show::check(&counts, expected)
+        }
+        Evented::BadEvent => refused(8, expected),
+        Evented::NoState => refused(10, expected),
+    }
+}
+
+fn refused(number: u8, expected: &[u8]) -> bool {
+    let numbers = [number];
+    show::print(b"refused with ");
+    io::print_decimal(1, number as u64);
+    show::check(&numbers, expected)
+}
