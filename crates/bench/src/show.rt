@@ -1,4 +1,6 @@
 // What is printed.
+ghost use mathlib.Core.Path.{_≡_};
+ghost use mathlib.Core.Bool.{true};
 use crate::bytes;
 use crate::bytes::ROOM;
 
@@ -62,7 +64,9 @@ pub fn print_verdict(good: bool) {
 }
 
 // Whether these bytes are the expected ones.
-pub fn check(came: &[u8], expected: &[u8]) -> bool {
+pub fn check(came: &[u8], expected: &[u8]) -> bool
+    ensures { λ r. ⌜ (r ≡ true → now (came .entry) ≡ now (expected .entry)) × (now (came .entry) ≡ now (expected .entry) → r ≡ true) ⌝ }
+{
     let good = check::same(came, expected);
     print_verdict(good);
     if !good {
