@@ -1,4 +1,4 @@
--- Every reachable state is consistent: power-up makes one, and every call keeps one. Assumes nothing.
+-- Power-up makes a consistent state, and every call keeps one. Assumes nothing.
 use Prim.Native.Nat.{ℕ, zero, suc, _+_, _*_, _/_, _%_, _≤_, _<_}
 use mathlib.Core.Path.{_≡_, refl, sym, ap, _∙_}
 use mathlib.Core.Bool.{Bool, true, cond}
@@ -320,18 +320,3 @@ marked-slot s out =
 
 pub slot-kept : (s out : List ℕ) → consistent s ≡ true → consistent (slotOf s out .state) ≡ true
 slot-kept s out h = kept (marked-slot s out) h
-
--- ---- every state that calls can lead to, the whole device powered up again among them
-pub data Reachable : List ℕ → Type 0 where
-  powers : (start : ℕ) → Reachable (powered start)
-  powers-again : {s : List ℕ} (start : ℕ) → Reachable s → Reachable (powerUpOf s start .state)
-  receives : {s : List ℕ} (cal meas : List ℕ) (b : ℕ) → Reachable s → Reachable (receiveOf s cal meas b .state)
-  happens : {s : List ℕ} (cal meas : List ℕ) (event clock : ℕ) → Reachable s → Reachable (eventOf s cal meas event clock .state)
-  sends : {s : List ℕ} (out : List ℕ) → Reachable s → Reachable (slotOf s out .state)
-
-pub reachable-consistent : {s : List ℕ} → Reachable s → consistent s ≡ true
-reachable-consistent (powers start) = power-consistent start
-reachable-consistent (powers-again {s} start r) = power-up-consistent s start (consistent-size s (reachable-consistent r))
-reachable-consistent (receives {s} cal meas b r) = receive-kept s cal meas b (reachable-consistent r)
-reachable-consistent (happens {s} cal meas event clock r) = event-kept s cal meas event clock (reachable-consistent r)
-reachable-consistent (sends {s} out r) = slot-kept s out (reachable-consistent r)

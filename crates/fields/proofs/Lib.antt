@@ -1,4 +1,4 @@
--- What each field of the state reads as, what each change of the state changes, and that every reachable state is consistent.
+-- What each field of the state reads as, what each change of the state changes, and that every call keeps a state consistent.
 pub mod Stores
 pub mod Fields
 pub mod Frames

@@ -1,0 +1,56 @@
+-- Any bytes, at any moment, with any lent memory, get a defined outcome and never a fault. Each refusal has one fixed number, and apart from a wrong
+-- key, which ends the session, a refused command changes no memory byte, setting, list or lock.
+use Prim.Native.Nat.{ℕ, _≤_, _<_}
+use mathlib.Core.Path.{_≡_}
+use mathlib.Core.Logic.{_≢_}
+use mathlib.Core.Bool.{true, false}
+use mathlib.Core.List.{List}
+use lib.ListN.{length, getD, take}
+use Rattle.line.specs.Message.{room}
+use Rattle.session.specs.Layout.{placeAt, answerAt, size}
+use Rattle.session.specs.State.{consistent, answerOf}
+use Rattle.session.specs.Number.{receivedNumber, eventedNumber, slottedNumber, poweredUpNumber}
+use Rattle.demands.specs.Slave.{Slave}
+use Rattle.demands.specs.Heard.{Commands, wrongKey, wrongKeyAt}
+use Rattle.demands.specs.Waiting.{AllBut}
+
+-- a received byte leaves the calibration memory, and of the state all but the bytes from lo up to hi
+pub record Leaves (lo hi : ℕ) (v : Slave) (s cal meas : List ℕ) (b : ℕ) : Type 0 where
+  pub state : AllBut lo hi s (v .receive s cal meas b .state)
+  pub memory : v .receive s cal meas b .cal ≡ cal
+
+-- byte b ends a command that is answered FE
+pub record Refused (v : Slave) (s cal meas : List ℕ) (b : ℕ) : Type 0 where
+  pub answered : receivedNumber (v .receive s cal meas b .received) ≡ 1
+  pub begins : getD (answerOf (v .receive s cal meas b .state)) 0 0 ≡ 0xFE
+
+pub record Demand1 (v : Slave) : Type 0 where
+  -- a refused command, a wrong key apart, changes the reader's place and the answer alone
+  pub refused : (s cal meas : List ℕ) (b : ℕ) → consistent s ≡ true → Refused v s cal meas b → wrongKeyAt s b ≡ false → Leaves placeAt size v s cal meas b
+  -- after a wrong key every byte of the session is as after DISCONNECT, and no memory byte has changed
+  pub wrongKeyEnds : (s t cal meas cal′ meas′ : List ℕ) (b c : ℕ) (p q : List ℕ) → consistent s ≡ true → consistent t ≡ true → take placeAt s ≡ take placeAt t
+      → Commands s b p → wrongKey p s ≡ true → Commands t c q → getD q 0 0 ≡ 0xFE
+      → (take placeAt (v .receive s cal meas b .state) ≡ take placeAt (v .receive t cal′ meas′ c .state)) × (v .receive s cal meas b .cal ≡ cal)
+  -- the numbers 0 and 2 to 7 of a byte change the reader's place alone
+  pub unanswered : (s cal meas : List ℕ) (b : ℕ) → consistent s ≡ true → receivedNumber (v .receive s cal meas b .received) ≢ 1 → Leaves placeAt answerAt v s cal meas b
+  -- 10 is for a state that is not consistent, and changes nothing
+  pub noState : (s cal meas out : List ℕ) (b event clock : ℕ) → consistent s ≡ false
+      → (receivedNumber (v .receive s cal meas b .received) ≡ 10) × (v .receive s cal meas b .state ≡ s) × (v .receive s cal meas b .cal ≡ cal)
+      × (eventedNumber (v .event s cal meas event clock .evented) ≡ 10) × (v .event s cal meas event clock .state ≡ s)
+      × (slottedNumber (v .slot s out .slotted) ≡ 10) × (v .slot s out .state ≡ s) × (v .slot s out .out ≡ out)
+  -- at power-up it is for a state of another size
+  pub noSize : (s : List ℕ) (start : ℕ) → length s ≢ size → (poweredUpNumber (v .powerUp s start .poweredUp) ≡ 10) × (v .powerUp s start .state ≡ s)
+  -- 8 is for an event above 1, and changes nothing
+  pub badEvent : (s cal meas : List ℕ) (event clock : ℕ) → consistent s ≡ true → 1 < event
+      → (eventedNumber (v .event s cal meas event clock .evented) ≡ 8) × (v .event s cal meas event clock .state ≡ s)
+  -- 9 is for a slot with less room than the longest frame, and changes nothing
+  pub noRoom : (s out : List ℕ) → consistent s ≡ true → length out < room
+      → (slottedNumber (v .slot s out .slotted) ≡ 9) × (v .slot s out .state ≡ s) × (v .slot s out .out ≡ out)
+  -- no other call of these has such a number
+  pub otherwise : (s cal meas out : List ℕ) (b event clock : ℕ) → consistent s ≡ true
+      → (receivedNumber (v .receive s cal meas b .received) ≤ 7)
+      × (event ≤ 1 → eventedNumber (v .event s cal meas event clock .evented) ≡ 0)
+      × (room ≤ length out → slottedNumber (v .slot s out .slotted) ≡ 0)
+  -- whatever calls come, a consistent state stays one
+  pub stays : (s cal meas out : List ℕ) (b event clock : ℕ) → consistent s ≡ true
+      → (consistent (v .receive s cal meas b .state) ≡ true) × (consistent (v .event s cal meas event clock .state) ≡ true) × (consistent (v .slot s out .state) ≡ true)

@@ -1,0 +1,124 @@
+-- What it does on the wire and in memory is what XCP and its SxI transport say, with the choices of document 01. What it sends reads back as the very
+-- packet meant. While calibration is locked no calibration byte changes.
+use Prim.Native.Nat.{ℕ, zero, suc, _+_, _%_, _≤_, _<_}
+use mathlib.Core.Path.{_≡_}
+use mathlib.Core.Logic.{_≢_}
+use mathlib.Core.Bool.{Bool, true, false, cond}
+use mathlib.Core.Option.{some}
+use mathlib.Core.List.{List, [], _∷_, _++_}
+use lib.Dec.{ltb}
+use lib.ListN.{length, getD, take, drop}
+use Rattle.line.specs.Message.{longest, room, frame}
+use Rattle.line.specs.Run.{run as reads}
+use Rattle.line.specs.Wire.{heard}
+use Rattle.line.specs.declared.Place.{Place}
+use Rattle.session.specs.Layout.{lists, addressable, placeAt, sampleAt, firstOdt}
+use Rattle.session.specs.Bytes.{block}
+use Rattle.session.specs.State.{consistent, ctrOf, openOf, unlockedOf, seedOf, mtaOf, answerOf}
+use Rattle.session.specs.Receive.{Step, heeded}
+use Rattle.session.specs.Event.{samplingOf}
+use Rattle.session.specs.Slot.{turnOf}
+use Rattle.session.specs.PowerUp.{powered}
+use Rattle.session.specs.Number.{slottedValue}
+use Rattle.session.specs.declared.Resource.{Resource}
+use Rattle.session.specs.declared.Resource.the-variants.{Calibration, Lists}
+use Rattle.session.specs.declared.Extension.the-variants.{Calibration as CalibrationMemory}
+use Rattle.session.specs.declared.Mta.the-variants.{At}
+use Rattle.session.specs.declared.Seed.the-variants.{For}
+use Rattle.session.specs.declared.Sampling.the-variants.{Sampled}
+use Rattle.session.specs.declared.Evented.the-variants.{Done}
+use Rattle.demands.specs.Slave.{Slave}
+use Rattle.demands.specs.Runs.{Call, Byte, Event, Slot, Elsewhere, sends, each, frames}
+use Rattle.demands.specs.Heard.{packetEnded, readBy, Commands, keyFor, keyMatches}
+use Rattle.demands.specs.Waiting.{AllBut, waitingOf, packetFor, sampleOf, isSampled, isMissed}
+
+-- the packets that are to go, slot by slot: with room enough, that of whose turn it is
+abbrev pub dueAt : List ℕ → Call → List (List ℕ)
+dueAt s (Byte cal meas b) = []
+dueAt s (Event cal meas event clock) = []
+dueAt s (Slot out) = cond (ltb (length out) room) [] (packetFor (turnOf s) s)
+dueAt s Elsewhere = []
+
+abbrev pub due : Slave → List ℕ → List Call → List (List ℕ)
+due v s cs = each dueAt v s cs
+
+-- their frames: the CTR is c plus the frames sent before, modulo 256
+abbrev pub numbered : ℕ → ℕ → List (List ℕ) → List (List ℕ)
+numbered c i [] = []
+numbered c i (p ∷ ps) = frame ((c + i) % 256) p ∷ numbered c (suc i) ps
+
+-- a slot's frame: read from any place it is one good message, with the packet that waited
+abbrev pub ReadsBack : List (List ℕ) → List ℕ → Type 0
+ReadsBack [] s = packetFor (turnOf s) s ≡ []
+ReadsBack (f ∷ fs) s =
+    (fs ≡ []) × (p : List ℕ) × (packetFor (turnOf s) s ≡ p ∷ [])
+    × ((place : Place) (m : List ℕ) → longest ≤ length m → reads place m f ≡ heard place m (ctrOf s) p)
+
+-- the calibration resource is locked, or no session is open
+abbrev pub shut : List ℕ → Bool
+shut s = cond (openOf s) (cond (unlockedOf s Calibration) false true) true
+
+-- a step on the memory's first bytes, with its other bytes put back
+abbrev pub putBack : Step → List ℕ → Step
+putBack o rest = record { received = o .received; state = o .state; cal = o .cal ++ rest }
+
+-- DOWNLOAD of n bytes
+pub record Downloads (s : List ℕ) (b : ℕ) (p : List ℕ) (a n : ℕ) : Type 0 where
+  pub command : Commands s b p
+  pub code : getD p 0 0 ≡ 0xF0
+  pub count : getD p 1 0 ≡ n
+  pub place : mtaOf s ≡ At CalibrationMemory a
+
+-- UPLOAD of n bytes
+pub record Uploads (s : List ℕ) (b : ℕ) (p : List ℕ) (a n : ℕ) : Type 0 where
+  pub command : Commands s b p
+  pub code : getD p 0 0 ≡ 0xF5
+  pub count : getD p 1 0 ≡ n
+  pub place : mtaOf s ≡ At CalibrationMemory a
+
+abbrev pub otherLock : Resource → Resource
+otherLock Calibration = Lists
+otherLock Lists = Calibration
+
+-- the bytes in which a list's packets are stored
+abbrev pub storeSize : ℕ
+storeSize = 16
+
+-- how many of the first n lists pass a test
+abbrev pub howMany : (ℕ → Bool) → ℕ → ℕ
+howMany test zero = 0
+howMany test (suc n) = howMany test n + cond (test n) 1 0
+
+pub record Demand2 (v : Slave) : Type 0 where
+  -- bytes are read by the rules of the line, and a good message is heeded as document 01 says
+  pub heeds : (s cal meas : List ℕ) (b : ℕ) (p : List ℕ) → consistent s ≡ true → packetEnded s b ≡ some p → v .receive s cal meas b ≡ heeded p (readBy s b) cal meas
+  -- every frame that goes is that of the packet whose turn it was, one frame a slot, and the CTR grows by one per frame
+  pub numbers : (s : List ℕ) (cs : List Call) → consistent s ≡ true → ctrOf s < 256 → frames v s cs ≡ numbered (ctrOf s) 0 (due v s cs)
+  pub fromPowerUp : (start : ℕ) (cs : List Call) → frames v (powered start) cs ≡ numbered 0 0 (due v (powered start) cs)
+  pub readsBack : (s out : List ℕ) → consistent s ≡ true → room ≤ length out → ReadsBack (sends v s (Slot out)) s
+  -- bytes past the frame stay
+  pub restStays : (s out : List ℕ) → AllBut 0 (slottedValue (v .slot s out .slotted)) out (v .slot s out .out)
+  -- while calibration is locked, or no session is open, no calibration byte changes
+  pub locked : (s cal meas : List ℕ) (b : ℕ) → shut s ≡ true → v .receive s cal meas b .cal ≡ cal
+  -- only the first 4,096 bytes of a memory matter, and the rest stays
+  pub cut : (s cal meas : List ℕ) (b : ℕ) → v .receive s cal meas b ≡ putBack (v .receive s (take addressable cal) (take addressable meas) b) (drop addressable cal)
+  pub cutEvent : (s cal meas : List ℕ) (event clock : ℕ) → v .event s cal meas event clock ≡ v .event s (take addressable cal) (take addressable meas) event clock
+  -- what DOWNLOAD wrote, UPLOAD at the same place gives back; other bytes stay
+  pub givesBack : (s t cal meas meas′ : List ℕ) (b c : ℕ) (p q : List ℕ) (a n : ℕ) → consistent s ≡ true → consistent t ≡ true
+      → Downloads s b p a n → answerOf (v .receive s cal meas b .state) ≡ 0xFF ∷ [] → Uploads t c q a n
+      → (answerOf (v .receive t (v .receive s cal meas b .cal) meas′ c .state) ≡ 0xFF ∷ block p 2 n) × AllBut a (a + n) cal (v .receive s cal meas b .cal)
+  -- a right key unlocks its own resource alone
+  pub unlocks : (s cal meas : List ℕ) (b : ℕ) (p : List ℕ) (r : Resource) → consistent s ≡ true
+      → Commands s b p → seedOf s ≡ For r → keyFor p ≡ true → keyMatches p r s ≡ true
+      → (unlockedOf (v .receive s cal meas b .state) r ≡ true)
+      × (unlockedOf (v .receive s cal meas b .state) (otherLock r) ≡ unlockedOf s (otherLock r))
+  -- an event samples the lists that run on it and have no unsent packet, and misses those that have one; exactly these are counted
+  pub counts : (s cal meas : List ℕ) (event clock : ℕ) → consistent s ≡ true → event ≤ 1
+      → v .event s cal meas event clock .evented ≡ Done (howMany (λ l. isSampled (samplingOf s l event)) lists) (howMany (λ l. isMissed (samplingOf s l event)) lists)
+  -- the lists that are sampled gain a sample, each byte as the memories lent to this event hold it
+  pub gains : (s cal meas : List ℕ) (event clock l : ℕ) → consistent s ≡ true → event ≤ 1 → l < lists → samplingOf s l event ≡ Sampled
+      → waitingOf (v .event s cal meas event clock .state) l ≡ sampleOf s l clock cal meas
+  -- no other byte of the state changes
+  pub others : (s cal meas : List ℕ) (event clock l : ℕ) → consistent s ≡ true → l < lists → samplingOf s l event ≢ Sampled
+      → block (v .event s cal meas event clock .state) (sampleAt (firstOdt l)) storeSize ≡ block s (sampleAt (firstOdt l)) storeSize
+  pub storesOnly : (s cal meas : List ℕ) (event clock : ℕ) → AllBut (sampleAt 0) placeAt s (v .event s cal meas event clock .state)

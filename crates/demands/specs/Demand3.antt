@@ -1,0 +1,69 @@
+-- Nobody waits for ever.
+use Prim.Native.Nat.{ℕ, _*_, _≤_, _<_}
+use mathlib.Core.Path.{_≡_}
+use mathlib.Core.Bool.{true, false}
+use mathlib.Core.Option.{some}
+use mathlib.Core.List.{List, [], _∷_, _++_}
+use lib.ListN.{length}
+use Rattle.line.specs.Message.{most, room, frame}
+use Rattle.session.specs.Layout.{lists, placeAt, answerAt}
+use Rattle.session.specs.State.{consistent, ctrOf, openOf, waits, answerOf}
+use Rattle.session.specs.Event.{samplingOf}
+use Rattle.session.specs.declared.Received.the-variants.{Answered, Unread}
+use Rattle.session.specs.declared.Sampling.the-variants.{Sampled}
+use Rattle.demands.specs.Slave.{Slave}
+use Rattle.demands.specs.Runs.{Call, Byte, Event, Slot, Elsewhere, after, run, frames, sends, slots, received}
+use Rattle.demands.specs.Heard.{packetEnded, readBy, answerTo, stopsAt}
+use Rattle.demands.specs.Waiting.{waitingOf, sampleOf, answersIn, packetsIn}
+use Rattle.demands.specs.Demand1.{Leaves}
+
+-- the answer a leaves in one of the first n counted slots of cs: before it no answer does, and after it none waits
+pub record LeavesWithin (n : ℕ) (v : Slave) (s : List ℕ) (a : List ℕ) (cs : List Call) : Type 0 where
+  pub before : List Call
+  pub out : List ℕ
+  pub later : List Call
+  pub split : cs ≡ before ++ Slot out ∷ later
+  pub counts : room ≤ length out
+  pub early : slots before < n
+  pub silent : answersIn (frames v s before) ≡ []
+  pub sent : sends v (run v s before) (Slot out) ≡ frame (ctrOf (run v s before)) a ∷ []
+  pub gone : waits (after v (run v s before) (Slot out)) ≡ false
+
+-- byte b ends command p in state s: it is answered, and the answer that the definitions give leaves in the first or second counted slot after
+pub record AnsweredSoon (v : Slave) (s cal meas : List ℕ) (b : ℕ) (p : List ℕ) (later : List Call) : Type 0 where
+  pub number : v .receive s cal meas b .received ≡ Answered
+  pub waiting : waits (v .receive s cal meas b .state) ≡ true
+  pub answer : answerOf (v .receive s cal meas b .state) ≡ answerTo p (readBy s b) cal meas
+  pub leaves : 2 ≤ slots later → LeavesWithin 2 v (v .receive s cal meas b .state) (answerTo p (readBy s b) cal meas) later
+
+-- in no call of the run list l is stopped, or its session ended or renewed
+abbrev pub Undisturbed : Slave → ℕ → List ℕ → List Call → Type 0
+Undisturbed v l s [] = Unit {0}
+Undisturbed v l s (Byte cal meas b ∷ cs) = (stopsAt l s cal meas b ≡ false) × Undisturbed v l (after v s (Byte cal meas b)) cs
+Undisturbed v l s (Event cal meas event clock ∷ cs) = Undisturbed v l (after v s (Event cal meas event clock)) cs
+Undisturbed v l s (Slot out ∷ cs) = Undisturbed v l (after v s (Slot out)) cs
+Undisturbed v l s (Elsewhere ∷ cs) = Undisturbed v l s cs
+
+-- xs are the first of ys
+abbrev pub Begins : List (List ℕ) → List (List ℕ) → Type 0
+Begins xs ys = (rest : List (List ℕ)) × (ys ≡ xs ++ rest)
+
+pub record Demand3 (v : Slave) : Type 0 where
+  -- from any state, a whole frame, its bytes interleaved with any events and slots, that ends while a session is open and no answer waits, is
+  -- answered, and its answer leaves in the first or second counted slot after, whatever calls come between
+  pub answered : (s : List ℕ) (before : List Call) (cal meas : List ℕ) (b : ℕ) (later : List Call) (ctr : ℕ) (p : List ℕ) → consistent s ≡ true
+      → 1 ≤ length p → length p ≤ most → received before ++ b ∷ [] ≡ frame ctr p
+      → openOf (run v s before) ≡ true → waits (run v s before) ≡ false
+      → AnsweredSoon v (run v s before) cal meas b p later
+  -- an answer that waits, of whatever command, leaves in the first or second counted slot
+  pub leaves : (s : List ℕ) (cs : List Call) → consistent s ≡ true → waits s ≡ true → 2 ≤ slots cs → LeavesWithin 2 v s (answerOf s) cs
+  -- good messages meanwhile are number 6 and change the reader's place alone
+  pub meanwhile : (s cal meas : List ℕ) (b : ℕ) (p : List ℕ) → consistent s ≡ true → waits s ≡ true → packetEnded s b ≡ some p
+      → (v .receive s cal meas b .received ≡ Unread) × Leaves placeAt answerAt v s cal meas b
+  -- what waits of a list leaves whole and in order, p packets by the counted slot 2 L p, unless its list is stopped or its session ends or is renewed
+  pub whole : (s : List ℕ) (l : ℕ) (cs : List Call) → consistent s ≡ true → l < lists → Undisturbed v l s cs
+      → 2 * (lists * length (waitingOf s l)) ≤ slots cs → Begins (waitingOf s l) (packetsIn l (frames v s cs))
+  -- a captured sample leaves whole by the sixteenth
+  pub sampled : (s cal meas : List ℕ) (event clock l : ℕ) (cs : List Call) → consistent s ≡ true → event ≤ 1 → l < lists → samplingOf s l event ≡ Sampled
+      → Undisturbed v l (v .event s cal meas event clock .state) cs → 16 ≤ slots cs
+      → Begins (sampleOf s l clock cal meas) (packetsIn l (frames v (v .event s cal meas event clock .state) cs))

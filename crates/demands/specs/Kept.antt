@@ -1,0 +1,60 @@
+-- Nothing lost, nothing invented: what slots sent, and what waits, is what waited before and what was accepted since.
+use Prim.Native.Nat.{ℕ, _<_}
+use mathlib.Core.Path.{_≡_}
+use mathlib.Core.Bool.{true, cond}
+use mathlib.Core.List.{List, [], _∷_, _++_}
+use lib.Dec.{ltb}
+use Rattle.session.specs.Layout.{lists}
+use Rattle.session.specs.State.{consistent, answerOf}
+use Rattle.session.specs.Event.{samplingOf}
+use Rattle.session.specs.declared.Received.{Received}
+use Rattle.session.specs.declared.Received.the-variants.{Nothing, Answered, Silent, BadLength, BadEscape, BadChecksum, Unread, CutOff, NoState}
+use Rattle.demands.specs.Slave.{Slave}
+use Rattle.demands.specs.Runs.{Call, Byte, Event, Slot, Elsewhere, run, sends, each, frames}
+use Rattle.demands.specs.Heard.{stopsAt}
+use Rattle.demands.specs.Waiting.{waitingAnswer, waitingOf, sampleOf, isSampled, answersIn, packetsIn}
+
+-- an answer is accepted with number 1 alone
+abbrev pub answerBy : Received → List ℕ → List (List ℕ)
+answerBy Nothing s = []
+answerBy Answered s = answerOf s ∷ []
+answerBy Silent s = []
+answerBy BadLength s = []
+answerBy BadEscape s = []
+answerBy BadChecksum s = []
+answerBy Unread s = []
+answerBy CutOff s = []
+answerBy NoState s = []
+
+abbrev pub accepts : Slave → List ℕ → Call → List (List ℕ)
+accepts v s (Byte cal meas b) = answerBy (v .receive s cal meas b .received) (v .receive s cal meas b .state)
+accepts v s (Event cal meas event clock) = []
+accepts v s (Slot out) = []
+accepts v s Elsewhere = []
+
+abbrev pub accepted : Slave → List ℕ → List Call → List (List ℕ)
+accepted v s cs = each (accepts v) v s cs
+
+-- list l gains a sample at an event alone
+abbrev pub gains : Slave → ℕ → List ℕ → Call → List (List ℕ)
+gains v l s (Byte cal meas b) = []
+gains v l s (Event cal meas event clock) = cond (ltb 1 event) [] (cond (isSampled (samplingOf s l event)) (sampleOf s l clock cal meas) [])
+gains v l s (Slot out) = []
+gains v l s Elsewhere = []
+
+abbrev pub gained : Slave → ℕ → List ℕ → List Call → List (List ℕ)
+gained v l s cs = each (gains v l) v s cs
+
+-- its packets go when a slot sends them, or when it is stopped or its session ends or is renewed, and then all at once
+abbrev pub loses : Slave → ℕ → List ℕ → Call → List (List ℕ)
+loses v l s (Byte cal meas b) = cond (stopsAt l s cal meas b) (waitingOf s l) []
+loses v l s (Event cal meas event clock) = []
+loses v l s (Slot out) = packetsIn l (sends v s (Slot out))
+loses v l s Elsewhere = []
+
+abbrev pub lost : Slave → ℕ → List ℕ → List Call → List (List ℕ)
+lost v l s cs = each (loses v l) v s cs
+
+pub record NothingLost (v : Slave) : Type 0 where
+  pub answers : (s : List ℕ) (cs : List Call) → consistent s ≡ true → answersIn (frames v s cs) ++ waitingAnswer (run v s cs) ≡ waitingAnswer s ++ accepted v s cs
+  pub packets : (s : List ℕ) (l : ℕ) (cs : List Call) → consistent s ≡ true → l < lists → lost v l s cs ++ waitingOf (run v s cs) l ≡ waitingOf s l ++ gained v l s cs
