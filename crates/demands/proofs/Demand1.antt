@@ -1,0 +1,196 @@
+-- Our slave meets the first demand: any bytes get a defined outcome, and a refusal leaves what it should. Assumes nothing.
+use Prim.{tt}
+use Prim.Native.Nat.{ℕ, _≤_, _<_}
+use mathlib.Core.Path.{_≡_, refl, sym, ap, subst, _∙_}
+use mathlib.Core.Logic.{_≢_}
+use mathlib.Core.Bool.{true, false}
+use mathlib.Core.Option.{Option}
+use mathlib.Core.List.{List}
+use native.Mathlib.Omega.{arith}
+use borrow.Author.Tests.{lt-ltb, le-ltb, ne-eqb}
+use lib.Dec.{eqb, ltb, lit≤}
+use lib.ListN.{length, getD, take, replicate}
+use Rattle.line.specs.Message.{most, room}
+use Rattle.line.specs.Writer.{Sent, writeOf}
+use Rattle.line.proofs.Laws.{cond-ind}
+use Rattle.line.proofs.Stuffed.{false-true}
+use Rattle.session.specs.Layout.{placeAt, answerAt, size}
+use Rattle.session.specs.Bytes.{cleared}
+use Rattle.session.specs.State.{consistent, ctrOf, seedOf, generatorOf, closed, answerOf}
+use Rattle.session.specs.Perform.{effect, reply, written, after}
+use Rattle.session.specs.Receive.{Step, obeyed, receiveOf}
+use Rattle.session.specs.Event.{eventOf}
+use Rattle.session.specs.Slot.{packetOf, turnOf, slottedAs, sentBy, slotOf}
+use Rattle.session.specs.PowerUp.{powerUpOf}
+use Rattle.session.specs.Number.{receivedNumber, eventedNumber, slottedNumber, poweredUpNumber}
+use Rattle.session.specs.Doable.{Doable}
+use Rattle.session.specs.declared.Seed.{Seed}
+use Rattle.session.specs.declared.Seed.the-variants.{None, For}
+use Rattle.session.specs.declared.Deed.{Deed}
+use Rattle.session.specs.declared.Deed.the-variants.{WrongKey, Disconnect}
+use Rattle.session.specs.declared.Turn.{Turn}
+use Rattle.session.specs.declared.Turn.the-variants.{Nobody, Answer, Packet}
+use Rattle.session.proofs.Consistent.{consistent-size}
+use Rattle.fields.proofs.Effects.{answering, after-answer}
+use Rattle.fields.proofs.Frames.{Only, only-then, only-wider, only-take, only-answered}
+use Rattle.fields.proofs.Readers.{Same}
+use Rattle.fields.proofs.Kept.{receive-kept, event-kept, slot-kept}
+use Rattle.demands.specs.Slave.{ours}
+use Rattle.demands.specs.Heard.{readBy, Commands, wrongKeyBy, wrongKey, wrongKeyIn, wrongKeyAt}
+use Rattle.demands.specs.Waiting.{AllBut}
+use Rattle.demands.specs.Demand1.{Demand1}
+use Rattle.demands.proofs.Judged.{Found}
+use Rattle.demands.proofs.ReadBy.{read-only, read-length, read-seed, read-generator}
+use Rattle.demands.proofs.Received.{Does, Reads, rests, acts, received, commanded}
+use Rattle.demands.proofs.Unchanged.{all-but, take-same, same-take, same-sets}
+use Rattle.demands.proofs.Refusals.{Idles, refusal, wrong-judged, disconnect-judged}
+
+-- ---- a refused command
+-- a byte that is read changes no key
+wrong-by : (x : Seed) (p s t : List ℕ) → generatorOf t ≡ generatorOf s → wrongKeyBy x p t ≡ wrongKeyBy x p s
+unfolding wrongKeyBy
+wrong-by None p s t e = refl
+wrong-by (For r) p s t e = rw e
+
+wrong-same : (s p : List ℕ) (b : ℕ) → consistent s ≡ true → wrongKey p (readBy s b) ≡ wrongKey p s
+wrong-same s p b c =
+    let t : List ℕ = readBy s b in
+    wrong-by (seedOf t) p s t (read-generator s b c) ∙ ap (λ (x : Seed). wrongKeyBy x p s) (read-seed s b c)
+
+not-wrong : (s cal meas : List ℕ) (b : ℕ) (d : Deed) (p : List ℕ) → consistent s ≡ true → wrongKeyAt s b ≡ false → Does s cal meas b d p → d ≢ WrongKey
+not-wrong s cal meas b d p c n w e =
+    let f : wrongKey p (readBy s b) ≡ true = subst (λ (x : Deed). Found x p (readBy s b)) e (w .found) in
+    let k : wrongKey p s ≡ false = sym (ap (λ (o : Option (List ℕ)). wrongKeyIn o s) (w .ended)) ∙ n in
+    false-true (sym k ∙ sym (wrong-same s p b c) ∙ f)
+
+-- the answer alone, behind the reader
+answer-only : (d : Deed) (s t cal meas : List ℕ) (n : ℕ) → Only placeAt answerAt s t → effect d t ≡ t → Doable d n (length cal) (length meas) → Only placeAt size s (after d t cal meas)
+answer-only d s t cal meas n w e can =
+    let a : Only answerAt size t (after d t cal meas) = rw e (only-answered t (reply d t cal meas) (answering d t cal meas n can .few)) in
+    only-then (only-wider (lit≤ tt) (lit≤ tt) w) (only-wider (lit≤ tt) (lit≤ tt) a)
+
+refused-by : {s cal meas : List ℕ} {b : ℕ} {o : Step} {x : Option Deed} → consistent s ≡ true → receivedNumber (o .received) ≡ 1
+    → getD (answerOf (o .state)) 0 0 ≡ 0xFE → wrongKeyAt s b ≡ false → Reads s cal meas b o x → AllBut placeAt size s (o .state) × (o .cal ≡ cal)
+refused-by c one fe n (rests r other few) = absurd (other one)
+refused-by {s} {cal} {meas} {b} c one fe n (acts d p w) =
+    let t : List ℕ = readBy s b in
+    let said : answerOf (after d t cal meas) ≡ reply d t cal meas = after-answer d t cal meas (length p) (read-length s b c) (w .can) in
+    let i : Idles d p t cal = refusal d p t cal meas (not-wrong s cal meas b d p c n w) (sym (ap (λ (l : List ℕ). getD l 0 0) said) ∙ fe) in
+    (all-but (answer-only d s t cal meas (length p) (read-only s b c) (i .state) (w .can)), i .memory)
+
+-- ---- a wrong key
+-- what begins alike is alike closed
+closed-alike : (s t : List ℕ) → length t ≡ length s → take placeAt t ≡ take placeAt s → take placeAt (closed t) ≡ take placeAt (closed s)
+unfolding closed cleared
+closed-alike s t long e =
+    let w : Same 0 225 s t = take-same 225 long e in
+    same-take {s = closed s} {t = closed t} 225 (same-sets {s = s} {t = t} 11 (replicate 214 0) w)
+
+-- deeds that close the session leave it as it is closed
+record Closes (d : Deed) : Type 0 where
+  pub state : (s : List ℕ) → effect d s ≡ closed s
+  pub memory : (p cal : List ℕ) → written d p cal ≡ cal
+  pub can : (n nc nm : ℕ) → Doable d n nc nm
+
+wrong-closes : Closes WrongKey
+unfolding effect written
+wrong-closes = record { state = λ s. refl; memory = λ p cal. refl; can = λ n nc nm. tt }
+
+disconnect-closes : Closes Disconnect
+unfolding effect written
+disconnect-closes = record { state = λ s. refl; memory = λ p cal. refl; can = λ n nc nm. tt }
+
+closes-front : (d : Deed) (s cal meas : List ℕ) (b : ℕ) → Closes d → consistent s ≡ true → take placeAt (after d (readBy s b) cal meas) ≡ take placeAt (closed s)
+closes-front d s cal meas b w c =
+    let t : List ℕ = readBy s b in
+    let few : length (reply d t cal meas) ≤ 8 = answering d t cal meas 0 (w .can 0 (length cal) (length meas)) .few in
+    only-take 225 (lit≤ tt) (only-answered (effect d t) (reply d t cal meas) few)
+    ∙ ap (take placeAt) (w .state t)
+    ∙ closed-alike s t (read-only s b c .long) (only-take 225 (lit≤ tt) (read-only s b c))
+
+wrong-key-ends : (s t cal meas cal′ meas′ : List ℕ) (b c : ℕ) (p q : List ℕ) → consistent s ≡ true → consistent t ≡ true → take placeAt s ≡ take placeAt t
+    → Commands s b p → wrongKey p s ≡ true → Commands t c q → getD q 0 0 ≡ 0xFE
+    → (take placeAt (receiveOf s cal meas b .state) ≡ take placeAt (receiveOf t cal′ meas′ c .state)) × (receiveOf s cal meas b .cal ≡ cal)
+wrong-key-ends s t cal meas cal′ meas′ b c p q u v alike w wrong x code =
+    let left : receiveOf s cal meas b ≡ obeyed WrongKey p (readBy s b) cal meas =
+    commanded s cal meas b p u w ∙ ap (λ (d : Deed). obeyed d p (readBy s b) cal meas) (wrong-judged p (readBy s b) (length cal) (length meas) (wrong-same s p b u ∙ wrong)) in
+    let right : receiveOf t cal′ meas′ c ≡ obeyed Disconnect q (readBy t c) cal′ meas′ =
+    commanded t cal′ meas′ c q v x ∙ ap (λ (d : Deed). obeyed d q (readBy t c) cal′ meas′) (disconnect-judged q (readBy t c) (length cal′) (length meas′) code) in
+    let long : length s ≡ length t = consistent-size s u ∙ sym (consistent-size t v) in (
+      ap (λ (o : Step). take placeAt (o .state)) left ∙ closes-front WrongKey s cal meas b wrong-closes u
+          ∙ closed-alike t s long alike
+          ∙ sym (ap (λ (o : Step). take placeAt (o .state)) right ∙ closes-front Disconnect t cal′ meas′ c disconnect-closes v),
+      ap (λ (o : Step). o .cal) left ∙ wrong-closes .memory p cal,
+    )
+
+-- ---- a byte without an answer
+unanswered-by : {s cal meas : List ℕ} {b : ℕ} {o : Step} {x : Option Deed} → consistent s ≡ true → receivedNumber (o .received) ≢ 1
+    → Reads s cal meas b o x → AllBut placeAt answerAt s (o .state) × (o .cal ≡ cal)
+unanswered-by {s} {cal} {meas} {b} c n (rests r other few) = (all-but (read-only s b c), refl)
+unanswered-by c n (acts d p w) = absurd (n refl)
+
+-- ---- the numbers
+seven : {s cal meas : List ℕ} {b : ℕ} {o : Step} {x : Option Deed} → Reads s cal meas b o x → receivedNumber (o .received) ≤ 7
+seven (rests r other few) = few
+seven (acts d p w) = omega arith
+
+no-state : (s cal meas out : List ℕ) (b event clock : ℕ) → consistent s ≡ false
+    → (receivedNumber (receiveOf s cal meas b .received) ≡ 10) × (receiveOf s cal meas b .state ≡ s) × (receiveOf s cal meas b .cal ≡ cal)
+    × (eventedNumber (eventOf s cal meas event clock .evented) ≡ 10) × (eventOf s cal meas event clock .state ≡ s)
+    × (slottedNumber (slotOf s out .slotted) ≡ 10) × (slotOf s out .state ≡ s) × (slotOf s out .out ≡ out)
+unfolding receiveOf eventOf slotOf
+no-state s cal meas out b event clock n = (simp n, simp n, simp n, simp n, simp n, simp n, simp n, simp n)
+
+no-size : (s : List ℕ) (start : ℕ) → length s ≢ size → (poweredUpNumber (powerUpOf s start .poweredUp) ≡ 10) × (powerUpOf s start .state ≡ s)
+unfolding powerUpOf
+no-size s start n = (simp (ne-eqb (length s) size n), simp (ne-eqb (length s) size n))
+
+bad-event : (s cal meas : List ℕ) (event clock : ℕ) → consistent s ≡ true → 1 < event
+    → (eventedNumber (eventOf s cal meas event clock .evented) ≡ 8) × (eventOf s cal meas event clock .state ≡ s)
+unfolding eventOf
+bad-event s cal meas event clock c h = (simp (c, lt-ltb 1 event h), simp (c, lt-ltb 1 event h))
+
+good-event : (s cal meas : List ℕ) (event clock : ℕ) → consistent s ≡ true → event ≤ 1 → eventedNumber (eventOf s cal meas event clock .evented) ≡ 0
+unfolding eventOf
+good-event s cal meas event clock c h = simp (c, le-ltb 1 event h)
+
+no-room : (s out : List ℕ) → consistent s ≡ true → length out < room
+    → (slottedNumber (slotOf s out .slotted) ≡ 9) × (slotOf s out .state ≡ s) × (slotOf s out .out ≡ out)
+unfolding slotOf
+no-room s out c h = (simp (c, lt-ltb (length out) room h), simp (c, lt-ltb (length out) room h), simp (c, lt-ltb (length out) room h))
+
+-- with room the line never says that there is none
+wrote : (p : List ℕ) (ctr : ℕ) (out : List ℕ) → room ≤ length out → slottedNumber (slottedAs (writeOf p ctr out .written)) ≡ 0
+unfolding writeOf
+wrote p ctr out h =
+    let P : Sent → Type 0 = λ (w : Sent). slottedNumber (slottedAs (w .written)) ≡ 0 in
+    cond-ind P (eqb (length p) 0) (λ _. refl)
+    (λ _. cond-ind P (ltb most (length p)) (λ _. refl)
+    (λ _. cond-ind P (ltb (length out) room) (λ n. absurd (false-true (sym (le-ltb (length out) room h) ∙ n))) (λ _. refl)))
+
+sent : (t : Turn) (s out : List ℕ) → room ≤ length out → slottedNumber (sentBy t s out .slotted) ≡ 0
+unfolding sentBy
+sent Nobody s out h = refl
+sent Answer s out h = wrote (answerOf s) (ctrOf s) out h
+sent (Packet k) s out h = wrote (packetOf s k) (ctrOf s) out h
+
+good-slot : (s out : List ℕ) → consistent s ≡ true → room ≤ length out → slottedNumber (slotOf s out .slotted) ≡ 0
+unfolding slotOf
+good-slot s out c h = simp (c, le-ltb (length out) room h) (sent (turnOf s) s out h)
+
+pub demand1 : Demand1 ours
+demand1 = record {
+  refused = λ s cal meas b c r n.
+      let w = refused-by c (r .answered) (r .begins) n (received s cal meas b c) in
+      record { state = w .0; memory = w .1 };
+  wrongKeyEnds = wrong-key-ends;
+  unanswered = λ s cal meas b c n.
+      let w = unanswered-by c n (received s cal meas b c) in
+      record { state = w .0; memory = w .1 };
+  noState = no-state;
+  noSize = no-size;
+  badEvent = bad-event;
+  noRoom = no-room;
+  otherwise = λ s cal meas out b event clock c. (seven (received s cal meas b c), good-event s cal meas event clock c, good-slot s out c);
+  stays = λ s cal meas out b event clock c. (receive-kept s cal meas b c, event-kept s cal meas event clock c, slot-kept s out c);
+}

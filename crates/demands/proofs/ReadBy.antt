@@ -1,0 +1,106 @@
+-- A byte that is read changes the reader's place alone, and there is always room for it. Assumes nothing.
+use Prim.{tt}
+use Prim.Native.Nat.{ℕ, _≤_, _<_}
+use mathlib.Core.Path.{_≡_, _∙_}
+use mathlib.Core.Bool.{true}
+use mathlib.Core.List.{List}
+use native.Mathlib.Omega.{arith}
+use lib.Dec.{eqb}
+use lib.ListN.{length}
+use Rattle.line.specs.Message.{longest}
+use Rattle.line.specs.Unstuffing.{Fed, cutOf, placeBy}
+use Rattle.line.specs.Reader.{messages, takeOf}
+use Rattle.line.specs.declared.Place.{Place}
+use Rattle.line.specs.declared.Place.the-variants.{Outside, Inside, Escaped}
+use Rattle.line.specs.declared.Outcome.{Outcome}
+use Rattle.line.specs.declared.Outcome.the-variants.{Nothing, Good, BadLength, BadEscape, BadChecksum, CutOff, NoRoom}
+use Rattle.line.proofs.Laws.{cond-ind}
+use Rattle.line.proofs.After.{take-length}
+use Rattle.line.proofs.Unframing.{Takes, begins, passes, escapes, brings, breaks, takes}
+use Rattle.line.proofs.Steps.{Puts, refuses, goes, fills, spoils, puts, take-long}
+use Rattle.session.specs.Layout.{placeAt, answerAt, size}
+use Rattle.session.specs.State.{consistent, generatorOf, openOf, unlockedOf, seedOf, mtaOf, placeOf, messageOf, waits, answerOf}
+use Rattle.session.specs.Lists.{runsOf}
+use Rattle.session.specs.Receive.{fedOf}
+use Rattle.session.specs.declared.Resource.{Resource}
+use Rattle.session.proofs.Consistent.{consistent-size}
+use Rattle.fields.proofs.Frames.{Only, only-readOn}
+use Rattle.fields.proofs.Readers.{apart, consistent-reads, generator-reads, open-reads, lock-reads, seed-reads, mta-reads, runs-reads, waits-reads, answer-reads}
+use Rattle.session.proofs.Sets.{block-length}
+use Rattle.demands.specs.Heard.{readBy}
+
+message-length : (s : List ℕ) → length s ≡ size → length (messageOf s) ≡ longest
+unfolding messageOf
+message-length s h = block-length s 227 11 (omega arith)
+
+fed-length : (s : List ℕ) (b : ℕ) → length s ≡ size → length (fedOf s b .message) ≡ longest
+fed-length s b h = take-length (placeOf s) (messageOf s) b ∙ message-length s h
+
+-- ---- the state once a byte is read
+module _ (s : List ℕ) (b : ℕ) (c : consistent s ≡ true) where
+  pub read-only : Only placeAt answerAt s (readBy s b)
+  read-only = only-readOn s (fedOf s b) (consistent-size s c) (fed-length s b (consistent-size s c))
+
+  pub read-length : length (readBy s b) ≡ size
+  read-length = read-only .long ∙ consistent-size s c
+
+  pub read-consistent : consistent (readBy s b) ≡ true
+  read-consistent = consistent-reads (apart tt read-only) ∙ c
+
+  pub read-generator : generatorOf (readBy s b) ≡ generatorOf s
+  read-generator = generator-reads (apart tt read-only)
+
+  pub read-open : openOf (readBy s b) ≡ openOf s
+  read-open = open-reads (apart tt read-only)
+
+  pub read-lock : (r : Resource) → unlockedOf (readBy s b) r ≡ unlockedOf s r
+  read-lock r = lock-reads r (apart tt read-only)
+
+  pub read-seed : seedOf (readBy s b) ≡ seedOf s
+  read-seed = seed-reads (apart tt read-only)
+
+  pub read-mta : mtaOf (readBy s b) ≡ mtaOf s
+  read-mta = mta-reads (apart tt read-only)
+
+  pub read-runs : (l : ℕ) → l < 4 → runsOf (readBy s b) l ≡ runsOf s l
+  read-runs l h = runs-reads l h (apart tt read-only)
+
+  pub read-waits : waits (readBy s b) ≡ waits s
+  read-waits = waits-reads (apart tt read-only)
+
+  pub read-answer : answerOf (readBy s b) ≡ answerOf s
+  read-answer = answer-reads (apart tt read-only)
+
+-- ---- the state's message buffer has room for every message
+abbrev pub Roomy : Outcome → Type 0
+Roomy Nothing = Unit
+Roomy (Good ctr at n) = Unit
+Roomy BadLength = Unit
+Roomy BadEscape = Unit
+Roomy BadChecksum = Unit
+Roomy CutOff = Unit
+Roomy NoRoom = ⊥
+
+cut-roomy : (q : Place) → Roomy (cutOf q)
+cut-roomy Outside = tt
+cut-roomy (Inside k) = cond-ind Roomy (eqb k 0) (λ _. tt) (λ _. tt)
+cut-roomy (Escaped k) = tt
+
+put-roomy : {k : ℕ} {m : List ℕ} {x : ℕ} {f : Fed} → Puts k m x f → Roomy (f .taken .outcome)
+put-roomy refuses = tt
+put-roomy (goes g) = tt
+put-roomy (fills n some few e l s) = tt
+put-roomy spoils = tt
+
+take-roomy : {p : Place} {m : List ℕ} {b : ℕ} {f : Fed} → longest ≤ length m → Takes messages p m b f → Roomy (f .taken .outcome)
+take-roomy {p} {m} fits (begins e) = cut-roomy (placeBy messages p m)
+take-roomy fits (passes e) = tt
+take-roomy fits (escapes k e g b) = tt
+take-roomy {p} {m} fits (brings k x g e) = put-roomy (puts k m x fits g)
+take-roomy fits breaks = tt
+
+fed-roomy : (p : Place) (m : List ℕ) (b : ℕ) → longest ≤ length m → Roomy (takeOf p m b .taken .outcome)
+fed-roomy p m b fits = rw (take-long p m b fits) (take-roomy fits (takes messages p m b))
+
+pub read-roomy : (s : List ℕ) (b : ℕ) → consistent s ≡ true → Roomy (fedOf s b .taken .outcome)
+read-roomy s b c = fed-roomy (placeOf s) (messageOf s) b (omega (arith, message-length s (consistent-size s c)))

@@ -1,0 +1,150 @@
+-- How a received byte is read: either the reader's place alone changes, or one deed is done. Assumes nothing.
+use Prim.{tt}
+use Prim.Native.Nat.{ℕ, _≤_}
+use mathlib.Core.Path.{_≡_, refl, sym, ap, _∙_}
+use mathlib.Core.Logic.{_≢_}
+use mathlib.Core.Bool.{Bool, true, false, cond}
+use mathlib.Core.Option.{Option, none, some}
+use mathlib.Core.List.{List}
+use native.Mathlib.Omega.{arith}
+use lib.ListN.{length}
+use Rattle.line.specs.declared.Outcome.{Outcome}
+use Rattle.line.specs.declared.Outcome.the-variants as line
+use Rattle.line.proofs.Laws.{cond-ind}
+use Rattle.line.proofs.Stuffed.{false-true}
+use Rattle.session.specs.Bytes.{block}
+use Rattle.session.specs.State.{consistent, openOf, waits, answerOf}
+use Rattle.session.specs.Perform.{reply}
+use Rattle.session.specs.Doable.{Doable}
+use Rattle.session.specs.Receive.{Step, only, obeyed, greets, heeded, meant, fedOf, receiveOf}
+use Rattle.session.specs.Number.{receivedNumber}
+use Rattle.session.specs.declared.Deed.{Deed}
+use Rattle.session.specs.declared.Deed.the-variants.{Connect}
+use Rattle.session.specs.declared.Received.{Received}
+use Rattle.session.specs.declared.Received.the-variants.{Nothing, Silent, BadLength, BadEscape, BadChecksum, Unread, CutOff}
+use Rattle.session.proofs.Doable.{judge-doable}
+use Rattle.fields.proofs.Effects.{after-answer}
+use Rattle.demands.specs.Heard.{packetBy, packetEnded, readBy, Commands, deedOf, heeds, doneAt}
+use Rattle.demands.proofs.Judged.{Found, judged}
+use Rattle.demands.proofs.ReadBy.{Roomy, read-roomy, read-length, read-open, read-waits}
+
+-- byte b ends packet p, and deed d is done: the one that p is judged to lead to, or a good CONNECT's while no session is open
+pub record Does (s cal meas : List ℕ) (b : ℕ) (d : Deed) (p : List ℕ) : Type 0 where
+  pub ended : packetEnded s b ≡ some p
+  pub free : waits s ≡ false
+  pub can : Doable d (length p) (length cal) (length meas)
+  pub found : Found d p (readBy s b)
+  pub opened : openOf s ≡ true → d ≡ deedOf p (readBy s b) cal meas
+  pub closed : openOf s ≡ false → (d ≡ Connect) × (greets p ≡ true)
+
+pub data Reads (s cal meas : List ℕ) (b : ℕ) : Step → Option Deed → Type 0 where
+  rests : (r : Received) → receivedNumber r ≢ 1 → receivedNumber r ≤ 7 → Reads s cal meas b (only r (readBy s b) cal) none
+  acts : (d : Deed) (p : List ℕ) → Does s cal meas b d p → Reads s cal meas b (obeyed d p (readBy s b) cal meas) (some d)
+
+module _ (s cal meas : List ℕ) (b : ℕ) (c : consistent s ≡ true) where
+  -- a packet that came whole
+  heeded-reads : (p : List ℕ) → packetEnded s b ≡ some p → Reads s cal meas b (heeded p (readBy s b) cal meas) (heeds (some p) (readBy s b) cal meas)
+  unfolding heeded heeds
+  heeded-reads p e =
+      go (waits (readBy s b)) (openOf (readBy s b)) (greets p) (sym (read-waits s b c)) (sym (read-open s b c)) refl where
+        t : List ℕ
+        t = readBy s b
+
+        go : (w o g : Bool) → waits s ≡ w → openOf s ≡ o → greets p ≡ g
+            → Reads s cal meas b
+            (cond w (only Unread t cal) (cond o (obeyed (deedOf p t cal meas) p t cal meas) (cond g (obeyed Connect p t cal meas) (only Silent t cal))))
+            (cond w none (cond o (some (deedOf p t cal meas)) (cond g (some Connect) none)))
+        go true o g u v x = rests Unread (omega arith) (omega arith)
+        go false true g u v x =
+            acts (deedOf p t cal meas) p (record {
+              ended = e;
+              free = u;
+              can = judge-doable p t (length cal) (length meas);
+              found = judged p t (length cal) (length meas);
+              opened = λ _. refl;
+              closed = λ n. absurd (false-true (sym n ∙ v));
+            })
+        go false false true u v x =
+            acts Connect p (record { ended = e; free = u; can = tt; found = tt; opened = λ n. absurd (false-true (sym v ∙ n)); closed = λ _. (refl, x) })
+        go false false false u v x = rests Silent (omega arith) (omega arith)
+
+  meant-reads : (o : Outcome) → Roomy o → fedOf s b .taken .outcome ≡ o
+      → Reads s cal meas b (meant o (fedOf s b .message) (readBy s b) cal meas) (heeds (packetBy o (fedOf s b .message)) (readBy s b) cal meas)
+  unfolding meant heeds
+  meant-reads line.Nothing y e = rests Nothing (omega arith) (omega arith)
+  meant-reads (line.Good ctr at n) y e = heeded-reads (block (fedOf s b .message) at n) (rw e)
+  meant-reads line.BadLength y e = rests BadLength (omega arith) (omega arith)
+  meant-reads line.BadEscape y e = rests BadEscape (omega arith) (omega arith)
+  meant-reads line.BadChecksum y e = rests BadChecksum (omega arith) (omega arith)
+  meant-reads line.CutOff y e = rests CutOff (omega arith) (omega arith)
+  meant-reads line.NoRoom y e = absurd y
+
+  pub received : Reads s cal meas b (receiveOf s cal meas b) (doneAt s cal meas b)
+  unfolding receiveOf
+  received =
+      cond-ind (λ (o : Step). Reads s cal meas b o (doneAt s cal meas b)) (consistent s)
+      (λ _. meant-reads (fedOf s b .taken .outcome) (read-roomy s b c) refl)
+      (λ n. absurd (false-true (sym n ∙ c)))
+
+-- ---- by what is done
+-- nothing is done: no answer, and the reader's place alone changes
+pub record Rests (s cal : List ℕ) (b : ℕ) (o : Step) : Type 0 where
+  pub number : receivedNumber (o .received) ≢ 1
+  pub few : receivedNumber (o .received) ≤ 7
+  pub state : o .state ≡ readBy s b
+  pub memory : o .cal ≡ cal
+
+-- deed d is done
+pub record Acts (s cal meas : List ℕ) (b : ℕ) (d : Deed) (o : Step) : Type 0 where
+  pub packet : List ℕ
+  pub does : Does s cal meas b d packet
+  pub step : o ≡ obeyed d packet (readBy s b) cal meas
+
+some-none : {A : Type 0} {x : A} → some x ≡ none → ⊥
+some-none e = let z : _≡_ {A = ℕ} 0 1 = cc in omega arith
+
+rests-by : {s cal meas : List ℕ} {b : ℕ} {o : Step} {x : Option Deed} → Reads s cal meas b o x → x ≡ none → Rests s cal b o
+rests-by (rests r n f) e = record { number = n; few = f; state = refl; memory = refl }
+rests-by (acts d p w) e = absurd (some-none e)
+
+acts-by : {s cal meas : List ℕ} {b : ℕ} {o : Step} {x : Option Deed} (d : Deed) → Reads s cal meas b o x → x ≡ some d → Acts s cal meas b d o
+acts-by d (rests r n f) e = absurd (some-none (sym e))
+acts-by {s} {cal} {meas} {b} d (acts d′ p w) e =
+    let same : d′ ≡ d = cc in
+    let w′ : Does s cal meas b d p = rw same at w in
+    record { packet = p; does = w′; step = rw same }
+
+pub rests-known : (s cal meas : List ℕ) (b : ℕ) → consistent s ≡ true → doneAt s cal meas b ≡ none → Rests s cal b (receiveOf s cal meas b)
+rests-known s cal meas b c e = rests-by (received s cal meas b c) e
+
+pub acts-known : (s cal meas : List ℕ) (b : ℕ) (d : Deed) → consistent s ≡ true → doneAt s cal meas b ≡ some d → Acts s cal meas b d (receiveOf s cal meas b)
+acts-known s cal meas b d c e = acts-by d (received s cal meas b c) e
+
+-- ---- a good message is heeded
+heeded-by : (o : Outcome) (m t cal meas p : List ℕ) → packetBy o m ≡ some p → meant o m t cal meas ≡ heeded p t cal meas
+unfolding meant
+heeded-by line.Nothing m t cal meas p e = absurd (some-none (sym e))
+heeded-by (line.Good ctr at n) m t cal meas p e = let same : block m at n ≡ p = cc in rw same
+heeded-by line.BadLength m t cal meas p e = absurd (some-none (sym e))
+heeded-by line.BadEscape m t cal meas p e = absurd (some-none (sym e))
+heeded-by line.BadChecksum m t cal meas p e = absurd (some-none (sym e))
+heeded-by line.CutOff m t cal meas p e = absurd (some-none (sym e))
+heeded-by line.NoRoom m t cal meas p e = absurd (some-none (sym e))
+
+pub heeds-right : (s cal meas : List ℕ) (b : ℕ) (p : List ℕ) → consistent s ≡ true → packetEnded s b ≡ some p → receiveOf s cal meas b ≡ heeded p (readBy s b) cal meas
+unfolding receiveOf
+heeds-right s cal meas b p c e = simp c (heeded-by (fedOf s b .taken .outcome) (fedOf s b .message) (readBy s b) cal meas p e)
+
+-- a command is judged, and what it leads to is done
+pub commanded : (s cal meas : List ℕ) (b : ℕ) (p : List ℕ) → consistent s ≡ true → Commands s b p
+    → receiveOf s cal meas b ≡ obeyed (deedOf p (readBy s b) cal meas) p (readBy s b) cal meas
+unfolding heeded
+commanded s cal meas b p c w = heeds-right s cal meas b p c (w .ends) ∙ simp (read-waits s b c ∙ w .free, read-open s b c ∙ w .opened)
+
+-- its answer reads as it was given
+pub command-answer : (s cal meas : List ℕ) (b : ℕ) (p : List ℕ) → consistent s ≡ true → Commands s b p
+    → answerOf (receiveOf s cal meas b .state) ≡ reply (deedOf p (readBy s b) cal meas) (readBy s b) cal meas
+command-answer s cal meas b p c w =
+    let t : List ℕ = readBy s b in
+    ap (λ (o : Step). answerOf (o .state)) (commanded s cal meas b p c w)
+    ∙ after-answer (deedOf p t cal meas) t cal meas (length p) (read-length s b c) (judge-doable p t (length cal) (length meas))

@@ -1,0 +1,117 @@
+-- The refusals: which deeds are answered FE, and what a wrong key and DISCONNECT are judged to be. Assumes nothing.
+use Prim.Native.Nat.{ℕ, _≤_}
+use mathlib.Core.Path.{_≡_, refl, _∙_}
+use mathlib.Core.Logic.{_≢_}
+use mathlib.Core.Bool.{Bool, true, false, cond}
+use mathlib.Core.List.{List, [], _∷_}
+use native.Mathlib.Omega.{arith}
+use borrow.Author.Tests.{eqb-true, ltb-false, le-ltb, not-true}
+use lib.Dec.{eqb, ltb}
+use lib.ListN.{length, getD}
+use Rattle.line.proofs.Laws.{cond-ind}
+use Rattle.line.proofs.Stuffed.{false-true}
+use Rattle.session.specs.State.{seedOf}
+use Rattle.session.specs.Command.{commandOf, lockedOf}
+use Rattle.session.specs.Judge.{unlockBy, judgeThe, judgeBy, judge}
+use Rattle.session.specs.Perform.{effect, reply, written}
+use Rattle.session.specs.declared.Resource.{Resource}
+use Rattle.session.specs.declared.Seed.{Seed}
+use Rattle.session.specs.declared.Seed.the-variants.{None, For}
+use Rattle.session.specs.declared.Deed.{Deed}
+use Rattle.session.specs.declared.Deed.the-variants.{Refuse, RefuseSize, WrongKey, Connect, Disconnect, Status, Synch, NoSeed, GiveSeed, Unlock, SetMta, Upload, ShortUpload, Checksum, Download, ClearList, SetPointer, ClearEntry, WriteEntry, SetMode, Stop, Start, KeepRunning, Select, StopAll, StartSelected, StopSelected, ProcessorInfo, ResolutionInfo}
+use Rattle.demands.specs.Heard.{keyFor, keyMatches, wrongKeyBy, wrongKey}
+
+-- ---- what is answered FE
+-- a deed that changes nothing but the answer
+pub record Idles (d : Deed) (p s cal : List ℕ) : Type 0 where
+  pub state : effect d s ≡ s
+  pub memory : written d p cal ≡ cal
+
+ff-fe : _≡_ {A = ℕ} 0xFF 0xFE → ⊥
+ff-fe e = omega arith
+
+-- apart from a wrong key, nothing changes
+pub refusal : (d : Deed) (p s cal meas : List ℕ) → d ≢ WrongKey → getD (reply d s cal meas) 0 0 ≡ 0xFE → Idles d p s cal
+unfolding effect reply written
+refusal (Refuse r) p s cal meas n e = record { state = refl; memory = refl }
+refusal RefuseSize p s cal meas n e = record { state = refl; memory = refl }
+refusal WrongKey p s cal meas n e = absurd (n refl)
+refusal Connect p s cal meas n e = absurd (ff-fe e)
+refusal Disconnect p s cal meas n e = absurd (ff-fe e)
+refusal Status p s cal meas n e = record { state = refl; memory = refl }
+refusal Synch p s cal meas n e = record { state = refl; memory = refl }
+refusal NoSeed p s cal meas n e = record { state = refl; memory = refl }
+refusal (GiveSeed r) p s cal meas n e = absurd (ff-fe e)
+refusal (Unlock r) p s cal meas n e = absurd (ff-fe e)
+refusal (SetMta x a) p s cal meas n e = absurd (ff-fe e)
+refusal (Upload x a m) p s cal meas n e = absurd (ff-fe e)
+refusal (ShortUpload x a m) p s cal meas n e = record { state = refl; memory = refl }
+refusal (Checksum x a m) p s cal meas n e = absurd (ff-fe e)
+refusal (Download a m) p s cal meas n e = absurd (ff-fe e)
+refusal (ClearList l) p s cal meas n e = absurd (ff-fe e)
+refusal (SetPointer k x) p s cal meas n e = absurd (ff-fe e)
+refusal (ClearEntry k x) p s cal meas n e = absurd (ff-fe e)
+refusal (WriteEntry k x m y a) p s cal meas n e = absurd (ff-fe e)
+refusal (SetMode l event) p s cal meas n e = absurd (ff-fe e)
+refusal (Stop l) p s cal meas n e = absurd (ff-fe e)
+refusal (Start l) p s cal meas n e = absurd (ff-fe e)
+refusal (KeepRunning l) p s cal meas n e = record { state = refl; memory = refl }
+refusal (Select l) p s cal meas n e = absurd (ff-fe e)
+refusal StopAll p s cal meas n e = absurd (ff-fe e)
+refusal StartSelected p s cal meas n e = absurd (ff-fe e)
+refusal StopSelected p s cal meas n e = absurd (ff-fe e)
+refusal ProcessorInfo p s cal meas n e = record { state = refl; memory = refl }
+refusal ResolutionInfo p s cal meas n e = record { state = refl; memory = refl }
+
+-- ---- keys
+-- UNLOCK with four key bytes
+pub record Keyed (p : List ℕ) : Type 0 where
+  pub code : getD p 0 0 ≡ 0xF7
+  pub four : getD p 1 0 ≡ 4
+  pub long : 6 ≤ length p
+
+pub keyed : (p : List ℕ) → keyFor p ≡ true → Keyed p
+unfolding keyFor
+keyed p =
+    let P : Bool → Type 0 = λ (t : Bool). t ≡ true → Keyed p in
+    cond-ind P (eqb (getD p 0 0) 0xF7)
+    (λ c. cond-ind P (eqb (getD p 1 0) 4)
+    (λ f l. record { code = eqb-true (getD p 0 0) 0xF7 c; four = eqb-true (getD p 1 0) 4 f; long = ltb-false (length p) 6 (not-true (ltb (length p) 6) l) })
+    (λ _ f. absurd (false-true f)))
+    (λ _ f. absurd (false-true f))
+
+-- with a key for the seed that is out, whether it matches is all that is left
+pub key-judged : (p s : List ℕ) (r : Resource) (nc nm : ℕ) → keyFor p ≡ true → seedOf s ≡ For r → judge p s nc nm ≡ cond (keyMatches p r s) (Unlock r) WrongKey
+unfolding judge judgeBy judgeThe commandOf lockedOf unlockBy
+key-judged p s r nc nm k e =
+    let w : Keyed p = keyed p k in
+    let long : 6 ≤ length p = w .long in
+    simp (w .code, le-ltb (length p) 2 (omega arith), e, w .four, le-ltb (length p) 6 long)
+
+-- what wrongKey says
+pub record Wrong (p s : List ℕ) (seed : Seed) : Type 0 where
+  pub resource : Resource
+  pub out : seed ≡ For resource
+  pub key : keyFor p ≡ true
+  pub wrong : keyMatches p resource s ≡ false
+
+wrong-by : (seed : Seed) (p s : List ℕ) → wrongKeyBy seed p s ≡ true → Wrong p s seed
+unfolding wrongKeyBy
+wrong-by None p s e = absurd (false-true e)
+wrong-by (For r) p s e =
+    cond-ind (λ (t : Bool). t ≡ true → Wrong p s (For r)) (keyFor p)
+    (λ k n. record { resource = r; out = refl; key = k; wrong = not-true (keyMatches p r s) n })
+    (λ _ f. absurd (false-true f)) e
+
+pub wrong-judged : (p s : List ℕ) (nc nm : ℕ) → wrongKey p s ≡ true → judge p s nc nm ≡ WrongKey
+wrong-judged p s nc nm e =
+    let w : Wrong p s (seedOf s) = wrong-by (seedOf s) p s e in
+    key-judged p s (w .resource) nc nm (w .key) (w .out) ∙ rw (w .wrong)
+
+-- ---- DISCONNECT
+pub disconnect-judged : (q s : List ℕ) (nc nm : ℕ) → getD q 0 0 ≡ 0xFE → judge q s nc nm ≡ Disconnect
+unfolding judge judgeBy judgeThe commandOf lockedOf
+disconnect-judged [] s nc nm e = absurd (let z : _≡_ {A = ℕ} 0 0xFE = e in omega arith)
+disconnect-judged (x ∷ q) s nc nm e =
+    let h : x ≡ 0xFE = e in
+    simp (h, le-ltb (length (x ∷ q)) 1 (omega arith))
