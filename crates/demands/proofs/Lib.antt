@@ -10,3 +10,22 @@ pub mod Received
 pub mod Unchanged
 pub mod Refusals
 pub mod Demand1
+-- The second demand.
+pub mod Waiting
+pub mod Round
+pub mod Turns
+pub mod Sends
+pub mod Samples
+pub mod EventSteps
+pub mod Events
+pub mod Own
+pub mod ListChanges
+pub mod Synch
+pub mod Deeds
+pub mod ByteKeeps
+pub mod Numbering
+pub mod Locks
+pub mod Downloads
+pub mod CutJudge
+pub mod Cut
+pub mod Demand2

@@ -1,0 +1,231 @@
+-- Only the first 4,096 bytes of a memory matter, and the rest stays. Assumes nothing.
+use Prim.Native.Nat.{ℕ, zero, suc, _+_, _≤_}
+use mathlib.Core.Path.{_≡_, refl, sym, ap, _∙_}
+use mathlib.Core.Bool.{Bool, true, false, cond}
+use mathlib.Core.List.{List, [], _∷_, _++_}
+use native.Mathlib.Nat.{zero-add, min-comm, min-eq-left, min-le-left, min-le-right}
+use native.Mathlib.Omega.{arith}
+use borrow.Author.Tests.{ltb-true, leb-true}
+use lib.Dec.{ltb}
+use lib.ListN.{length, getD, set, take, drop, length-take, length-set, take-append-drop}
+use lib.Seq.{sets, set-append-left, getD-take}
+use Rattle.line.specs.declared.Outcome.{Outcome}
+use Rattle.line.specs.declared.Outcome.the-variants as line
+use Rattle.session.specs.Layout.{addressable, firstOdt, entries}
+use Rattle.session.specs.Bytes.{block}
+use Rattle.session.specs.Memory.{reach, pick, insideOf, blockSum, byteOf, bytesOf}
+use Rattle.session.specs.State.{consistent, openOf, waits}
+use Rattle.session.specs.Lists.{sizeOf, extensionOf, addressOf}
+use Rattle.session.specs.Doable.{Inside, Doable}
+use Rattle.session.specs.Judge.{judge}
+use Rattle.session.specs.Perform.{reply, written}
+use Rattle.session.specs.Receive.{Step, only, obeyed, greets, heeded, meant, readOn, fedOf, receiveOf}
+use Rattle.session.specs.Event.{samplingOf, entryBytes, gathered, captured, sampledState, Tally, counted, tally, eventOf}
+use Rattle.session.specs.declared.Extension.{Extension}
+use Rattle.session.specs.declared.Extension.the-variants.{Calibration, Measured}
+use Rattle.session.specs.declared.Sampling.{Sampling}
+use Rattle.session.specs.declared.Sampling.the-variants.{Idle, Sampled, Missed}
+use Rattle.session.specs.declared.Received.{Received}
+use Rattle.session.specs.declared.Received.the-variants.{Nothing, Silent, BadLength, BadEscape, BadChecksum, Unread, CutOff, NoState}
+use Rattle.session.specs.declared.Deed.{Deed}
+use Rattle.session.specs.declared.Deed.the-variants.{Refuse, RefuseSize, WrongKey, Connect, Disconnect, Status, Synch, NoSeed, GiveSeed, Unlock, SetMta, Upload, ShortUpload, Checksum, Download, ClearList, SetPointer, ClearEntry, WriteEntry, SetMode, Stop, Start, KeepRunning, Select, StopAll, StartSelected, StopSelected, ProcessorInfo, ResolutionInfo}
+use Rattle.session.proofs.Inside.{inside-le}
+use Rattle.session.proofs.Data.{block-block}
+use Rattle.session.proofs.Doable.{judge-doable}
+use Rattle.demands.specs.Slave.{ours}
+use Rattle.demands.specs.Demand2.{putBack}
+use Rattle.demands.proofs.CutJudge.{judge-cut}
+
+-- the bytes of a memory that can be addressed
+abbrev front : List ℕ → List ℕ
+front mem = take addressable mem
+
+front-reach : (mem : List ℕ) → reach (length (front mem)) ≡ reach (length mem)
+front-reach mem = rw length-take (min-eq-left (min-le-left addressable (length mem)) ∙ min-comm addressable (length mem))
+
+picked : (e : Extension) (cal meas : List ℕ) → pick e (front cal) (front meas) ≡ front (pick e cal meas)
+picked Calibration cal meas = refl
+picked Measured cal meas = refl
+
+-- ---- an event
+byte-cut : (mem : List ℕ) (a : ℕ) → byteOf (front mem) a ≡ byteOf mem a
+unfolding byteOf
+byte-cut mem a = rw (front-reach mem) (go (ltb a (reach (length mem))) refl) where
+  go : (t : Bool) → ltb a (reach (length mem)) ≡ t → cond t (getD (front mem) a 0) 0 ≡ cond t (getD mem a 0) 0
+  go true e = getD-take addressable mem a 0 (omega (arith, ltb-true a (reach (length mem)) e, min-le-right (length mem) addressable))
+  go false e = refl
+
+bytes-cut : (mem : List ℕ) (a n : ℕ) → bytesOf (front mem) a n ≡ bytesOf mem a n
+unfolding bytesOf
+bytes-cut mem a zero = refl
+bytes-cut mem a (suc n) = rw (byte-cut mem a, bytes-cut mem (suc a) n)
+
+module _ (cal meas : List ℕ) where
+  entry-cut : (s : List ℕ) (k e : ℕ) → entryBytes s k e (front cal) (front meas) ≡ entryBytes s k e cal meas
+  unfolding entryBytes
+  entry-cut s k e =
+      rw (picked (extensionOf s k e) cal meas) (bytes-cut (pick (extensionOf s k e) cal meas) (addressOf s k e) (sizeOf s k e))
+
+  gathered-cut : (s : List ℕ) (k n : ℕ) → gathered s k (front cal) (front meas) n ≡ gathered s k cal meas n
+  unfolding gathered
+  gathered-cut s k zero = refl
+  gathered-cut s k (suc n) = rw (gathered-cut s k n, entry-cut s k n)
+
+  captured-cut : (s : List ℕ) (l clock : ℕ) → captured s l clock (front cal) (front meas) ≡ captured s l clock cal meas
+  unfolding captured
+  captured-cut s l clock = rw (gathered-cut s (firstOdt l) entries, gathered-cut s (firstOdt l + 1) entries)
+
+  sampled-cut : (c : Sampling) (s : List ℕ) (l clock : ℕ) → sampledState c s l clock (front cal) (front meas) ≡ sampledState c s l clock cal meas
+  unfolding sampledState
+  sampled-cut Idle s l clock = refl
+  sampled-cut Sampled s l clock = captured-cut s l clock
+  sampled-cut Missed s l clock = refl
+
+  counted-cut : (c : Sampling) (t : Tally) (l clock : ℕ) → counted c t l clock (front cal) (front meas) ≡ counted c t l clock cal meas
+  counted-cut c t l clock = rw (sampled-cut c (t .state) l clock)
+
+  tally-cut : (s : List ℕ) (event clock n : ℕ) → tally s event clock (front cal) (front meas) n ≡ tally s event clock cal meas n
+  unfolding tally
+  tally-cut s event clock zero = refl
+  tally-cut s event clock (suc n) =
+      let t : Tally = tally s event clock cal meas n in
+      rw (tally-cut s event clock n) (counted-cut (samplingOf (t .state) n event) t n clock)
+
+pub cutEvent : (s cal meas : List ℕ) (event clock : ℕ) → ours .event s cal meas event clock ≡ ours .event s (take addressable cal) (take addressable meas) event clock
+unfolding eventOf
+cutEvent s cal meas event clock = rw (tally-cut cal meas s event clock 4)
+
+-- ---- a deed
+block-cut : (mem : List ℕ) (a n : ℕ) → a + n ≤ addressable → block (front mem) a n ≡ block mem a n
+block-cut mem a n h = rw zero-add at (block-block mem 0 addressable a n h)
+
+-- a block that is inside
+inside-cut : (e : Extension) (cal meas : List ℕ) (most a n : ℕ) → Inside most a n (pick e (length cal) (length meas)) → block (pick e cal meas) a n ≡ block (pick e (front cal) (front meas)) a n
+inside-cut e cal meas most a n i =
+    sym (rw (picked e cal meas) (block-cut (pick e cal meas) a n (inside-le a n (pick e (length cal) (length meas)) (i .1) .1)))
+
+reply-cut : (d : Deed) (long : ℕ) (s cal meas : List ℕ) → Doable d long (length cal) (length meas) → reply d s cal meas ≡ reply d s (front cal) (front meas)
+unfolding reply blockSum
+reply-cut (Refuse r) long s cal meas o = refl
+reply-cut RefuseSize long s cal meas o = refl
+reply-cut WrongKey long s cal meas o = refl
+reply-cut Connect long s cal meas o = refl
+reply-cut Disconnect long s cal meas o = refl
+reply-cut Status long s cal meas o = refl
+reply-cut Synch long s cal meas o = refl
+reply-cut NoSeed long s cal meas o = refl
+reply-cut (GiveSeed r) long s cal meas o = refl
+reply-cut (Unlock r) long s cal meas o = refl
+reply-cut (SetMta e a) long s cal meas o = refl
+reply-cut (Upload e a n) long s cal meas o = rw (inside-cut e cal meas 7 a n o)
+reply-cut (ShortUpload e a n) long s cal meas o = rw (inside-cut e cal meas 7 a n o)
+reply-cut (Checksum e a n) long s cal meas o = rw (inside-cut e cal meas addressable a n o)
+reply-cut (Download a n) long s cal meas o = refl
+reply-cut (ClearList l) long s cal meas o = refl
+reply-cut (SetPointer k e) long s cal meas o = refl
+reply-cut (ClearEntry k e) long s cal meas o = refl
+reply-cut (WriteEntry k e n x a) long s cal meas o = refl
+reply-cut (SetMode l event) long s cal meas o = refl
+reply-cut (Stop l) long s cal meas o = refl
+reply-cut (Start l) long s cal meas o = refl
+reply-cut (KeepRunning l) long s cal meas o = refl
+reply-cut (Select l) long s cal meas o = refl
+reply-cut StopAll long s cal meas o = refl
+reply-cut StartSelected long s cal meas o = refl
+reply-cut StopSelected long s cal meas o = refl
+reply-cut ProcessorInfo long s cal meas o = refl
+reply-cut ResolutionInfo long s cal meas o = refl
+
+-- stores into the front of a list
+sets-front : (xs l rest : List ℕ) (i : ℕ) → i + length xs ≤ length l → sets (l ++ rest) i xs ≡ sets l i xs ++ rest
+sets-front [] l rest i h = refl
+sets-front (x ∷ xs) l rest i h =
+    rw (set-append-left l rest i x (omega arith)) (sets-front xs (set l i x) rest (suc i) (rw length-set (omega arith)))
+
+whole : (cal : List ℕ) → cal ≡ front cal ++ drop addressable cal
+whole cal = sym (take-append-drop addressable cal)
+
+download-cut : (p cal : List ℕ) (a n : ℕ) → insideOf a n (length cal) ≡ true → sets cal a (block p 2 n) ≡ sets (front cal) a (block p 2 n) ++ drop addressable cal
+unfolding insideOf
+download-cut p cal a n i =
+    let few : length (block p 2 n) ≤ n = rw length-take (min-le-left n (length (drop 2 p))) in
+    let h : a + n ≤ length (front cal) = rw (length-take, min-comm) (leb-true _ _ i) in
+    ap (λ (l : List ℕ). sets l a (block p 2 n)) (whole cal) ∙ sets-front (block p 2 n) (front cal) (drop addressable cal) a (omega arith)
+
+written-cut : (d : Deed) (p cal : List ℕ) (nm : ℕ) → Doable d (length p) (length cal) nm → written d p cal ≡ written d p (front cal) ++ drop addressable cal
+unfolding written
+written-cut (Refuse r) p cal nm o = whole cal
+written-cut RefuseSize p cal nm o = whole cal
+written-cut WrongKey p cal nm o = whole cal
+written-cut Connect p cal nm o = whole cal
+written-cut Disconnect p cal nm o = whole cal
+written-cut Status p cal nm o = whole cal
+written-cut Synch p cal nm o = whole cal
+written-cut NoSeed p cal nm o = whole cal
+written-cut (GiveSeed r) p cal nm o = whole cal
+written-cut (Unlock r) p cal nm o = whole cal
+written-cut (SetMta e a) p cal nm o = whole cal
+written-cut (Upload e a n) p cal nm o = whole cal
+written-cut (ShortUpload e a n) p cal nm o = whole cal
+written-cut (Checksum e a n) p cal nm o = whole cal
+written-cut (Download a n) p cal nm o = download-cut p cal a n (o .1 .1)
+written-cut (ClearList l) p cal nm o = whole cal
+written-cut (SetPointer k e) p cal nm o = whole cal
+written-cut (ClearEntry k e) p cal nm o = whole cal
+written-cut (WriteEntry k e n x a) p cal nm o = whole cal
+written-cut (SetMode l event) p cal nm o = whole cal
+written-cut (Stop l) p cal nm o = whole cal
+written-cut (Start l) p cal nm o = whole cal
+written-cut (KeepRunning l) p cal nm o = whole cal
+written-cut (Select l) p cal nm o = whole cal
+written-cut StopAll p cal nm o = whole cal
+written-cut StartSelected p cal nm o = whole cal
+written-cut StopSelected p cal nm o = whole cal
+written-cut ProcessorInfo p cal nm o = whole cal
+written-cut ResolutionInfo p cal nm o = whole cal
+
+-- ---- a received byte
+-- o is what is done on the first bytes alone, with the rest put back
+record Cut (rest : List ℕ) (o o′ : Step) : Type 0 where
+  same : o ≡ putBack o′ rest
+
+either-cut : (t : Bool) {rest : List ℕ} {a b a′ b′ : Step} → Cut rest a a′ → Cut rest b b′ → Cut rest (cond t a b) (cond t a′ b′)
+either-cut true p q = p
+either-cut false p q = q
+
+module _ (cal meas : List ℕ) where
+  abbrev rest : List ℕ
+  rest = drop addressable cal
+
+  only-cut : (r : Received) (s : List ℕ) → Cut rest (only r s cal) (only r s (front cal))
+  only-cut r s = record { same = ap (only r s) (whole cal) }
+
+  obeyed-cut : (d : Deed) (p s : List ℕ) → Doable d (length p) (length cal) (length meas) → Cut rest (obeyed d p s cal meas) (obeyed d p s (front cal) (front meas))
+  obeyed-cut d p s o = record { same = rw (reply-cut d (length p) s cal meas o, written-cut d p cal (length meas) o) }
+
+  judged-cut : (p s : List ℕ) → judge p s (length (front cal)) (length (front meas)) ≡ judge p s (length cal) (length meas)
+  judged-cut p s = judge-cut (length cal) (length meas) (length (front cal)) (length (front meas)) (front-reach cal) (front-reach meas) p s
+
+  heeded-cut : (p s : List ℕ) → Cut rest (heeded p s cal meas) (heeded p s (front cal) (front meas))
+  unfolding heeded
+  heeded-cut p s =
+      rw (judged-cut p s)
+      (either-cut (waits s) (only-cut Unread s)
+      (either-cut (openOf s) (obeyed-cut (judge p s (length cal) (length meas)) p s (judge-doable p s (length cal) (length meas)))
+      (either-cut (greets p) (obeyed-cut Connect p s tt) (only-cut Silent s))))
+
+  meant-cut : (o : Outcome) (m s : List ℕ) → Cut rest (meant o m s cal meas) (meant o m s (front cal) (front meas))
+  unfolding meant
+  meant-cut line.Nothing m s = only-cut Nothing s
+  meant-cut (line.Good ctr at n) m s = heeded-cut (block m at n) s
+  meant-cut line.BadLength m s = only-cut BadLength s
+  meant-cut line.BadEscape m s = only-cut BadEscape s
+  meant-cut line.BadChecksum m s = only-cut BadChecksum s
+  meant-cut line.CutOff m s = only-cut CutOff s
+  meant-cut line.NoRoom m s = only-cut NoState s
+
+pub cut : (s cal meas : List ℕ) (b : ℕ) → ours .receive s cal meas b ≡ putBack (ours .receive s (take addressable cal) (take addressable meas) b) (drop addressable cal)
+unfolding receiveOf
+cut s cal meas b =
+    let both = either-cut (consistent s) (meant-cut cal meas (fedOf s b .taken .outcome) (fedOf s b .message) (readOn s (fedOf s b))) (only-cut cal meas NoState s) in
+    both .same

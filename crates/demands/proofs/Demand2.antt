@@ -1,0 +1,29 @@
+-- The second demand is met. Assumes nothing.
+use Rattle.demands.specs.Slave.{ours}
+use Rattle.demands.specs.Demand2.{Demand2}
+use Rattle.demands.proofs.Received.{heeds-right}
+use Rattle.demands.proofs.Numbering.{frames-numbered, frames-from-power-up}
+use Rattle.demands.proofs.Sends.{slot-reads-back, slot-past}
+use Rattle.demands.proofs.Locks.{locked-keeps, unlocks-own}
+use Rattle.demands.proofs.Cut.{cut, cutEvent}
+use Rattle.demands.proofs.Downloads.{gives-back}
+use Rattle.demands.proofs.Events.{counts, gains, others, storesOnly}
+
+pub demand2 : Demand2 ours
+demand2 =
+    record {
+      heeds = heeds-right;
+      numbers = frames-numbered;
+      fromPowerUp = frames-from-power-up;
+      readsBack = slot-reads-back;
+      restStays = slot-past;
+      locked = locked-keeps;
+      cut = cut;
+      cutEvent = cutEvent;
+      givesBack = gives-back;
+      unlocks = unlocks-own;
+      counts = counts;
+      gains = gains;
+      others = others;
+      storesOnly = storesOnly;
+    }

@@ -1,0 +1,133 @@
+-- What DOWNLOAD wrote, UPLOAD at the same place gives back, and other bytes stay. Assumes nothing.
+use Prim.Native.Nat.{ℕ, _+_, _≤_}
+use mathlib.Core.Path.{_≡_, refl, sym, ap, _∙_}
+use mathlib.Core.Logic.{_≢_}
+use mathlib.Core.Bool.{true}
+use mathlib.Core.List.{List, [], _∷_}
+use native.Mathlib.Nat.{le-refl}
+use native.Mathlib.Omega.{arith}
+use borrow.Author.Tests.{eqb-false, ltb-false, ne-eqb, le-ltb}
+use lib.Dec.{eqb, ltb}
+use lib.ListN.{length, getD}
+use lib.Seq.{sets, length-sets}
+use Rattle.line.proofs.Laws.{cond-ind}
+use Rattle.session.specs.Bytes.{block}
+use Rattle.session.specs.Memory.{insideOf}
+use Rattle.session.specs.State.{consistent, mtaOf, answerOf}
+use Rattle.session.specs.Command.{commandOf, needsOf, lockedOf}
+use Rattle.session.specs.Judge.{uploadDeed, downloadTo, downloadDeed, judgeThe, judgeBy, judge}
+use Rattle.session.specs.Perform.{reply, written}
+use Rattle.session.specs.Receive.{Step, receiveOf}
+use Rattle.session.specs.declared.Command.the-variants as command
+use Rattle.session.specs.declared.Extension.the-variants.{Calibration}
+use Rattle.session.specs.declared.Mta.the-variants.{At}
+use Rattle.session.specs.declared.Deed.{Deed}
+use Rattle.session.specs.declared.Deed.the-variants.{Upload, Download}
+use Rattle.fields.proofs.Frames.{only-sets}
+use Rattle.session.proofs.Inside.{inside-le}
+use Rattle.session.proofs.Sets.{block-length}
+use Rattle.fields.proofs.Stores.{block-sets}
+use Rattle.demands.specs.Slave.{ours}
+use Rattle.demands.specs.Heard.{readBy, deedOf}
+use Rattle.demands.specs.Waiting.{AllBut}
+use Rattle.demands.specs.Demand2.{Downloads, Uploads}
+use Rattle.demands.proofs.ReadBy.{read-mta}
+use Rattle.demands.proofs.Received.{commanded, command-answer}
+use Rattle.demands.proofs.Unchanged.{all-but}
+
+-- ---- DOWNLOAD
+-- what stands when DOWNLOAD is done
+record Loads (p : List ℕ) (a n nc : ℕ) (d : Deed) : Type 0 where
+  done : d ≡ Download a n
+  some : n ≢ 0
+  few : n ≤ 6
+  there : n + 2 ≤ length p
+  inside : insideOf a n nc ≡ true
+
+fe-ff : (a : List ℕ) → 0xFE ∷ a ≡ 0xFF ∷ [] → ⊥
+fe-ff a e = let z : _≡_ {A = ℕ} 0xFE 0xFF = cc in omega arith
+
+module _ (p s cal meas : List ℕ) (a n : ℕ) where
+  -- a deed that is answered FF is that
+  abbrev Good : Deed → Type 0
+  Good d = reply d s cal meas ≡ 0xFF ∷ [] → Loads p a n (length cal) d
+
+  download-good : Good (downloadDeed (At Calibration a) n (length p) (length cal))
+  unfolding downloadDeed downloadTo reply
+  download-good =
+      cond-ind Good (eqb n 0) (λ _ e. absurd (fe-ff _ e)) (λ z.
+      cond-ind Good (ltb 6 n) (λ _ e. absurd (fe-ff _ e)) (λ f.
+      cond-ind Good (ltb (length p) (n + 2)) (λ _ e. absurd (fe-ff _ e)) (λ t.
+      cond-ind Good (insideOf a n (length cal))
+      (λ i _. record { done = refl; some = eqb-false n 0 z; few = ltb-false 6 n f; there = ltb-false (length p) (n + 2) t; inside = i })
+      (λ _ e. absurd (fe-ff _ e)))))
+
+  the-good : mtaOf s ≡ At Calibration a → getD p 1 0 ≡ n → Good (judgeThe command.Download p s (length cal) (length meas))
+  unfolding judgeThe
+  the-good there count = rw (there, count) download-good
+
+  by-good : mtaOf s ≡ At Calibration a → getD p 1 0 ≡ n → Good (judgeBy command.Download p s (length cal) (length meas))
+  unfolding judgeBy reply
+  by-good there count =
+      cond-ind Good (ltb (length p) 2) (λ _ e. absurd (fe-ff _ e)) (λ _.
+      cond-ind Good (lockedOf s (needsOf command.Download)) (λ _ e. absurd (fe-ff _ e)) (λ _. the-good there count))
+
+  judged-good : getD p 0 0 ≡ 0xF0 → mtaOf s ≡ At Calibration a → getD p 1 0 ≡ n → Good (deedOf p s cal meas)
+  unfolding judge commandOf
+  judged-good code there count = rw code (by-good there count)
+
+-- ---- UPLOAD
+-- a byte that is not 0 is there
+there-is : (q : List ℕ) (n : ℕ) → getD q 1 0 ≡ n → n ≢ 0 → 2 ≤ length q
+there-is [] n e z = absurd (z (sym e))
+there-is (x ∷ []) n e z = absurd (z (sym e))
+there-is (x ∷ y ∷ q) n e z = omega arith
+
+upload-judged : (q t : List ℕ) (a n nc nm : ℕ) → getD q 0 0 ≡ 0xF5 → mtaOf t ≡ At Calibration a → getD q 1 0 ≡ n → n ≢ 0 → n ≤ 7 → insideOf a n nc ≡ true
+    → judge q t nc nm ≡ Upload Calibration a n
+unfolding judge judgeBy judgeThe commandOf lockedOf uploadDeed
+upload-judged q t a n nc nm code there count z few inside =
+    simp (code, le-ltb (length q) 2 (there-is q n count z), there, count, ne-eqb n 0 z, le-ltb 7 n few, inside)
+
+upload-says : (a n : ℕ) (t cal meas : List ℕ) → reply (Upload Calibration a n) t cal meas ≡ 0xFF ∷ block cal a n
+unfolding reply
+upload-says a n t cal meas = refl
+
+download-writes : (a n : ℕ) (p cal : List ℕ) → written (Download a n) p cal ≡ sets cal a (block p 2 n)
+unfolding written
+download-writes a n p cal = refl
+
+-- the bytes that were stored are given back
+uploaded : (t meas : List ℕ) (c : ℕ) (q : List ℕ) (a n : ℕ) → consistent t ≡ true → Uploads t c q a n
+    → (cal xs : List ℕ) → n ≢ 0 → n ≤ 6 → insideOf a n (length cal) ≡ true → length xs ≡ n → a + n ≤ length cal
+    → answerOf (receiveOf t (sets cal a xs) meas c .state) ≡ 0xFF ∷ xs
+uploaded t meas c q a n v up cal xs z few inside long within =
+    let mem : List ℕ = sets cal a xs in
+    let t′ : List ℕ = readBy t c in
+    let still : insideOf a n (length mem) ≡ true = rw (length-sets cal a xs) inside in
+    let judged : deedOf q t′ mem meas ≡ Upload Calibration a n =
+    upload-judged q t′ a n (length mem) (length meas) (up .code) (read-mta t c v ∙ up .place) (up .count) z (omega arith) still in
+    let stored : block mem a n ≡ xs = rw (← long) (block-sets cal a xs (omega arith)) in
+    command-answer t mem meas c q v (up .command)
+    ∙ ap (λ (d : Deed). reply d t′ mem meas) judged
+    ∙ upload-says a n t′ mem meas
+    ∙ ap (λ (l : List ℕ). 0xFF ∷ l) stored
+
+-- ---- one after the other
+pub gives-back : (s t cal meas meas′ : List ℕ) (b c : ℕ) (p q : List ℕ) (a n : ℕ) → consistent s ≡ true → consistent t ≡ true
+    → Downloads s b p a n → answerOf (ours .receive s cal meas b .state) ≡ 0xFF ∷ [] → Uploads t c q a n
+    → (answerOf (ours .receive t (ours .receive s cal meas b .cal) meas′ c .state) ≡ 0xFF ∷ block p 2 n) × AllBut a (a + n) cal (ours .receive s cal meas b .cal)
+gives-back s t cal meas meas′ b c p q a n u v down said up =
+    let s′ : List ℕ = readBy s b in
+    let t′ : List ℕ = readBy t c in
+    let w : Loads p a n (length cal) (deedOf p s′ cal meas) =
+    judged-good p s′ cal meas a n (down .code) (read-mta s b u ∙ down .place) (down .count) (sym (command-answer s cal meas b p u (down .command)) ∙ said) in
+    let xs : List ℕ = block p 2 n in
+    let n-there : n + 2 ≤ length p = w .there in
+    let long : length xs ≡ n = block-length p 2 n (omega arith) in
+    let within : a + n ≤ length cal = inside-le a n (length cal) (w .inside) .0 in
+    let wrote : receiveOf s cal meas b .cal ≡ sets cal a xs =
+    ap (λ (o : Step). o .cal) (commanded s cal meas b p u (down .command)) ∙ ap (λ (d : Deed). written d p cal) (w .done) ∙ download-writes a n p cal in
+    let back : answerOf (receiveOf t (sets cal a xs) meas′ c .state) ≡ 0xFF ∷ xs =
+    uploaded t meas′ c q a n v up cal xs (w .some) (w .few) (w .inside) long within in
+    (rw wrote back, rw wrote (all-but (only-sets cal a xs (le-refl a) (omega arith))))

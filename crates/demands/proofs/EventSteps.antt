@@ -1,0 +1,150 @@
+-- An event takes the lists one after the other, and each one's step changes its own store alone. Assumes nothing.
+use Prim.Native.Nat.{ℕ, zero, suc, _+_, _-_, _≤_, _<_}
+use mathlib.Core.Path.{_≡_, refl, sym, ap, subst, _∙_}
+use mathlib.Core.Logic.{_≢_}
+use mathlib.Core.Bool.{Bool, true, false, cond}
+use mathlib.Core.List.{List, []}
+use native.Mathlib.Omega.{arith}
+use lib.Dec.{eqb, ltb, lit≤}
+use lib.ListN.{length}
+use Rattle.line.proofs.Laws.{cond-ind}
+use Rattle.line.proofs.Stuffed.{false-true}
+use Rattle.session.specs.Layout.{size, entries, sampleAt, firstOdt}
+use Rattle.session.specs.Lists.{runsOf, modeOf, storedLength}
+use Rattle.session.specs.Event.{unsent, samplingOf, captured, sampledState, sampledBy, missedBy, tally}
+use Rattle.session.specs.declared.Sampling.{Sampling}
+use Rattle.session.specs.declared.Sampling.the-variants.{Idle, Sampled, Missed}
+use Rattle.session.proofs.Entries.{gathered-alike}
+use Rattle.fields.proofs.Frames.{Only, only-none, only-then, only-wider}
+use Rattle.fields.proofs.Readers.{Same, before, behind, same-then, runs-reads}
+use Rattle.fields.proofs.Captures.{runs-fits, only-tally}
+use Rattle.demands.specs.Waiting.{waitingOf, sampleOf, isSampled, isMissed}
+use Rattle.demands.specs.Demand2.{howMany}
+use Rattle.demands.proofs.Samples.{SameStore, sampling-reads, waiting-reads, captured-only, captured-waits}
+
+-- ---- one list
+-- a list that is sampled runs, and has nothing unsent
+pub sampled-free : (s : List ℕ) (l event : ℕ) → samplingOf s l event ≡ Sampled → (runsOf s l ≡ true) × (unsent s l ≡ false)
+unfolding samplingOf
+sampled-free s l event =
+    let P : Sampling → Type 0 = λ (c : Sampling). c ≡ Sampled → (runsOf s l ≡ true) × (unsent s l ≡ false) in
+    cond-ind P (runsOf s l)
+    (λ r. cond-ind P (eqb (modeOf s l) (event + 1))
+    (λ _. cond-ind P (unsent s l) (λ _ f. absurd (false-true (ap isSampled f))) (λ u _. (r, u)))
+    (λ _ f. absurd (false-true (ap isSampled f))))
+    (λ _ f. absurd (false-true (ap isSampled f)))
+
+none-unsent : (s : List ℕ) (l : ℕ) → unsent s l ≡ false → (ltb 0 (storedLength s (firstOdt l)) ≡ false) × (ltb 0 (storedLength s (firstOdt l + 1)) ≡ false)
+unfolding unsent
+none-unsent s l =
+    cond-ind (λ (t : Bool). t ≡ false → (ltb 0 (storedLength s (firstOdt l)) ≡ false) × (ltb 0 (storedLength s (firstOdt l + 1)) ≡ false)) (ltb 0 (storedLength s (firstOdt l)))
+    (λ _ f. absurd (false-true (sym f))) (λ p q. (p, q))
+
+pub sampled-empty : (s : List ℕ) (l event : ℕ) → samplingOf s l event ≡ Sampled → waitingOf s l ≡ []
+unfolding waitingOf
+sampled-empty s l event e =
+    let free = sampled-free s l event e in
+    let none = none-unsent s l (free .1) in
+    rw (free .0, none .0, none .1)
+
+sampled-only : (s : List ℕ) (l event clock : ℕ) (cal meas : List ℕ) → length s ≡ size → l < 4
+    → Only (sampleAt (firstOdt l)) (sampleAt (firstOdt l) + 16) s (sampledState (samplingOf s l event) s l clock cal meas)
+unfolding sampledState
+sampled-only s l event clock cal meas long h = go (samplingOf s l event) refl where
+  go : (c : Sampling) → samplingOf s l event ≡ c → Only (sampleAt (firstOdt l)) (sampleAt (firstOdt l) + 16) s (sampledState c s l clock cal meas)
+  go Idle e = only-none
+  go Sampled e = captured-only s l clock cal meas long h (runs-fits s l (sampled-free s l event e .0))
+  go Missed e = only-none
+
+unsampled : (c : Sampling) (s : List ℕ) (l clock : ℕ) (cal meas : List ℕ) → c ≢ Sampled → sampledState c s l clock cal meas ≡ s
+unfolding sampledState
+unsampled Idle s l clock cal meas n = refl
+unsampled Sampled s l clock cal meas n = absurd (n refl)
+unsampled Missed s l clock cal meas n = refl
+
+sampled-one : (c : Sampling) → sampledBy c ≡ cond (isSampled c) 1 0
+sampled-one Idle = refl
+sampled-one Sampled = refl
+sampled-one Missed = refl
+
+missed-one : (c : Sampling) → missedBy c ≡ cond (isMissed c) 1 0
+missed-one Idle = refl
+missed-one Sampled = refl
+missed-one Missed = refl
+
+-- ---- all of them
+module _ (s : List ℕ) (event clock : ℕ) (cal meas : List ℕ) (long : length s ≡ size) where
+  -- the state when the first n lists have had their turn
+  abbrev upTo : ℕ → List ℕ
+  upTo n = tally s event clock cal meas n .state
+
+  upTo-long : (n : ℕ) → n ≤ 4 → length (upTo n) ≡ size
+  upTo-long n h = only-tally s event clock cal meas n h .long ∙ long
+
+  -- the lists from m up to n change their own stores
+  upTo-only : (m d n : ℕ) → m + d ≡ n → n ≤ 4 → Only (sampleAt (firstOdt m)) (sampleAt (firstOdt n)) (upTo m) (upTo n)
+  unfolding tally
+  upTo-only m zero n e h =
+      let same : m ≡ n = omega arith in
+      subst (λ (k : ℕ). Only (sampleAt (firstOdt m)) (sampleAt (firstOdt k)) (upTo m) (upTo k)) same only-none
+  upTo-only m (suc d) zero e h = absurd (omega arith)
+  upTo-only m (suc d) (suc n) e h =
+      only-then (only-wider (omega arith) (omega arith) (upTo-only m d n (omega arith) (omega arith)))
+      (only-wider (omega arith) (omega arith) (sampled-only (upTo n) n event clock cal meas (upTo-long n (omega arith)) (omega arith)))
+
+  -- before its turn a list finds the session and its store as they were
+  earlier : (l : ℕ) → l < 4 → Only (sampleAt 0) (sampleAt (firstOdt l)) s (upTo l)
+  unfolding tally
+  earlier l h = upTo-only 0 l l (omega arith) (omega arith)
+
+  front-before : (l : ℕ) → l < 4 → Same 0 161 s (upTo l)
+  front-before l h = before (lit≤ tt) (earlier l h)
+
+  store-before : (l : ℕ) → l < 4 → SameStore l s (upTo l)
+  store-before l h = behind (omega arith) (earlier l h)
+
+  turn : (l : ℕ) → l < 4 → samplingOf (upTo l) l event ≡ samplingOf s l event
+  turn l h = sampling-reads l event h (before (lit≤ tt) (earlier l h)) (store-before l h)
+
+  -- and after it they stay
+  later : (l : ℕ) → l < 4 → Only (sampleAt (firstOdt (suc l))) (sampleAt 8) (upTo (suc l)) (upTo 4)
+  later l h = upTo-only (suc l) (3 - l) 4 (omega arith) (omega arith)
+
+  -- exactly the lists that are sampled, and those that are missed, are counted
+  pub count-sampled : (n : ℕ) → n ≤ 4 → tally s event clock cal meas n .sampled ≡ howMany (λ l. isSampled (samplingOf s l event)) n
+  unfolding tally
+  count-sampled zero h = refl
+  count-sampled (suc n) h = rw (count-sampled n (omega arith), turn n (omega arith), sampled-one (samplingOf s n event))
+
+  pub count-missed : (n : ℕ) → n ≤ 4 → tally s event clock cal meas n .missed ≡ howMany (λ l. isMissed (samplingOf s l event)) n
+  unfolding tally
+  count-missed zero h = refl
+  count-missed (suc n) h = rw (count-missed n (omega arith), turn n (omega arith), missed-one (samplingOf s n event))
+
+  -- a list that is not sampled keeps its store
+  pub unsampled-store : (l : ℕ) → l < 4 → samplingOf s l event ≢ Sampled → SameStore l s (upTo 4)
+  unfolding tally
+  unsampled-store l h n =
+      let own : upTo (suc l) ≡ upTo l = rw (turn l h) (unsampled (samplingOf s l event) (upTo l) l clock cal meas n) in
+      same-then (subst (λ (t : List ℕ). SameStore l s t) (sym own) (store-before l h)) (before (omega arith) (later l h))
+
+  sample-before : (l : ℕ) → l < 4 → sampleOf (upTo l) l clock cal meas ≡ sampleOf s l clock cal meas
+  unfolding sampleOf
+  sample-before l h =
+      let w : Same 0 161 s (upTo l) = front-before l h in
+      rw (
+        gathered-alike (upTo l) s (λ j q. w .byte j (omega arith) q) (firstOdt l) (omega arith) cal meas entries (lit≤ tt),
+        gathered-alike (upTo l) s (λ j q. w .byte j (omega arith) q) (firstOdt l + 1) (omega arith) cal meas entries (lit≤ tt),
+      )
+
+  -- a list that is sampled has its sample waiting
+  pub sampled-waits : (l : ℕ) → l < 4 → samplingOf s l event ≡ Sampled → waitingOf (upTo 4) l ≡ sampleOf s l clock cal meas
+  unfolding tally sampledState
+  sampled-waits l h e =
+      let u : List ℕ = upTo l in
+      let r : runsOf u l ≡ true = runs-reads l h (before (lit≤ tt) (earlier l h)) ∙ sampled-free s l event e .0 in
+      let own : upTo (suc l) ≡ captured u l clock cal meas = rw (turn l h, e) refl in
+      waiting-reads l h (before (omega arith) (later l h)) (before (omega arith) (later l h))
+      ∙ ap (λ (t : List ℕ). waitingOf t l) own
+      ∙ captured-waits u l clock cal meas (upTo-long l (omega arith)) h (runs-fits u l r) r
+      ∙ sample-before l h

@@ -1,0 +1,114 @@
+-- An event samples and misses the lists that it should, counts them, and changes nothing but the stores of those sampled. Assumes nothing.
+use Prim.Native.Nat.{ℕ, _+_, _≤_, _<_}
+use mathlib.Core.Path.{_≡_, refl, sym, ap, _∙_}
+use mathlib.Core.Logic.{_≢_}
+use mathlib.Core.Bool.{Bool, true, false, cond}
+use mathlib.Core.List.{List, [], _∷_, _++_, append-nil}
+use native.Mathlib.Omega.{arith}
+use borrow.Author.Tests.{lt-ltb, le-ltb, ltb-true, ltb-false}
+use lib.Dec.{ltb, lit≤}
+use lib.ListN.{length}
+use Rattle.line.proofs.Stuffed.{false-true}
+use Rattle.session.specs.Layout.{lists, entries, placeAt, sampleAt, firstOdt}
+use Rattle.session.specs.Bytes.{block}
+use Rattle.session.specs.State.{consistent, openOf, waits, answerOf}
+use Rattle.session.specs.Event.{samplingOf, gathered, tally, happened, eventOf}
+use Rattle.session.specs.declared.Sampling.{Sampling}
+use Rattle.session.specs.declared.Sampling.the-variants.{Idle, Sampled, Missed}
+use Rattle.session.specs.declared.Evented.the-variants.{Done}
+use Rattle.session.proofs.Consistent.{consistent-size}
+use Rattle.fields.proofs.Frames.{only-take, only-drop}
+use Rattle.fields.proofs.Readers.{Same, apart, same-block, open-reads, waits-reads, answer-reads}
+use Rattle.fields.proofs.Captures.{only-event}
+use Rattle.demands.specs.Slave.{ours}
+use Rattle.demands.specs.Runs.{Event}
+use Rattle.demands.specs.Waiting.{AllBut, waitingOf, second, sampleOf, isSampled, isMissed}
+use Rattle.demands.specs.Demand2.{storeSize, howMany}
+use Rattle.demands.specs.Kept.{gains as gainsAt}
+use Rattle.demands.proofs.Samples.{SameStore, waiting-reads}
+use Rattle.demands.proofs.EventSteps.{sampled-empty, count-sampled, count-missed, unsampled-store, sampled-waits}
+
+-- ---- an event takes the lists, or is none
+taken : (s cal meas : List ℕ) (event clock : ℕ) → consistent s ≡ true → event ≤ 1 → eventOf s cal meas event clock ≡ happened (tally s event clock cal meas lists)
+unfolding eventOf
+taken s cal meas event clock c h = rw (c, le-ltb 1 event h)
+
+refused : (s cal meas : List ℕ) (event clock : ℕ) → consistent s ≡ true → 1 < event → eventOf s cal meas event clock .state ≡ s
+unfolding eventOf
+refused s cal meas event clock c h = rw (c, lt-ltb 1 event h)
+
+-- ---- what it counts, and what waits after it
+pub counts : (s cal meas : List ℕ) (event clock : ℕ) → consistent s ≡ true → event ≤ 1
+    → ours .event s cal meas event clock .evented ≡ Done (howMany (λ l. isSampled (samplingOf s l event)) lists) (howMany (λ l. isMissed (samplingOf s l event)) lists)
+counts s cal meas event clock c h =
+    let long = consistent-size s c in
+    rw (taken s cal meas event clock c h, count-sampled s event clock cal meas long 4 (lit≤ tt), count-missed s event clock cal meas long 4 (lit≤ tt))
+
+pub gains : (s cal meas : List ℕ) (event clock l : ℕ) → consistent s ≡ true → event ≤ 1 → l < lists → samplingOf s l event ≡ Sampled
+    → waitingOf (ours .event s cal meas event clock .state) l ≡ sampleOf s l clock cal meas
+gains s cal meas event clock l c h q e = rw (taken s cal meas event clock c h) (sampled-waits s event clock cal meas (consistent-size s c) l q e)
+
+-- ---- what it leaves
+-- the store of a list that is not sampled
+kept-store : (s cal meas : List ℕ) (event clock l : ℕ) → consistent s ≡ true → l < lists → samplingOf s l event ≢ Sampled → SameStore l s (eventOf s cal meas event clock .state)
+kept-store s cal meas event clock l c q n = go (ltb 1 event) refl where
+  go : (t : Bool) → ltb 1 event ≡ t → SameStore l s (eventOf s cal meas event clock .state)
+  go true e = rw (refused s cal meas event clock c (ltb-true 1 event e)) (record { long = refl; byte = λ j p r. refl })
+  go false e = rw (taken s cal meas event clock c (ltb-false 1 event e)) (unsampled-store s event clock cal meas (consistent-size s c) l q n)
+
+pub others : (s cal meas : List ℕ) (event clock l : ℕ) → consistent s ≡ true → l < lists → samplingOf s l event ≢ Sampled
+    → block (ours .event s cal meas event clock .state) (sampleAt (firstOdt l)) storeSize ≡ block s (sampleAt (firstOdt l)) storeSize
+others s cal meas event clock l c q n = same-block (sampleAt (firstOdt l)) storeSize (omega arith) (omega arith) (kept-store s cal meas event clock l c q n)
+
+pub storesOnly : (s cal meas : List ℕ) (event clock : ℕ) → AllBut (sampleAt 0) placeAt s (ours .event s cal meas event clock .state)
+storesOnly s cal meas event clock =
+    let w = only-event s cal meas event clock in
+    record { long = w .long; front = only-take 161 (lit≤ tt) w; back = only-drop 225 (lit≤ tt) w }
+
+-- all before the stores: the CTR, the list last served, whether the last frame was an answer, the session
+pub event-front : (s cal meas : List ℕ) (event clock : ℕ) → Same 0 161 s (eventOf s cal meas event clock .state)
+event-front s cal meas event clock = apart tt (only-event s cal meas event clock)
+
+-- all behind them: the reader and the answer
+pub event-back : (s cal meas : List ℕ) (event clock : ℕ) → Same 225 247 s (eventOf s cal meas event clock .state)
+event-back s cal meas event clock = apart tt (only-event s cal meas event clock)
+
+pub event-open : (s cal meas : List ℕ) (event clock : ℕ) → openOf (eventOf s cal meas event clock .state) ≡ openOf s
+event-open s cal meas event clock = open-reads (apart tt (only-event s cal meas event clock))
+
+pub event-waits : (s cal meas : List ℕ) (event clock : ℕ) → waits (eventOf s cal meas event clock .state) ≡ waits s
+event-waits s cal meas event clock = waits-reads (apart tt (only-event s cal meas event clock))
+
+pub event-answer : (s cal meas : List ℕ) (event clock : ℕ) → answerOf (eventOf s cal meas event clock .state) ≡ answerOf s
+event-answer s cal meas event clock = answer-reads (apart tt (only-event s cal meas event clock))
+
+-- ---- a list keeps what waits, and gains what the event gives it
+not-sampled : (c : Sampling) → isSampled c ≡ false → c ≢ Sampled
+not-sampled c e p = false-true (sym e ∙ ap isSampled p)
+
+is-sampled : (c : Sampling) → isSampled c ≡ true → c ≡ Sampled
+is-sampled Idle e = absurd (false-true e)
+is-sampled Sampled e = refl
+is-sampled Missed e = absurd (false-true e)
+
+pub event-waiting : (s cal meas : List ℕ) (event clock l : ℕ) → consistent s ≡ true → l < lists
+    → waitingOf (eventOf s cal meas event clock .state) l ≡ waitingOf s l ++ gainsAt ours l s (Event cal meas event clock)
+event-waiting s cal meas event clock l c q = go (ltb 1 event) (isSampled (samplingOf s l event)) refl refl where
+  go : (t x : Bool) → ltb 1 event ≡ t → isSampled (samplingOf s l event) ≡ x
+      → waitingOf (eventOf s cal meas event clock .state) l ≡ waitingOf s l ++ cond t [] (cond x (sampleOf s l clock cal meas) [])
+  go true x e f = rw (refused s cal meas event clock c (ltb-true 1 event e)) (sym (append-nil (waitingOf s l)))
+  go false true e f =
+      let own = is-sampled (samplingOf s l event) f in
+      rw (sampled-empty s l event own) (gains s cal meas event clock l c (ltb-false 1 event e) q own)
+  go false false e f =
+      waiting-reads l q (apart tt (only-event s cal meas event clock)) (kept-store s cal meas event clock l c q (not-sampled (samplingOf s l event) f))
+      ∙ sym (append-nil (waitingOf s l))
+
+-- one packet, or two
+second-few : (k : ℕ) (bs : List ℕ) → length (second k bs) ≤ 1
+second-few k [] = omega arith
+second-few k (b ∷ bs) = omega arith
+
+pub sample-length : (s : List ℕ) (l clock : ℕ) (cal meas : List ℕ) → length (sampleOf s l clock cal meas) ≤ 2
+unfolding sampleOf
+sample-length s l clock cal meas = omega (arith, second-few (firstOdt l + 1) (gathered s (firstOdt l + 1) cal meas entries))

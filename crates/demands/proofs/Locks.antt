@@ -1,0 +1,121 @@
+-- The locks: while calibration is locked no calibration byte changes, and a right key unlocks its own resource alone. Assumes nothing.
+use Prim.{tt}
+use Prim.Native.Nat.{ℕ}
+use mathlib.Core.Path.{_≡_, refl, sym, ap, _∙_}
+use mathlib.Core.Bool.{Bool, true, false, cond}
+use mathlib.Core.Option.{Option}
+use mathlib.Core.List.{List}
+use lib.Dec.{eqb, lit≤}
+use lib.ListN.{length, set}
+use Rattle.line.proofs.Stuffed.{false-true}
+use Rattle.session.specs.Bytes.{u32At}
+use Rattle.session.specs.Generator.{keyOf}
+use Rattle.session.specs.State.{consistent, openOf, unlockedOf, seedOf, lockAt, answered}
+use Rattle.session.specs.Perform.{effect, reply, written, after}
+use Rattle.session.specs.Receive.{Step, obeyed, receiveOf}
+use Rattle.session.specs.declared.Resource.{Resource}
+use Rattle.session.specs.declared.Resource.the-variants.{Calibration, Lists}
+use Rattle.session.specs.declared.Seed.the-variants.{None, For}
+use Rattle.session.specs.declared.Deed.{Deed}
+use Rattle.session.specs.declared.Deed.the-variants.{Refuse, RefuseSize, WrongKey, Connect, Disconnect, Status, Synch, NoSeed, GiveSeed, Unlock, SetMta, Upload, ShortUpload, Checksum, Download, ClearList, SetPointer, ClearEntry, WriteEntry, SetMode, Stop, Start, KeepRunning, Select, StopAll, StartSelected, StopSelected, ProcessorInfo, ResolutionInfo}
+use Rattle.fields.proofs.Effects.{answering}
+use Rattle.fields.proofs.Fields.{other, lock-same, lock-other}
+use Rattle.fields.proofs.Frames.{only-seed}
+use Rattle.fields.proofs.Readers.{Same, apart, same-part, lock-reads, answered-front}
+use Rattle.demands.specs.Slave.{ours}
+use Rattle.demands.specs.Heard.{readBy, Commands, deedOf, keyFor, keyMatches}
+use Rattle.demands.specs.Demand2.{shut, otherLock}
+use Rattle.demands.proofs.Judged.{Found}
+use Rattle.demands.proofs.ReadBy.{read-length, read-lock, read-seed, read-generator}
+use Rattle.demands.proofs.Received.{Reads, rests, acts, received, commanded}
+use Rattle.demands.proofs.Refusals.{key-judged}
+
+-- ---- locked
+-- a deed that is done while calibration is locked writes nothing
+locked-written : (d : Deed) (p s cal : List ℕ) → Found d p s → unlockedOf s Calibration ≡ false → written d p cal ≡ cal
+unfolding written
+locked-written (Refuse r) p s cal f n = refl
+locked-written RefuseSize p s cal f n = refl
+locked-written WrongKey p s cal f n = refl
+locked-written Connect p s cal f n = refl
+locked-written Disconnect p s cal f n = refl
+locked-written Status p s cal f n = refl
+locked-written Synch p s cal f n = refl
+locked-written NoSeed p s cal f n = refl
+locked-written (GiveSeed r) p s cal f n = refl
+locked-written (Unlock r) p s cal f n = refl
+locked-written (SetMta e a) p s cal f n = refl
+locked-written (Upload e a m) p s cal f n = refl
+locked-written (ShortUpload e a m) p s cal f n = refl
+locked-written (Checksum e a m) p s cal f n = refl
+locked-written (Download a m) p s cal f n = absurd (false-true (sym n ∙ f .unlocked))
+locked-written (ClearList l) p s cal f n = refl
+locked-written (SetPointer k e) p s cal f n = refl
+locked-written (ClearEntry k e) p s cal f n = refl
+locked-written (WriteEntry k e m x a) p s cal f n = refl
+locked-written (SetMode l event) p s cal f n = refl
+locked-written (Stop l) p s cal f n = refl
+locked-written (Start l) p s cal f n = refl
+locked-written (KeepRunning l) p s cal f n = refl
+locked-written (Select l) p s cal f n = refl
+locked-written StopAll p s cal f n = refl
+locked-written StartSelected p s cal f n = refl
+locked-written StopSelected p s cal f n = refl
+locked-written ProcessorInfo p s cal f n = refl
+locked-written ResolutionInfo p s cal f n = refl
+
+connect-written : (d : Deed) (p cal : List ℕ) → d ≡ Connect → written d p cal ≡ cal
+unfolding written
+connect-written d p cal e = rw e
+
+shut-by : {s cal meas : List ℕ} {b : ℕ} {o : Step} {x : Option Deed} → consistent s ≡ true → shut s ≡ true → Reads s cal meas b o x → o .cal ≡ cal
+shut-by c h (rests r other few) = refl
+shut-by {s} {cal} {meas} {b} c h (acts d p w) = go (openOf s) (unlockedOf s Calibration) refl refl h where
+  go : (o u : Bool) → openOf s ≡ o → unlockedOf s Calibration ≡ u → cond o (cond u false true) true ≡ true → written d p cal ≡ cal
+  go true true x y z = absurd (false-true z)
+  go true false x y z = locked-written d p (readBy s b) cal (w .found) (read-lock s b c Calibration ∙ y)
+  go false u x y z = connect-written d p cal (w .closed x .0)
+
+-- a state that is not consistent is left alone
+untouched : (s cal meas : List ℕ) (b : ℕ) → consistent s ≡ false → receiveOf s cal meas b .cal ≡ cal
+unfolding receiveOf
+untouched s cal meas b n = simp n
+
+pub locked-keeps : (s cal meas : List ℕ) (b : ℕ) → shut s ≡ true → ours .receive s cal meas b .cal ≡ cal
+locked-keeps s cal meas b h = go (consistent s) refl where
+  go : (t : Bool) → consistent s ≡ t → ours .receive s cal meas b .cal ≡ cal
+  go true c = shut-by c h (received s cal meas b c)
+  go false c = untouched s cal meas b c
+
+-- ---- unlocked
+-- the seed leaves the locks
+seed-locks : (r x : Resource) (s : List ℕ) → unlockedOf (effect (Unlock r) s) x ≡ unlockedOf (set s (lockAt r) 1) x
+unfolding effect
+seed-locks r x s = lock-reads x (apart tt (only-seed (set s (lockAt r) 1) None))
+
+-- after UNLOCK both locks are as they were set
+unlocked-locks : (r x : Resource) (s cal meas : List ℕ) → unlockedOf (after (Unlock r) s cal meas) x ≡ unlockedOf (set s (lockAt r) 1) x
+unlocked-locks r x s cal meas =
+    let t : List ℕ = effect (Unlock r) s in
+    let bs : List ℕ = reply (Unlock r) s cal meas in
+    let a : Same 0 238 t (answered t bs) = answered-front t bs (answering (Unlock r) s cal meas 0 tt .few) in
+    lock-reads x (same-part (lit≤ tt) (lit≤ tt) a) ∙ seed-locks r x s
+
+other-is : (r : Resource) → otherLock r ≡ other r
+other-is Calibration = refl
+other-is Lists = refl
+
+pub unlocks-own : (s cal meas : List ℕ) (b : ℕ) (p : List ℕ) (r : Resource) → consistent s ≡ true
+    → Commands s b p → seedOf s ≡ For r → keyFor p ≡ true → keyMatches p r s ≡ true
+    → (unlockedOf (ours .receive s cal meas b .state) r ≡ true)
+    × (unlockedOf (ours .receive s cal meas b .state) (otherLock r) ≡ unlockedOf s (otherLock r))
+unlocks-own s cal meas b p r c w e k m =
+    let t : List ℕ = readBy s b in
+    let right : keyMatches p r t ≡ true = ap (λ (g : ℕ). eqb (u32At p 2) (keyOf r g)) (read-generator s b c) ∙ m in
+    let judged : deedOf p t cal meas ≡ Unlock r = key-judged p t r (length cal) (length meas) k (read-seed s b c ∙ e) ∙ rw right in
+    let step : receiveOf s cal meas b ≡ obeyed (Unlock r) p t cal meas = commanded s cal meas b p c w ∙ ap (λ (d : Deed). obeyed d p t cal meas) judged in
+    let locks : (x : Resource) → unlockedOf (receiveOf s cal meas b .state) x ≡ unlockedOf (set t (lockAt r) 1) x =
+    λ x. ap (λ (o : Step). unlockedOf (o .state) x) step ∙ unlocked-locks r x t cal meas in (
+      locks r ∙ lock-same t r (read-length s b c),
+      locks (otherLock r) ∙ rw (other-is r) (lock-other t r 1) ∙ read-lock s b c (otherLock r),
+    )

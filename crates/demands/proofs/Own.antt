@@ -1,0 +1,110 @@
+-- A list's own bytes: the packets of it that wait are read from these alone, so a change elsewhere leaves them. Assumes nothing.
+use Prim.Native.Nat.{ℕ, _+_, _*_, _≤_, _<_}
+use mathlib.Core.Path.{_≡_, refl}
+use mathlib.Core.Bool.{Bool, true, false, cond}
+use mathlib.Core.List.{List}
+use native.Mathlib.Omega.{arith}
+use borrow.Author.Tests.{ltb-false}
+use lib.Dec.{T, ltb, leb, le→leb, lit≤}
+use lib.ListN.{set}
+use Rattle.session.specs.Bytes.{cleared}
+use Rattle.session.specs.Lists.{sizeOf, odtBytes, modeOf, fitOf, runsOf}
+use Rattle.fields.proofs.Stores.{out}
+use Rattle.fields.proofs.Frames.{Only, only-set, only-cleared}
+use Rattle.fields.proofs.Readers.{Same, same-part, same-then, flag-reads, open-reads}
+use Rattle.demands.specs.Waiting.{waitingOf}
+use Rattle.demands.proofs.Waiting.{waiting-same}
+
+-- ---- t has the bytes of s that list l's waiting packets are read from: whether a session is open, the list's mode and running flag, the entries
+-- and the stores of its two ODTs
+pub record Own (l : ℕ) (s t : List ℕ) : Type 0 where
+  pub opened : Same 11 12 s t
+  pub mode : Same (21 + 3 * l) (22 + 3 * l) s t
+  pub running : Same (23 + 3 * l) (24 + 3 * l) s t
+  pub entered : Same (33 + 32 * l) (65 + 32 * l) s t
+  pub stores : Same (161 + 16 * l) (177 + 16 * l) s t
+
+pub own-none : {l : ℕ} {s : List ℕ} → Own l s s
+own-none = record { opened = as-was; mode = as-was; running = as-was; entered = as-was; stores = as-was } where
+  as-was : {a b : ℕ} {s : List ℕ} → Same a b s s
+  as-was = record { long = refl; byte = λ j p q. refl }
+
+-- the whole session
+pub own-same : {s t : List ℕ} (l : ℕ) → l < 4 → Same 11 225 s t → Own l s t
+own-same l h w =
+    record {
+      opened = same-part (lit≤ tt) (lit≤ tt) w;
+      mode = same-part (omega arith) (omega arith) w;
+      running = same-part (omega arith) (omega arith) w;
+      entered = same-part (omega arith) (omega arith) w;
+      stores = same-part (omega arith) (omega arith) w;
+    }
+
+pub own-then : {l : ℕ} {s t u : List ℕ} → Own l s t → Own l t u → Own l s u
+own-then p q = record {
+  opened = same-then (p .opened) (q .opened);
+  mode = same-then (p .mode) (q .mode);
+  running = same-then (p .running) (q .running);
+  entered = same-then (p .entered) (q .entered);
+  stores = same-then (p .stores) (q .stores);
+}
+
+-- of the bytes from lo up to hi none is one from a up to b
+abbrev pub Misses : ℕ → ℕ → ℕ → ℕ → Type 0
+Misses lo hi a b = (i : ℕ) → a ≤ i → i < b → lo ≤ i → hi ≤ i
+
+-- of the bytes from lo up to hi none is list l's own; `omega` proves it at once
+pub record Spares (l lo hi : ℕ) : Type 0 where
+  pub opened : Misses lo hi 11 12
+  pub mode : Misses lo hi (21 + 3 * l) (22 + 3 * l)
+  pub running : Misses lo hi (23 + 3 * l) (24 + 3 * l)
+  pub entered : Misses lo hi (33 + 32 * l) (65 + 32 * l)
+  pub stores : Misses lo hi (161 + 16 * l) (177 + 16 * l)
+
+-- a byte that does not lie among those from lo up to hi
+aside : (lo hi j : ℕ) → (lo ≤ j → hi ≤ j) → T (out lo hi j)
+aside lo hi j f = go (ltb j lo) refl where
+  go : (x : Bool) → ltb j lo ≡ x → T (cond x true (leb hi j))
+  go true e = tt
+  go false e = le→leb hi j (f (ltb-false j lo e))
+
+pub same-missed : {lo hi a b : ℕ} {s t : List ℕ} → Misses lo hi a b → Only lo hi s t → Same a b s t
+same-missed {lo} {hi} m w = record { long = w .long; byte = λ j p q. w .bytes j (aside lo hi j (m j p q)) }
+
+pub own-only : {l lo hi : ℕ} {s t : List ℕ} → Spares l lo hi → Only lo hi s t → Own l s t
+own-only m w = record {
+  opened = same-missed (m .opened) w;
+  mode = same-missed (m .mode) w;
+  running = same-missed (m .running) w;
+  entered = same-missed (m .entered) w;
+  stores = same-missed (m .stores) w;
+}
+
+pub own-set : {l : ℕ} (s : List ℕ) (i a : ℕ) → Spares l i (i + 1) → Own l s (set s i a)
+own-set s i a m = own-only m (only-set s i a (omega arith) (omega arith))
+
+pub own-cleared : {l : ℕ} (s : List ℕ) (i n : ℕ) → Spares l i (i + n) → Own l s (cleared s i n)
+own-cleared s i n m = own-only m (only-cleared s i n (omega arith) (omega arith))
+
+-- ---- what is read from them
+module _ {s t : List ℕ} where
+  odt-own : (k : ℕ) → Same (33 + 16 * k) (49 + 16 * k) s t → odtBytes t k ≡ odtBytes s k
+  unfolding odtBytes sizeOf
+  odt-own k w =
+      rw (w .byte (33 + 16 * k + 4 * 0) (omega arith) (omega arith), w .byte (33 + 16 * k + 4 * 1) (omega arith) (omega arith), w .byte (33 + 16 * k + 4 * 2) (omega arith) (omega arith), w .byte (33 + 16 * k + 4 * 3) (omega arith) (omega arith))
+
+  pub mode-own : (l : ℕ) → Own l s t → modeOf t l ≡ modeOf s l
+  unfolding modeOf
+  mode-own l w = rw (w .mode .byte (21 + 3 * l) (omega arith) (omega arith))
+
+  pub fit-own : (l : ℕ) → Own l s t → fitOf t l ≡ fitOf s l
+  unfolding fitOf
+  fit-own l w =
+      rw (mode-own l w, odt-own (2 * l) (same-part (omega arith) (omega arith) (w .entered)), odt-own (2 * l + 1) (same-part (omega arith) (omega arith) (w .entered)))
+
+  pub runs-own : (l : ℕ) → Own l s t → runsOf t l ≡ runsOf s l
+  unfolding runsOf
+  runs-own l w = rw (open-reads (w .opened), flag-reads (23 + 3 * l) (same-part (omega arith) (omega arith) (w .running)), fit-own l w)
+
+  pub waiting-reads : (l : ℕ) → Own l s t → waitingOf t l ≡ waitingOf s l
+  waiting-reads l w = waiting-same l (runs-own l w) (same-part (omega arith) (omega arith) (w .stores)) (same-part (omega arith) (omega arith) (w .stores))
