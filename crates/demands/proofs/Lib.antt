@@ -29,3 +29,12 @@ pub mod Downloads
 pub mod CutJudge
 pub mod Cut
 pub mod Demand2
+-- The third demand, and that nothing is lost.
+pub mod Ranking
+pub mod Carried
+pub mod After
+pub mod Soon
+pub mod Whole
+pub mod Reading
+pub mod Conserved
+pub mod Demand3

@@ -1,0 +1,104 @@
+-- Nothing lost, nothing invented: what holds of each call holds of a run. Assumes nothing.
+use Prim.Native.Nat.{ℕ, _≤_, _<_}
+use mathlib.Core.Path.{_≡_, refl, sym, ap, _∙_}
+use mathlib.Core.Bool.{Bool, true, false, cond}
+use mathlib.Core.List.{List, [], _∷_, _++_, append-nil, append-assoc}
+use native.Mathlib.Nat.{lt-of-not-le}
+use native.Mathlib.Decide.{decLe, ℕ-discrete}
+use lib.Dec.{lit≤}
+use lib.ListN.{length}
+use Rattle.line.specs.Message.{room}
+use Rattle.session.specs.Layout.{size, lists}
+use Rattle.session.specs.State.{consistent, ctrOf, answerOf}
+use Rattle.session.specs.Slot.{turnOf, packetOf, packetSent, slotOf}
+use Rattle.session.specs.declared.Turn.{Turn}
+use Rattle.session.specs.declared.Turn.the-variants.{Packet}
+use Rattle.session.proofs.Consistent.{consistent-size}
+use Rattle.fields.proofs.Readers.{same-part, waits-reads, answer-reads}
+use Rattle.fields.proofs.Served.{answerSent-waits, packetSent-rest}
+use Rattle.demands.specs.Slave.{ours}
+use Rattle.demands.specs.Runs.{Call, Byte, Event, Slot, Elsewhere, after, run, sends, each, frames}
+use Rattle.demands.specs.Heard.{stopsAt}
+use Rattle.demands.specs.Waiting.{waitingAnswer, waitingOf, packetFor, isAnswer, isOf, carried, answersIn}
+use Rattle.demands.specs.Kept.{accepts, gains, loses, NothingLost}
+use Rattle.demands.proofs.Reached.{after-kept}
+use Rattle.demands.proofs.Turns.{Fair, nobody, answer, list, fair}
+use Rattle.demands.proofs.Sends.{turned, framesOf, slot-state, slot-stays, slot-sends, slot-silent}
+use Rattle.demands.proofs.After.{answer-waiting, answer-answers}
+use Rattle.demands.proofs.Carried.{carried-append, carries, carries-none, packet-no-answer, packet-own, packet-other, answer-of-none}
+use Rattle.demands.proofs.ByteKeeps.{byte-waiting, byte-answer}
+use Rattle.demands.proofs.Events.{event-waiting, event-waits, event-answer}
+
+-- ---- whatever waits, goes and comes: if each call keeps the sum, a run does
+module _ (waiting : List ℕ → List (List ℕ)) (goes comes : List ℕ → Call → List (List ℕ)) where
+  abbrev Balanced : Type 0
+  Balanced = (s : List ℕ) (c : Call) → consistent s ≡ true → goes s c ++ waiting (after ours s c) ≡ waiting s ++ comes s c
+
+  pub balanced : Balanced → (s : List ℕ) (cs : List Call) → consistent s ≡ true → each goes ours s cs ++ waiting (run ours s cs) ≡ waiting s ++ each comes ours s cs
+  balanced step s [] h = sym (append-nil (waiting s))
+  balanced step s (c ∷ cs) h =
+      let t : List ℕ = after ours s c in
+      append-assoc (goes s c) (each goes ours (after ours s c) cs) (waiting (run ours (after ours s c) cs))
+      ∙ ap (λ (x : List (List ℕ)). goes s c ++ x) (balanced step (after ours s c) cs (after-kept s c h))
+      ∙ sym (append-assoc (goes s c) (waiting (after ours s c)) (each comes ours (after ours s c) cs))
+      ∙ ap (λ (x : List (List ℕ)). x ++ each comes ours (after ours s c) cs) (step s c h)
+      ∙ append-assoc (waiting s) (comes s c) (each comes ours (after ours s c) cs)
+
+-- ---- a slot, of which w is left and whose frames carry what passes a test
+slot-balanced : (test : List ℕ → Bool) (w : List ℕ → List (List ℕ)) (s out : List ℕ) → consistent s ≡ true
+    → ((t : Turn) → Fair s t → carried test (framesOf (ctrOf s) (packetFor t s)) ++ w (turned t s) ≡ w s)
+    → carried test (sends ours s (Slot out)) ++ w (slotOf s out .state) ≡ w s ++ []
+slot-balanced test w s out c f = elim (decLe room (length out)) [ yes r ↦ with-room r | no r ↦ without (lt-of-not-le r) ] where
+  with-room : room ≤ length out → carried test (sends ours s (Slot out)) ++ w (slotOf s out .state) ≡ w s ++ []
+  with-room r = rw (slot-sends s out c r, slot-state s out c r) (f (turnOf s) (fair s (consistent-size s c)) ∙ sym (append-nil (w s)))
+
+  without : length out < room → carried test (sends ours s (Slot out)) ++ w (slotOf s out .state) ≡ w s ++ []
+  without r = rw (slot-silent s out c r, slot-stays s out c r) (sym (append-nil (w s)))
+
+-- ---- answers
+answered-turn : (s : List ℕ) (t : Turn) → length s ≡ size → Fair s t → carried isAnswer (framesOf (ctrOf s) (packetFor t s)) ++ waitingAnswer (turned t s) ≡ waitingAnswer s
+answered-turn s _ h nobody = refl
+answered-turn s _ h (answer w) = rw (carries isAnswer (ctrOf s) (answerOf s) (answer-answers s h w), answerSent-waits s h, w)
+answered-turn s _ h (list j k n) =
+    let y = packetSent-rest s k (n .odt) in
+    rw (carries-none isAnswer (ctrOf s) (packetOf s k) (packet-no-answer s k (n .odt)), waits-reads (same-part (lit≤ tt) (lit≤ tt) y), answer-reads (same-part (lit≤ tt) (lit≤ tt) y))
+
+answers-step : (s : List ℕ) (c : Call) → consistent s ≡ true → answersIn (sends ours s c) ++ waitingAnswer (after ours s c) ≡ waitingAnswer s ++ accepts ours s c
+answers-step s (Byte cal meas b) h = byte-answer s cal meas b h
+answers-step s (Event cal meas event clock) h = rw (event-waits s cal meas event clock, event-answer s cal meas event clock) (sym (append-nil (waitingAnswer s)))
+answers-step s (Slot out) h = slot-balanced isAnswer waitingAnswer s out h (λ t f. answered-turn s t (consistent-size s h) f)
+answers-step s Elsewhere h = sym (append-nil (waitingAnswer s))
+
+-- the answers that a run's frames carry, call by call
+answers-each : (s : List ℕ) (cs : List Call) → answersIn (frames ours s cs) ≡ each (λ (t : List ℕ) (c : Call). answersIn (sends ours t c)) ours s cs
+answers-each s [] = refl
+answers-each s (c ∷ cs) =
+    carried-append isAnswer (sends ours s c) (frames ours (after ours s c) cs) ∙ ap (λ (x : List (List ℕ)). answersIn (sends ours s c) ++ x) (answers-each (after ours s c) cs)
+
+-- ---- the packets of list l
+packet-turn : (s : List ℕ) (l : ℕ) (t : Turn) → length s ≡ size → l < lists → Fair s t → carried (isOf l) (framesOf (ctrOf s) (packetFor t s)) ++ waitingOf (turned t s) l ≡ waitingOf s l
+packet-turn s l _ h q nobody = refl
+packet-turn s l _ h q (answer w) = rw (carries-none (isOf l) (ctrOf s) (answerOf s) (answer-of-none l (answerOf s) (answer-answers s h w))) (answer-waiting s l q)
+packet-turn s l _ h q (list j k n) = elim (ℕ-discrete l j) [ yes e ↦ own e | no e ↦ another e ] where
+  own : l ≡ j → carried (isOf l) (framesOf (ctrOf s) (packetFor (Packet k) s)) ++ waitingOf (packetSent s k) l ≡ waitingOf s l
+  own e = rw (e, carries (isOf j) (ctrOf s) (packetOf s k) (packet-own s j k (n .odt) (n .list)), n .left, n .waiting)
+
+  another : (l ≡ j → ⊥) → carried (isOf l) (framesOf (ctrOf s) (packetFor (Packet k) s)) ++ waitingOf (packetSent s k) l ≡ waitingOf s l
+  another e = rw (carries-none (isOf l) (ctrOf s) (packetOf s k) (packet-other s l j k (n .odt) (n .list) e)) (n .others l q e)
+
+stopped-or-kept : (t : Bool) (w : List (List ℕ)) → cond t w [] ++ cond t [] w ≡ w ++ []
+stopped-or-kept true w = refl
+stopped-or-kept false w = sym (append-nil w)
+
+packets-step : (l : ℕ) → l < lists → (s : List ℕ) (c : Call) → consistent s ≡ true → loses ours l s c ++ waitingOf (after ours s c) l ≡ waitingOf s l ++ gains ours l s c
+packets-step l q s (Byte cal meas b) h = rw (byte-waiting s cal meas b h l q) (stopped-or-kept (stopsAt l s cal meas b) (waitingOf s l))
+packets-step l q s (Event cal meas event clock) h = event-waiting s cal meas event clock l h q
+packets-step l q s (Slot out) h = slot-balanced (isOf l) (λ (t : List ℕ). waitingOf t l) s out h (λ t f. packet-turn s l t (consistent-size s h) q f)
+packets-step l q s Elsewhere h = sym (append-nil (waitingOf s l))
+
+pub nothing-lost : NothingLost ours
+nothing-lost =
+    record {
+      answers = λ s cs h. rw (answers-each s cs) (balanced waitingAnswer (λ (t : List ℕ) (c : Call). answersIn (sends ours t c)) (accepts ours) answers-step s cs h);
+      packets = λ s l cs h q. balanced (λ (t : List ℕ). waitingOf t l) (loses ours l) (gains ours l) (packets-step l q) s cs h;
+    }
