@@ -38,3 +38,6 @@ pub mod Whole
 pub mod Reading
 pub mod Conserved
 pub mod Demand3
+-- What the demands shut out.
+pub mod Computed
+pub mod ShutOut

@@ -9,3 +9,5 @@ pub mod Demand1
 pub mod Demand2
 pub mod Demand3
 pub mod Kept
+pub mod Exchange
+pub mod Wrong
