@@ -41,3 +41,5 @@ pub mod Demand3
 -- What the demands shut out.
 pub mod Computed
 pub mod ShutOut
+-- The bench sheet.
+pub mod Table

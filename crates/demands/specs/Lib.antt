@@ -11,3 +11,4 @@ pub mod Demand3
 pub mod Kept
 pub mod Exchange
 pub mod Wrong
+pub mod Table
