@@ -40,6 +40,7 @@ pub mod Conserved
 pub mod Demand3
 -- What the demands shut out.
 pub mod Computed
+pub mod AsOurs
 pub mod ShutOut
 -- The bench sheet.
 pub mod Table

@@ -1,42 +1,73 @@
 -- Every starred case of the bench sheet, by computation. Assumes nothing.
 use Prim.Native.Nat.{ℕ}
-use mathlib.Core.Path.{_≡_, refl, ap, sym, subst}
+use mathlib.Core.Path.{_≡_, refl, ap, sym, _∙_, subst}
+use mathlib.Core.Bool.{Bool, true, false}
+use mathlib.Core.Option.{Option, some}
 use mathlib.Core.List.{List, [], _∷_}
 use lib.ListN.{length}
 use lib.Seq.{sets}
 use Rattle.session.specs.Layout.{addressable}
+use Rattle.session.specs.State.{consistent, openOf, waits, answerOf}
 use Rattle.session.specs.Judge.{judge}
-use Rattle.session.specs.Perform.{reply, written}
+use Rattle.session.specs.Receive.{obeyed, heeded}
 use Rattle.session.specs.declared.Deed.{Deed}
 use Rattle.session.specs.declared.Deed.the-variants.{Refuse, Download}
 use Rattle.session.specs.declared.Reason.the-variants.{NotInside}
-use Rattle.demands.specs.Heard.{deedOf, answerTo}
-use Rattle.demands.specs.Table.{Holds, table, download, writableAt}
+use Rattle.demands.specs.Slave.{Slave}
+use Rattle.demands.specs.Heard.{packetEnded, readBy, deedOf}
+use Rattle.demands.specs.Demand2.{Demand2}
+use Rattle.demands.specs.Exchange.{lastByte}
+use Rattle.demands.specs.Table.{Holds, table, download, sixBegunAt}
 use Rattle.demands.proofs.Computed.{computed}
 
 pub bench-sheet : Holds table
 unfolding computed
 bench-sheet = (refl, (refl, (refl, (refl, (refl, (refl, (refl, (refl, (refl, (refl, (refl, (refl, (refl, (refl, (refl, (refl, (refl, tt)))))))))))))))))
 
--- ---- case 8, with whatever memory of 4,096 bytes
+-- ---- case 8 with whatever memory of 4,096 bytes, of every slave that meets demand 2
+-- a command that is heeded in an open session
+obeys : (p s cal meas : List ℕ) → waits s ≡ false → openOf s ≡ true → heeded p s cal meas ≡ obeyed (deedOf p s cal meas) p s cal meas
+unfolding heeded
+obeys p s cal meas w o = simp (w, o)
+
+-- how DOWNLOAD of 6 stands at its last byte b
+record Standing : Type 0 where
+  sound : Bool
+  ended : Option (List ℕ)
+  waiting : Bool
+  opened : Bool
+
+standing : List ℕ → ℕ → Standing
+standing s b = record { sound = consistent s; ended = packetEnded s b; waiting = waits (readBy s b); opened = openOf (readBy s b) }
+
+ready : Standing
+ready = record { sound = true; ended = some (download 6); waiting = false; opened = true }
+
 -- the deed follows from the memory's length
-six : (s cal meas : List ℕ) (d : Deed) → length cal ≡ addressable → ((nm : ℕ) → judge (download 6) s addressable nm ≡ d) → deedOf (download 6) s cal meas ≡ d
-six s cal meas d e j = subst (λ n. judge (download 6) s n (length meas) ≡ d) (sym e) (j (length meas))
+six : (v : Slave) (s cal meas : List ℕ) (b : ℕ) (d : Deed) → Demand2 v → standing s b ≡ ready → length cal ≡ addressable → ((nm : ℕ) → judge (download 6) (readBy s b) addressable nm ≡ d)
+    → v .receive s cal meas b ≡ obeyed d (download 6) (readBy s b) cal meas
+unfolding standing ready
+six v s cal meas b d meets e long j =
+    meets .heeds s cal meas b (download 6) (ap (λ x. x .sound) e) (ap (λ x. x .ended) e)
+    ∙ (obeys (download 6) (readBy s b) cal meas (ap (λ x. x .waiting) e) (ap (λ x. x .opened) e)
+    ∙ ap (λ x. obeyed x (download 6) (readBy s b) cal meas) (subst (λ n. judge (download 6) (readBy s b) n (length meas) ≡ d) (sym long) (j (length meas))))
 
 -- at 4,090 the answer is FF, and the six bytes are written
-pub six-at-4090 : (cal meas : List ℕ) → length cal ≡ addressable
-    → (answerTo (download 6) (writableAt 0xFA 0x0F) cal meas ≡ 0xFF ∷ [])
-    × (written (deedOf (download 6) (writableAt 0xFA 0x0F) cal meas) (download 6) cal ≡ sets cal 4090 (1 ∷ 2 ∷ 3 ∷ 4 ∷ 5 ∷ 6 ∷ []))
-unfolding computed
-six-at-4090 cal meas e =
-    let d : deedOf (download 6) (writableAt 0xFA 0x0F) cal meas ≡ Download 4090 6 = six (writableAt 0xFA 0x0F) cal meas (Download 4090 6) e (λ nm. refl) in
-    (ap (λ x. reply x (writableAt 0xFA 0x0F) cal meas) d, ap (λ x. written x (download 6) cal) d)
+pub six-at-4090 : (v : Slave) (cal meas : List ℕ) → Demand2 v → length cal ≡ addressable
+    → (answerOf (v .receive (sixBegunAt 0xFA 0x0F) cal meas (lastByte (download 6)) .state) ≡ 0xFF ∷ [])
+    × (v .receive (sixBegunAt 0xFA 0x0F) cal meas (lastByte (download 6)) .cal ≡ sets cal 4090 (1 ∷ 2 ∷ 3 ∷ 4 ∷ 5 ∷ 6 ∷ []))
+unfolding computed standing ready
+six-at-4090 v cal meas meets long =
+    let e : v .receive (sixBegunAt 0xFA 0x0F) cal meas (lastByte (download 6)) ≡ obeyed (Download 4090 6) (download 6) (readBy (sixBegunAt 0xFA 0x0F) (lastByte (download 6))) cal meas
+    = six v (sixBegunAt 0xFA 0x0F) cal meas (lastByte (download 6)) (Download 4090 6) meets refl long (λ nm. refl) in
+    (ap (λ o. answerOf (o .state)) e, ap (λ o. o .cal) e)
 
 -- at 4,091 the answer is FE 24, and no byte changes
-pub six-at-4091 : (cal meas : List ℕ) → length cal ≡ addressable
-    → (answerTo (download 6) (writableAt 0xFB 0x0F) cal meas ≡ 0xFE ∷ 0x24 ∷ [])
-    × (written (deedOf (download 6) (writableAt 0xFB 0x0F) cal meas) (download 6) cal ≡ cal)
-unfolding computed
-six-at-4091 cal meas e =
-    let d : deedOf (download 6) (writableAt 0xFB 0x0F) cal meas ≡ Refuse NotInside = six (writableAt 0xFB 0x0F) cal meas (Refuse NotInside) e (λ nm. refl) in
-    (ap (λ x. reply x (writableAt 0xFB 0x0F) cal meas) d, ap (λ x. written x (download 6) cal) d)
+pub six-at-4091 : (v : Slave) (cal meas : List ℕ) → Demand2 v → length cal ≡ addressable
+    → (answerOf (v .receive (sixBegunAt 0xFB 0x0F) cal meas (lastByte (download 6)) .state) ≡ 0xFE ∷ 0x24 ∷ [])
+    × (v .receive (sixBegunAt 0xFB 0x0F) cal meas (lastByte (download 6)) .cal ≡ cal)
+unfolding computed standing ready
+six-at-4091 v cal meas meets long =
+    let e : v .receive (sixBegunAt 0xFB 0x0F) cal meas (lastByte (download 6)) ≡ obeyed (Refuse NotInside) (download 6) (readBy (sixBegunAt 0xFB 0x0F) (lastByte (download 6))) cal meas
+    = six v (sixBegunAt 0xFB 0x0F) cal meas (lastByte (download 6)) (Refuse NotInside) meets refl long (λ nm. refl) in
+    (ap (λ o. answerOf (o .state)) e, ap (λ o. o .cal) e)

@@ -12,9 +12,9 @@ use Rattle.session.specs.Perform.{reply}
 use Rattle.session.specs.PowerUp.{powered}
 use Rattle.session.specs.declared.Resource.the-variants.{Calibration, Lists}
 use Rattle.demands.specs.Slave.{ours}
-use Rattle.demands.specs.Runs.{Call, Event, frames}
+use Rattle.demands.specs.Runs.{Call, Event, run, frames}
 use Rattle.demands.specs.Waiting.{packetRead}
-use Rattle.demands.specs.Exchange.{slot, bytes, asks, askAll, reached, connect, synch, seedOfCalibration, seedOfLists, keyOfCalibration, keyOfLists, mtaTo, uploadFirst, writable, listable, pointTo, entryOf, onEvent0, start}
+use Rattle.demands.specs.Exchange.{slot, bytes, asks, askAll, begins, reached, connect, synch, seedOfCalibration, seedOfLists, keyOfCalibration, keyOfLists, mtaTo, uploadFirst, writable, listable, pointTo, entryOf, onEvent0, start}
 
 pub record Row : Type 0 where
   pub number : ℕ
@@ -46,6 +46,10 @@ download n = 0xF0 ∷ n ∷ 1 ∷ 2 ∷ 3 ∷ 4 ∷ 5 ∷ 6 ∷ []
 -- calibration unlocked and the MTA at an address with these low bytes
 abbrev pub writableAt : ℕ → ℕ → List ℕ
 writableAt a b = reached ours (writable ++ asks [] [] (mtaTo a b))
+
+-- the same, with DOWNLOAD of 6 but for its last byte
+abbrev pub sixBegunAt : ℕ → ℕ → List ℕ
+sixBegunAt a b = run ours (writableAt a b) (begins [] [] (download 6))
 
 -- the answer to DOWNLOAD of 6 with 4,096 bytes lent
 abbrev pub sixAt : ℕ → ℕ → List ℕ
