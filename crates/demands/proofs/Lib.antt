@@ -44,3 +44,6 @@ pub mod AsOurs
 pub mod ShutOut
 -- The bench sheet.
 pub mod Table
+-- Each premise is met, and each bound is tight.
+pub mod Bounds
+pub mod AnswerBound
