@@ -59,48 +59,26 @@ impl Subject for Proved {
     }
 }
 
-/// The plain slave; each byte is a call.
+/// The plain slave: each byte is a call, or the loop over the bytes has its reader inside.
 #[derive(Clone)]
-pub struct Called(Slave);
+pub struct Plain<const INLINED: bool>(Slave);
 
-impl Subject for Called {
-    fn power_up(start: u32) -> Called {
-        Called(Slave::power_up(start))
+pub type Called = Plain<false>;
+pub type Inlined = Plain<true>;
+
+impl<const INLINED: bool> Subject for Plain<INLINED> {
+    fn power_up(start: u32) -> Self {
+        Plain(Slave::power_up(start))
     }
 
     #[inline(always)]
     fn byte(&mut self, memories: &mut Memories, byte: u8) -> u32 {
-        self.0.receive_byte(&mut memories.cal, &memories.meas, byte)
-    }
-
-    #[inline(always)]
-    fn event(&mut self, memories: &Memories, event: u32, clock: u16) -> u32 {
-        self.0.event(&memories.cal, &memories.meas, event, clock)
-    }
-
-    #[inline(always)]
-    fn slot(&mut self, out: &mut [u8]) -> u32 {
-        self.0.slot(out)
-    }
-
-    fn number(result: u32) -> u32 {
-        result
-    }
-}
-
-/// The plain slave; the loop over the bytes has its reader inside.
-#[derive(Clone)]
-pub struct Inlined(Slave);
-
-impl Subject for Inlined {
-    fn power_up(start: u32) -> Inlined {
-        Inlined(Slave::power_up(start))
-    }
-
-    #[inline(always)]
-    fn byte(&mut self, memories: &mut Memories, byte: u8) -> u32 {
-        self.0
-            .receive_byte_inlined(&mut memories.cal, &memories.meas, byte)
+        if INLINED {
+            self.0
+                .receive_byte_inlined(&mut memories.cal, &memories.meas, byte)
+        } else {
+            self.0.receive_byte(&mut memories.cal, &memories.meas, byte)
+        }
     }
 
     #[inline(always)]
