@@ -55,8 +55,13 @@ pub fn receive(s: &mut [u8], cal: &mut [u8], meas: &[u8], byte: u8) -> Received
     let place = state::place(s);
     let taken = line::take(place, &mut s[layout::MESSAGE..layout::ANSWER], byte);
     let next = taken.place;
-    state::set_place(s, next);
     let outcome = taken.outcome;
+    // Most bytes end nothing. They leave here, with no table of outcomes to go through.
+    if let Outcome::Nothing = outcome {
+        state::set_place(s, next);
+        return Received::Nothing;
+    }
+    state::set_place(s, next);
     match outcome {
         Outcome::Nothing => Received::Nothing,
         Outcome::Good { ctr: _, at: _, len } => heed(s, cal, meas, len as u8),
