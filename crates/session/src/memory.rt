@@ -2,7 +2,6 @@
 ghost use mathlib.Core.Path.{_≡_};
 ghost use Prim.Native.Nat.{_+_, _≤_};
 ghost use lib.ListN.{length};
-ghost use Rattle.session.specs.Layout.{addressable};
 ghost use Rattle.session.specs.Memory.{reach, pick, insideOf, blockSum, byteOf};
 use crate::Extension;
 use crate::layout::ADDRESSABLE;
@@ -37,16 +36,16 @@ pub fn inside(address: u32, n: u32, length: usize) -> bool
 
 // The sum of a block's bytes, modulo 65,536.
 pub fn block_sum(mem: &[u8], at: usize, n: usize) -> u32
-    requires { ⌜ (at + n ≤ length (now mem)) × (n ≤ addressable) ⌝ }
+    requires { ⌜ at + n ≤ length (now mem) ⌝ }
     ensures { λ r. ⌜ r ≡ blockSum (now (mem .entry)) at n ⌝ }
 {
-    let mut sum: u32 = 0;
+    let mut sum: u16 = 0;
     let mut i = 0;
     while i < n {
-        sum += mem[at + i] as u32;
+        sum = std::num::wrapping_add_u16(sum, mem[at + i] as u16);
         i += 1;
     }
-    sum % 65536
+    sum as u32
 }
 
 // A byte of a memory, 0 where it is not inside.
