@@ -1,28 +1,18 @@
 -- A run of ours in which every premise of an answer's bound is met, and one slot is not enough: the first sends a list's packet. Assumes nothing.
-use Prim.Native.Nat.{ℕ, _≤_}
+use Prim.Native.Nat.{ℕ}
 use mathlib.Core.Path.{_≡_, refl, ap, sym, subst, subst₂}
-use mathlib.Core.Bool.{true, false}
 use mathlib.Core.List.{List, [], _∷_, _++_}
 use native.Mathlib.Omega.{arith}
 use lib.Dec.{lit≤}
 use lib.ListN.{length, length-append, getD, replicate}
-use Rattle.line.specs.Message.{most, room, frame}
-use Rattle.session.specs.State.{consistent, ctrOf, openOf, waits}
+use Rattle.line.specs.Message.{room, frame}
+use Rattle.session.specs.State.{ctrOf}
 use Rattle.demands.specs.Slave.{Slave, ours}
-use Rattle.demands.specs.Runs.{Call, Byte, Event, Slot, Elsewhere, run, frames, sends, slots, received}
-use Rattle.demands.specs.Heard.{readBy, answerTo}
+use Rattle.demands.specs.Runs.{Call, Byte, Event, Slot, Elsewhere, run, frames, sends}
 use Rattle.demands.specs.Waiting.{answersIn}
-use Rattle.demands.specs.Demand3.{LeavesWithin}
+use Rattle.demands.specs.Demand3.{LeavesWithin, AnsweredBy}
 use Rattle.demands.specs.Exchange.{slot, begins, lastByte, reached, synch, measuring}
 use Rattle.demands.proofs.Computed.{computed}
-
--- `answered` of demand 3, with n in the place of 2
-abbrev pub AnsweredBy : ℕ → Slave → Type 0
-AnsweredBy n v =
-    (s : List ℕ) (before : List Call) (cal meas : List ℕ) (b : ℕ) (later : List Call) (ctr : ℕ) (p : List ℕ) → consistent s ≡ true
-    → 1 ≤ length p → length p ≤ most → received before ++ b ∷ [] ≡ frame ctr p
-    → openOf (run v s before) ≡ true → waits (run v s before) ≡ false → n ≤ slots later
-    → LeavesWithin n v (v .receive (run v s before) cal meas b .state) (answerTo p (readBy (run v s before) b) cal meas) later
 
 -- ---- in a run that is one slot, that slot is the one
 abbrev lent : List Call → List ℕ
@@ -54,7 +44,7 @@ started = reached ours (measuring (5 ∷ []) ++ slot ∷ [])
 pub one-slot-is-not-enough : AnsweredBy 1 ours → ⊥
 unfolding computed
 one-slot-is-not-enough d =
-    let e : _≡_ {A = ℕ} 0 0xFE = ap (λ fs. getD (getD fs 0 []) 3 0) (in-the-first 1 ours (ours .receive (run ours started calls) [] [] (lastByte synch) .state) (0xFE ∷ 0 ∷ []) (replicate room 0) (d started calls [] [] (lastByte synch) (slot ∷ []) 0 synch refl (lit≤ tt) (lit≤ tt) refl refl refl (lit≤ tt)))
+    let e : _≡_ {A = ℕ} 0 0xFE = ap (λ fs. getD (getD fs 0 []) 3 0) (in-the-first 1 ours (ours .receive (run ours started calls) [] [] (lastByte synch) .state) (0xFE ∷ 0 ∷ []) (replicate room 0) (d started calls [] [] (lastByte synch) (slot ∷ []) 0 synch refl (lit≤ tt) (lit≤ tt) refl refl refl .leaves (lit≤ tt)))
     in omega arith
 
 -- the second sends it

@@ -1,5 +1,5 @@
 -- Runs of ours in which every premise of demand 3 is met, and its bounds are tight: a smaller one fails. Assumes nothing.
-use Prim.Native.Nat.{ℕ, zero, suc, _+_, _*_, _≤_, _<_}
+use Prim.Native.Nat.{ℕ, zero, suc, _*_, _-_, _≤_}
 use mathlib.Core.Path.{_≡_, refl, ap, sym, _∙_, subst}
 use mathlib.Core.Bool.{Bool, true, false, cond}
 use mathlib.Core.List.{List, [], _∷_, _++_}
@@ -14,24 +14,12 @@ use Rattle.session.specs.Event.{samplingOf}
 use Rattle.session.specs.declared.Sampling.{Sampling}
 use Rattle.session.specs.declared.Sampling.the-variants.{Sampled}
 use Rattle.demands.specs.Slave.{Slave, ours}
-use Rattle.demands.specs.Runs.{Call, Byte, Event, Slot, Elsewhere, after, frames, slots}
+use Rattle.demands.specs.Runs.{Call, Byte, Event, Slot, Elsewhere, after, frames}
 use Rattle.demands.specs.Heard.{stopsAt}
 use Rattle.demands.specs.Waiting.{waitingOf, sampleOf, packetsIn}
-use Rattle.demands.specs.Demand3.{Undisturbed, Begins}
+use Rattle.demands.specs.Demand3.{Undisturbed, Begins, WholeBy, SampledBy}
 use Rattle.demands.specs.Exchange.{slot, says, askAll, reached, synch, listable, pointTo, entryOf, onEvent0, start}
 use Rattle.demands.proofs.Computed.{computed}
-
--- ---- `sampled` of demand 3 with n in the place of 16, and `whole` with n slots fewer
-abbrev pub SampledBy : ℕ → Slave → Type 0
-SampledBy n v =
-    (s cal meas : List ℕ) (event clock l : ℕ) (cs : List Call) → consistent s ≡ true → event ≤ 1 → l < lists → samplingOf s l event ≡ Sampled
-    → Undisturbed v l (v .event s cal meas event clock .state) cs → n ≤ slots cs
-    → Begins (sampleOf s l clock cal meas) (packetsIn l (frames v (v .event s cal meas event clock .state) cs))
-
-abbrev pub WholeBut : ℕ → Slave → Type 0
-WholeBut n v =
-    (s : List ℕ) (l : ℕ) (cs : List Call) → consistent s ≡ true → l < lists → Undisturbed v l s cs
-    → 2 * (lists * length (waitingOf s l)) ≤ n + slots cs → Begins (waitingOf s l) (packetsIn l (frames v s cs))
 
 -- ---- whether a run is undisturbed can be computed
 unfoldable undisturbed : Slave → ℕ → List ℕ → List Call → Bool
@@ -136,18 +124,18 @@ not-sampled s k d =
     not-both (sampleOf s 3 1 [] (6 ∷ [])) (packetsIn 3 (frames ours (sampledAgain s) fifteen)) (ap (λ x. x .sample) k) (ap (λ x. x .early) k)
     (d s [] (6 ∷ []) 0 1 3 fifteen (ap (λ x. x .sound) k) (lit≤ tt) (lit< tt) (ap (λ x. x .sampling) k) (calm-known s k) (lit≤ tt))
 
-not-whole : (s : List ℕ) → known s ≡ expected → WholeBut 1 ours → ⊥
+not-whole : (s : List ℕ) → known s ≡ expected → WholeBy (λ p. 2 * (lists * p) - 1) ours → ⊥
 unfolding known expected
 not-whole s k d =
     let two : length (waitingOf (sampledAgain s) 3) ≡ 2 = ap (λ x. length (x .waiting)) k in
     not-both (waitingOf (sampledAgain s) 3) (packetsIn 3 (frames ours (sampledAgain s) fifteen)) (ap (λ x. x .waiting) k) (ap (λ x. x .early) k)
-    (d (sampledAgain s) 3 fifteen (ap (λ x. x .next) k) (lit< tt) (calm-known s k) (subst (λ n. 2 * (lists * n) ≤ 16) (sym two) (lit≤ tt)))
+    (d (sampledAgain s) 3 fifteen (ap (λ x. x .next) k) (lit< tt) (calm-known s k) (subst (λ n. 2 * (lists * n) - 1 ≤ 15) (sym two) (lit≤ tt)))
 
 -- fifteen slots are not enough for a sample, nor for what waits of a list; sixteen are
 pub fifteen-are-not-enough : SampledBy 15 ours → ⊥
 fifteen-are-not-enough = not-sampled (reached ours four) computes
 
-pub one-fewer-is-not-enough : WholeBut 1 ours → ⊥
+pub one-fewer-is-not-enough : WholeBy (λ p. 2 * (lists * p) - 1) ours → ⊥
 one-fewer-is-not-enough = not-whole (reached ours four) computes
 
 pub sixteen-are : packetsIn 3 (frames ours (sampledAgain (reached ours four)) sixteen) ≡ sampleOf (reached ours four) 3 1 [] (6 ∷ [])

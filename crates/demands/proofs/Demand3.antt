@@ -1,23 +1,22 @@
 -- The third demand is met. Assumes nothing.
-use Prim.Native.Nat.{ℕ, _≤_}
+use Prim.Native.Nat.{ℕ}
 use mathlib.Core.Path.{_≡_, ap, _∙_, subst}
-use mathlib.Core.Bool.{true, false}
+use mathlib.Core.Bool.{true}
 use mathlib.Core.Option.{some}
-use mathlib.Core.List.{List, [], _∷_, _++_}
+use mathlib.Core.List.{List}
 use lib.ListN.{length}
-use Rattle.line.specs.Message.{most, frame}
 use Rattle.session.specs.Layout.{placeAt, answerAt}
-use Rattle.session.specs.State.{consistent, openOf, waits, answerOf}
+use Rattle.session.specs.State.{consistent, waits, answerOf}
 use Rattle.session.specs.Receive.{Step, only, heeded, receiveOf}
 use Rattle.session.specs.declared.Received.the-variants.{Answered, Unread}
 use Rattle.session.proofs.Doable.{judge-doable}
 use Rattle.fields.proofs.Effects.{after-waits}
 use Rattle.fields.proofs.Kept.{receive-kept}
 use Rattle.demands.specs.Slave.{ours}
-use Rattle.demands.specs.Runs.{Call, run, received}
+use Rattle.demands.specs.Runs.{Call, run}
 use Rattle.demands.specs.Heard.{packetEnded, readBy, Commands, deedOf, answerTo}
 use Rattle.demands.specs.Demand1.{Leaves}
-use Rattle.demands.specs.Demand3.{LeavesWithin, AnsweredSoon, Demand3}
+use Rattle.demands.specs.Demand3.{LeavesWithin, AnsweredSoon, AnsweredBy, Demand3}
 use Rattle.demands.proofs.ReadBy.{read-only, read-length, read-waits}
 use Rattle.demands.proofs.Unchanged.{all-but}
 use Rattle.demands.proofs.Received.{heeds-right, commanded, command-answer}
@@ -36,7 +35,7 @@ module _ (s cal meas : List ℕ) (b : ℕ) (p : List ℕ) (c : consistent s ≡ 
       ap (λ (o : Step). waits (o .state)) (commanded s cal meas b p c w)
       ∙ after-waits (deedOf p (readBy s b) cal meas) (readBy s b) cal meas (length p) (read-length s b c) (judge-doable p (readBy s b) (length cal) (length meas))
 
-  command-soon : (later : List Call) → AnsweredSoon ours s cal meas b p later
+  command-soon : (later : List Call) → AnsweredSoon 2 ours s cal meas b p later
   command-soon later =
       let a : answerOf (receiveOf s cal meas b .state) ≡ answerTo p (readBy s b) cal meas = command-answer s cal meas b p c w in
       record {
@@ -47,9 +46,7 @@ module _ (s cal meas : List ℕ) (b : ℕ) (p : List ℕ) (c : consistent s ≡ 
       }
 
 -- its bytes interleaved with any other calls
-answered-soon : (s : List ℕ) (before : List Call) (cal meas : List ℕ) (b : ℕ) (later : List Call) (ctr : ℕ) (p : List ℕ) → consistent s ≡ true
-    → 1 ≤ length p → length p ≤ most → received before ++ b ∷ [] ≡ frame ctr p → openOf (run ours s before) ≡ true → waits (run ours s before) ≡ false
-    → AnsweredSoon ours (run ours s before) cal meas b p later
+answered-soon : AnsweredBy 2 ours
 answered-soon s before cal meas b later ctr p c one few e o f =
     command-soon (run ours s before) cal meas b p (run-kept s before c) (record { ends = frame-ends s before b ctr p c one few e; opened = o; free = f }) later
 

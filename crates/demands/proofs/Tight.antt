@@ -23,10 +23,7 @@ use Rattle.session.specs.declared.Evented.{Evented}
 use Rattle.session.specs.declared.Slotted.{Slotted}
 use Rattle.session.specs.declared.PoweredUp.{PoweredUp}
 use Rattle.slave.specs.Returns as c
-
--- any two outcomes that meet the promise P are the same
-abbrev pub Tight : {O : Type 0} → (O → Type 0) → Type 0
-Tight {O} P = (o o′ : O) → P o → P o′ → o ≡ o′
+use Rattle.demands.specs.Tight.{Tight}
 
 -- as where the inputs alone give the one that does
 pinned : {O : Type 0} (P : O → Type 0) (one : O) → ((o : O) → P o → o ≡ one) → Tight P

@@ -29,12 +29,12 @@ pub record LeavesWithin (n : ℕ) (v : Slave) (s : List ℕ) (a : List ℕ) (cs 
   pub sent : sends v (run v s before) (Slot out) ≡ frame (ctrOf (run v s before)) a ∷ []
   pub gone : waits (after v (run v s before) (Slot out)) ≡ false
 
--- byte b ends command p in state s: it is answered, and the answer that the definitions give leaves in the first or second counted slot after
-pub record AnsweredSoon (v : Slave) (s cal meas : List ℕ) (b : ℕ) (p : List ℕ) (later : List Call) : Type 0 where
+-- byte b ends command p in state s: it is answered, and the answer that the definitions give leaves in one of the first n counted slots after
+pub record AnsweredSoon (n : ℕ) (v : Slave) (s cal meas : List ℕ) (b : ℕ) (p : List ℕ) (later : List Call) : Type 0 where
   pub number : v .receive s cal meas b .received ≡ Answered
   pub waiting : waits (v .receive s cal meas b .state) ≡ true
   pub answer : answerOf (v .receive s cal meas b .state) ≡ answerTo p (readBy s b) cal meas
-  pub leaves : 2 ≤ slots later → LeavesWithin 2 v (v .receive s cal meas b .state) (answerTo p (readBy s b) cal meas) later
+  pub leaves : n ≤ slots later → LeavesWithin n v (v .receive s cal meas b .state) (answerTo p (readBy s b) cal meas) later
 
 -- in no call of the run list l is stopped, or its session ended or renewed
 abbrev pub Undisturbed : Slave → ℕ → List ℕ → List Call → Type 0
@@ -48,22 +48,38 @@ Undisturbed v l s (Elsewhere ∷ cs) = Undisturbed v l s cs
 abbrev pub Begins : List (List ℕ) → List (List ℕ) → Type 0
 Begins xs ys = (rest : List (List ℕ)) × (ys ≡ xs ++ rest)
 
+-- ---- the demand, with its numbers to be given
+-- from any state, a whole frame, its bytes interleaved with any events and slots, that ends while a session is open and no answer waits, is answered,
+-- and its answer leaves in one of the first n counted slots after, whatever calls come between
+abbrev pub AnsweredBy : ℕ → Slave → Type 0
+AnsweredBy n v =
+    (s : List ℕ) (before : List Call) (cal meas : List ℕ) (b : ℕ) (later : List Call) (ctr : ℕ) (p : List ℕ) → consistent s ≡ true
+    → 1 ≤ length p → length p ≤ most → received before ++ b ∷ [] ≡ frame ctr p
+    → openOf (run v s before) ≡ true → waits (run v s before) ≡ false
+    → AnsweredSoon n v (run v s before) cal meas b p later
+
+-- what waits of a list, p packets, leaves whole and in order by the counted slot `bound p`, unless the list is stopped or its session ends or is
+-- renewed
+abbrev pub WholeBy : (ℕ → ℕ) → Slave → Type 0
+WholeBy bound v =
+    (s : List ℕ) (l : ℕ) (cs : List Call) → consistent s ≡ true → l < lists → Undisturbed v l s cs
+    → bound (length (waitingOf s l)) ≤ slots cs → Begins (waitingOf s l) (packetsIn l (frames v s cs))
+
+-- a captured sample leaves whole by the counted slot n, unless its list is stopped or its session ends or is renewed
+abbrev pub SampledBy : ℕ → Slave → Type 0
+SampledBy n v =
+    (s cal meas : List ℕ) (event clock l : ℕ) (cs : List Call) → consistent s ≡ true → event ≤ 1 → l < lists → samplingOf s l event ≡ Sampled
+    → Undisturbed v l (v .event s cal meas event clock .state) cs → n ≤ slots cs
+    → Begins (sampleOf s l clock cal meas) (packetsIn l (frames v (v .event s cal meas event clock .state) cs))
+
 pub record Demand3 (v : Slave) : Type 0 where
-  -- from any state, a whole frame, its bytes interleaved with any events and slots, that ends while a session is open and no answer waits, is
-  -- answered, and its answer leaves in the first or second counted slot after, whatever calls come between
-  pub answered : (s : List ℕ) (before : List Call) (cal meas : List ℕ) (b : ℕ) (later : List Call) (ctr : ℕ) (p : List ℕ) → consistent s ≡ true
-      → 1 ≤ length p → length p ≤ most → received before ++ b ∷ [] ≡ frame ctr p
-      → openOf (run v s before) ≡ true → waits (run v s before) ≡ false
-      → AnsweredSoon v (run v s before) cal meas b p later
-  -- an answer that waits, of whatever command, leaves in the first or second counted slot
+  -- an answer leaves in the first or second counted slot after its command
+  pub answered : AnsweredBy 2 v
+  -- so does an answer that waits, of whatever command
   pub leaves : (s : List ℕ) (cs : List Call) → consistent s ≡ true → waits s ≡ true → 2 ≤ slots cs → LeavesWithin 2 v s (answerOf s) cs
   -- good messages meanwhile are number 6 and change the reader's place alone
   pub meanwhile : (s cal meas : List ℕ) (b : ℕ) (p : List ℕ) → consistent s ≡ true → waits s ≡ true → packetEnded s b ≡ some p
       → (v .receive s cal meas b .received ≡ Unread) × Leaves placeAt answerAt v s cal meas b
-  -- what waits of a list leaves whole and in order, p packets by the counted slot 2 L p, unless its list is stopped or its session ends or is renewed
-  pub whole : (s : List ℕ) (l : ℕ) (cs : List Call) → consistent s ≡ true → l < lists → Undisturbed v l s cs
-      → 2 * (lists * length (waitingOf s l)) ≤ slots cs → Begins (waitingOf s l) (packetsIn l (frames v s cs))
-  -- a captured sample leaves whole by the sixteenth
-  pub sampled : (s cal meas : List ℕ) (event clock l : ℕ) (cs : List Call) → consistent s ≡ true → event ≤ 1 → l < lists → samplingOf s l event ≡ Sampled
-      → Undisturbed v l (v .event s cal meas event clock .state) cs → 16 ≤ slots cs
-      → Begins (sampleOf s l clock cal meas) (packetsIn l (frames v (v .event s cal meas event clock .state) cs))
+  -- p packets of a list leave by the counted slot 2 L p, and so a sample by the sixteenth
+  pub whole : WholeBy (λ p. 2 * (lists * p)) v
+  pub sampled : SampledBy 16 v
