@@ -1,6 +1,6 @@
 -- What it does on the wire and in memory is what XCP and its SxI transport say, with the choices of document 01. What it sends reads back as the very
 -- packet meant. While calibration is locked no calibration byte changes.
-use Prim.Native.Nat.{ℕ, zero, suc, _+_, _%_, _≤_, _<_}
+use Prim.Native.Nat.{ℕ, zero, suc, _+_, _*_, _%_, _≤_, _<_}
 use mathlib.Core.Path.{_≡_}
 use mathlib.Core.Logic.{_≢_}
 use mathlib.Core.Bool.{Bool, true, false, cond}
@@ -12,7 +12,7 @@ use Rattle.line.specs.Message.{longest, room, frame}
 use Rattle.line.specs.Run.{run as reads}
 use Rattle.line.specs.Wire.{heard}
 use Rattle.line.specs.declared.Place.{Place}
-use Rattle.session.specs.Layout.{lists, addressable, placeAt, sampleAt, firstOdt}
+use Rattle.session.specs.Layout.{lists, odts, addressable, sampleSize, placeAt, sampleAt, firstOdt}
 use Rattle.session.specs.Bytes.{block}
 use Rattle.session.specs.State.{consistent, ctrOf, openOf, unlockedOf, seedOf, mtaOf, answerOf}
 use Rattle.session.specs.Receive.{Step, heeded}
@@ -82,7 +82,7 @@ otherLock Lists = Calibration
 
 -- the bytes in which a list's packets are stored
 abbrev pub storeSize : ℕ
-storeSize = 16
+storeSize = odts * sampleSize
 
 -- how many of the first n lists pass a test
 abbrev pub howMany : (ℕ → Bool) → ℕ → ℕ
