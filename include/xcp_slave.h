@@ -15,7 +15,7 @@
  *
  * The longest call is xcp_receive_byte at the last byte of BUILD_CHECKSUM: it reads up to 4,096
  * bytes of memory. Let the ring buffer hold what can arrive in that time. Bytes lost there are
- * damage on the line like any other: the message is dropped and the master repeats it.
+ * damage on the line like any other: the message is dropped, as far as one checksum byte can tell.
  *
  * A main loop (examples/host.c is a whole one):
  *
