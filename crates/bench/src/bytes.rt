@@ -1,9 +1,8 @@
 // Parts of bytes, and the numbers in them.
-ghost use Prim.Native.Nat.{_≤_, _<_};
+ghost use Prim.Native.Nat.{_+_, _≤_, _<_};
 ghost use lib.ListN.{length};
-
-// The longest frame, and the longest list that a line of the sheet has.
-pub const ROOM: usize = 23;
+ghost use Rattle.line.specs.Message.{room};
+use line::ROOM;
 
 pub fn least(a: usize, b: usize) -> usize
     ensures { λ r. ⌜ (r ≤ a) × (r ≤ b) ⌝ }
@@ -19,7 +18,7 @@ pub fn part(bytes: &[u8], at: usize, len: usize) -> &[u8] {
 }
 
 // The first len bytes of a frame or a list.
-pub fn front(bytes: &[u8; 23], len: usize) -> &[u8] {
+pub fn front(bytes: &[u8; ROOM], len: usize) -> &[u8] {
     part(bytes, 0, len)
 }
 
@@ -45,14 +44,14 @@ pub fn byte(bytes: &[u8], at: usize) -> u8 {
 
 // The number in two bytes.
 pub fn word(bytes: &[u8], at: usize) -> u16
-    requires { ⌜ at < 23 ⌝ }
+    requires { ⌜ at < room ⌝ }
 {
     byte(bytes, at) as u16 + 256 * (byte(bytes, at + 1) as u16)
 }
 
 // The number in four bytes.
 pub fn long(bytes: &[u8], at: usize) -> u32
-    requires { ⌜ at < 21 ⌝ }
+    requires { ⌜ at + 2 < room ⌝ }
 {
     word(bytes, at) as u32 + 65536 * (word(bytes, at + 2) as u32)
 }

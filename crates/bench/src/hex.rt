@@ -1,7 +1,7 @@
-// The bytes that a line of the sheet has in capital hex.
+// The bytes that a line of the sheet has in capital hex: as many as the longest frame has, at most.
 ghost use Prim.Native.Nat.{_≤_};
 use crate::bytes;
-use crate::bytes::ROOM;
+use line::ROOM;
 
 const NO_DIGIT: u8 = 16;
 
@@ -43,7 +43,7 @@ fn byte_at(text: &[u8], at: usize) -> Found {
 }
 
 // The bytes at the front of a text, two digits each and one space between. Answers how many.
-pub fn list(text: &[u8], out: &mut [u8; 23]) -> usize {
+pub fn list(text: &[u8], out: &mut [u8; ROOM]) -> usize {
     let mut n = 0;
     while n < ROOM {
         let found = byte_at(text, 3 * n);
@@ -59,7 +59,7 @@ pub fn list(text: &[u8], out: &mut [u8; 23]) -> usize {
 }
 
 // The bytes after the text's = sign; none where it has none.
-pub fn list_after_sign(text: &[u8], out: &mut [u8; 23]) -> usize {
+pub fn list_after_sign(text: &[u8], out: &mut [u8; ROOM]) -> usize {
     let at = bytes::find(text, 0, b'=');
     if text.len() - at < 2 {
         return 0;

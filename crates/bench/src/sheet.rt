@@ -5,6 +5,7 @@ use crate::hex;
 use crate::show;
 use crate::steps;
 use crate::tool::Tool;
+use line::ROOM;
 
 // Where a step's line has its name, and its bytes.
 const NAME: usize = 2;
@@ -61,8 +62,8 @@ fn run_step(
     cal: &mut [u8; 4096],
     meas: &mut [u8; 4096],
 ) -> Tool {
-    let mut first = [0; 23];
-    let mut second = [0; 23];
+    let mut first = [0; ROOM];
+    let mut second = [0; ROOM];
     let lists = bytes::part(text, BYTES, text.len());
     let n = hex::list(lists, &mut first);
     let m = hex::list_after_sign(lists, &mut second);

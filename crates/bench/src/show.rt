@@ -2,7 +2,7 @@
 ghost use mathlib.Core.Path.{_≡_};
 ghost use mathlib.Core.Bool.{true};
 use crate::bytes;
-use crate::bytes::ROOM;
+use line::ROOM;
 
 pub fn print(text: &[u8]) {
     io::write_all(1, text);
@@ -43,7 +43,7 @@ fn print_number(number: u32) {
 }
 
 // The first of them.
-pub fn print_numbers(numbers: &[u32; 23], count: usize) {
+pub fn print_numbers(numbers: &[u32; ROOM], count: usize) {
     let end = bytes::least(count, ROOM);
     let mut i = 0;
     while i < end {

@@ -4,6 +4,9 @@ use crate::keys;
 use crate::show;
 use crate::tool::Tool;
 use crate::wire;
+use line::LONGEST;
+use line::MOST;
+use line::ROOM;
 use session::Evented;
 
 const MEMORY: usize = 4096;
@@ -21,7 +24,7 @@ pub fn power_up(bytes: &[u8], was: Tool, state: &mut [u8; 247]) -> Tool {
 pub fn measured(bytes: &[u8], meas: &mut [u8; 4096]) {
     show::print_bytes(bytes);
     set(
-        bytes::part(bytes, 2, 21),
+        bytes::part(bytes, 2, bytes.len()),
         meas,
         bytes::word(bytes, 0) as usize,
     );
@@ -47,8 +50,8 @@ pub fn command(
     cal: &mut [u8; 4096],
     meas: &[u8; 4096],
 ) -> Tool {
-    let mut frame = [0; 23];
-    let mut numbers = [0; 23];
+    let mut frame = [0; ROOM];
+    let mut numbers = [0; ROOM];
     let size = wire::frame(bytes, was.ctr, &mut frame);
     wire::send(&frame, size, &mut numbers, state, cal, meas);
     show::print_bytes(bytes);
@@ -60,8 +63,8 @@ pub fn command(
 
 // A slot: the packet that is to come, and the frame that it is to be in.
 pub fn slot(expected: &[u8], frame_expected: &[u8], was: Tool, state: &mut [u8; 247]) -> Tool {
-    let mut frame = [0; 23];
-    let mut message = [0; 11];
+    let mut frame = [0; ROOM];
+    let mut message = [0; LONGEST];
     let size = wire::take_frame(state, &mut frame);
     let outcome = wire::read(bytes::front(&frame, size), &mut message);
     let packet = wire::packet(outcome, &message);
@@ -101,7 +104,7 @@ pub fn repeat(
     meas: &[u8; 4096],
 ) -> Tool {
     let times = bytes::byte(bytes, 0);
-    let command = bytes::part(bytes, 1, 8);
+    let command = bytes::part(bytes, 1, MOST);
     show::print_bytes(command);
     show::print(b"\n    times                     ");
     io::print_decimal(1, times as u64);

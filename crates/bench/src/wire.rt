@@ -1,13 +1,14 @@
 // Commands to the slave, and frames from it.
 use crate::bytes;
-use crate::bytes::ROOM;
+use line::LONGEST;
 use line::Outcome;
 use line::Place;
+use line::ROOM;
 use line::Written;
 use session::Slotted;
 
 // Puts a command into its frame and answers the size: 0 where it fits none.
-pub fn frame(command: &[u8], ctr: u8, out: &mut [u8; 23]) -> usize {
+pub fn frame(command: &[u8], ctr: u8, out: &mut [u8; ROOM]) -> usize {
     let written = line::write(command, ctr, out);
     if let Written::Frame { size } = written {
         return size;
@@ -17,9 +18,9 @@ pub fn frame(command: &[u8], ctr: u8, out: &mut [u8; 23]) -> usize {
 
 // Hands the slave the bytes of a frame one by one, and keeps the number that each gave.
 pub fn send(
-    frame: &[u8; 23],
+    frame: &[u8; ROOM],
     size: usize,
-    numbers: &mut [u32; 23],
+    numbers: &mut [u32; ROOM],
     state: &mut [u8; 247],
     cal: &mut [u8; 4096],
     meas: &[u8; 4096],
@@ -34,7 +35,7 @@ pub fn send(
 }
 
 // Has a slot write its frame and answers the size: 0 where nothing waits.
-pub fn take_frame(state: &mut [u8; 247], out: &mut [u8; 23]) -> usize {
+pub fn take_frame(state: &mut [u8; 247], out: &mut [u8; ROOM]) -> usize {
     let slotted = session::slot(state, out);
     if let Slotted::Sent { size } = slotted {
         return size;
@@ -43,7 +44,7 @@ pub fn take_frame(state: &mut [u8; 247], out: &mut [u8; 23]) -> usize {
 }
 
 // Reads a frame that came; its message gathers in the lent bytes.
-pub fn read(frame: &[u8], message: &mut [u8; 11]) -> Outcome {
+pub fn read(frame: &[u8], message: &mut [u8; LONGEST]) -> Outcome {
     let mut place = Place::Outside;
     let mut outcome = Outcome::Nothing;
     let mut i = 0;
@@ -57,7 +58,7 @@ pub fn read(frame: &[u8], message: &mut [u8; 11]) -> Outcome {
 }
 
 // The packet of a message that was read; none where it was not good.
-pub fn packet(outcome: Outcome, message: &[u8; 11]) -> &[u8] {
+pub fn packet(outcome: Outcome, message: &[u8; LONGEST]) -> &[u8] {
     if let Outcome::Good { ctr: _, at, len } = outcome {
         return bytes::part(message, at, len);
     }
@@ -73,9 +74,9 @@ fn exchange(
     cal: &mut [u8; 4096],
     meas: &[u8; 4096],
 ) -> bool {
-    let mut out = [0; 23];
-    let mut numbers = [0; 23];
-    let mut message = [0; 11];
+    let mut out = [0; ROOM];
+    let mut numbers = [0; ROOM];
+    let mut message = [0; LONGEST];
     let size = frame(command, ctr, &mut out);
     send(&out, size, &mut numbers, state, cal, meas);
     let came = take_frame(state, &mut out);

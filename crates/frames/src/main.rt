@@ -2,14 +2,12 @@
 // of its bytes stands the number that the reader gave.
 ghost use Prim.Native.Nat.{_≤_, _<_};
 ghost use lib.ListN.{length};
+ghost use Rattle.line.specs.Message.{room};
+use line::LONGEST;
 use line::Outcome;
 use line::Place;
+use line::ROOM;
 use line::Written;
-
-// What the line asks of the bytes that it is lent: to write a frame, and to read a message.
-const ROOM: usize = 23;
-
-const LONGEST: usize = 11;
 
 const CONNECT: [u8; 2] = [0xFF, 0x00];
 
@@ -138,7 +136,7 @@ fn case(name: &[u8], packet: &[u8], ctr: u8, message: &mut [u8]) {
 
 // The frame with another byte at one place.
 fn damaged(name: &[u8], packet: &[u8], ctr: u8, at: usize, byte: u8)
-    requires { ⌜ at < 23 ⌝ }
+    requires { ⌜ at < room ⌝ }
 {
     let mut out = [0; ROOM];
     let mut message = [0; LONGEST];
@@ -156,7 +154,7 @@ fn send_twice(name: &[u8], packet: &[u8], ctr: u8, at: usize, out: &mut [u8]) ->
 }
 
 fn cut_off(name: &[u8], packet: &[u8], ctr: u8, at: usize)
-    requires { ⌜ at < 23 ⌝ }
+    requires { ⌜ at < room ⌝ }
 {
     let mut out = [0; ROOM + ROOM];
     let mut message = [0; LONGEST];

@@ -1,5 +1,5 @@
 -- A message: LEN, CTR, LEN packet bytes, then one checksum byte. It knows nothing of stuffing.
-use Prim.Native.Nat.{ℕ, _+_, _%_}
+use Prim.Native.Nat.{ℕ, _+_, _*_, _%_}
 use mathlib.Core.List.{List, [], _∷_, _++_}
 use lib.ListN.{length}
 use Rattle.line.specs.Stuffing.{onWire}
@@ -8,13 +8,13 @@ use Rattle.line.specs.Stuffing.{onWire}
 abbrev pub most : ℕ
 most = 8
 
--- the longest message: LEN, CTR, 8 packet bytes, checksum
+-- the longest message: LEN, CTR, the longest packet, checksum
 abbrev pub longest : ℕ
-longest = 11
+longest = most + 3
 
 -- the longest frame: a SYNC, and every byte of the longest message doubled
 abbrev pub room : ℕ
-room = 23
+room = 1 + 2 * longest
 
 abbrev pub sum : List ℕ → ℕ
 sum [] = 0

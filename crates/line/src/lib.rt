@@ -2,10 +2,14 @@
 ghost use mathlib.Core.Path.{_≡_};
 ghost use Rattle.line.specs.Number.{outcomeNumber, writtenNumber};
 
+mod limits;
 mod reader;
 mod sum;
 mod writer;
 
+pub use limits::LONGEST;
+pub use limits::MOST;
+pub use limits::ROOM;
 pub use reader::take;
 pub use writer::next_ctr;
 pub use writer::write;

@@ -9,16 +9,11 @@ ghost use Rattle.line.specs.Reader.{begunOf, judgedOf, putOf, messages, 
 use crate::Outcome;
 use crate::Place;
 use crate::Taken;
+use crate::limits::ESC;
+use crate::limits::LONGEST;
+use crate::limits::MOST_U8;
+use crate::limits::SYNC;
 use crate::sum::sum_of;
-
-const SYNC: u8 = 0x9A;
-
-const ESC: u8 = 0x9B;
-
-const MOST: u8 = 8;
-
-// LEN, CTR, the longest packet, checksum.
-const LONGEST: usize = 11;
 
 // Whether k bytes of a message, of which the first is len, may have come with the last still out.
 fn begun(k: usize, len: u8) -> bool
@@ -30,7 +25,7 @@ fn begun(k: usize, len: u8) -> bool
     if len == 0 {
         return false;
     }
-    if MOST < len {
+    if MOST_U8 < len {
         return false;
     }
     k < len as usize + 3
@@ -109,7 +104,7 @@ fn put(k: usize, message: &mut [u8], byte: u8) -> Taken
                 outcome: Outcome::BadLength,
             };
         }
-        if MOST < byte {
+        if MOST_U8 < byte {
             return Taken {
                 place: Place::Outside,
                 outcome: Outcome::BadLength,

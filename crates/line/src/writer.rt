@@ -5,16 +5,11 @@ ghost use lib.ListN.{length};
 ghost use Rattle.line.specs.Stuffing.{stuffByte, stuff};
 ghost use Rattle.line.specs.Writer.{Stored, Writes, writeOf};
 use crate::Written;
+use crate::limits::ESC;
+use crate::limits::MOST;
+use crate::limits::ROOM;
+use crate::limits::SYNC;
 use crate::sum::sum_of;
-
-const SYNC: u8 = 0x9A;
-
-const ESC: u8 = 0x9B;
-
-const MOST: usize = 8;
-
-// The longest frame: a SYNC, and every byte of the longest message doubled.
-const ROOM: usize = 23;
 
 // A byte as it stands on the wire, from a place of out on. Answers the place after it.
 fn stuff_byte(byte: u8, out: &mut [u8], at: usize) -> usize

@@ -1,11 +1,12 @@
 -- The line that a slot prints.
-use Prim.Native.Nat.{ℕ, _+_, _-_, _/_, _%_}
+use Prim.Native.Nat.{ℕ, _+_, _-_, _*_, _/_, _%_}
 use mathlib.Core.Path.{_≡_}
 use mathlib.Core.Bool.{cond}
 use mathlib.Core.List.{List, [], _∷_}
 use lib.Dec.{ltb}
 use lib.ListN.{length}
 use lib.Seq.{sets}
+use Rattle.line.specs.Message.{room}
 
 -- 0 to 9, A to F
 abbrev pub digitOf : ℕ → ℕ
@@ -20,6 +21,10 @@ restOf (b ∷ bs) = 32 ∷ digitOf (b / 16) ∷ digitOf (b % 16) ∷ restOf bs
 unfoldable pub lineOf : List ℕ → List ℕ
 lineOf [] = 45 ∷ 10 ∷ []
 lineOf (b ∷ bs) = digitOf (b / 16) ∷ digitOf (b % 16) ∷ restOf bs
+
+-- what a line is given: three characters for each byte of a frame, and two for none
+abbrev pub lineRoom : ℕ
+lineRoom = 3 * room + 2
 
 -- xs stored in l from `at` on gives l′, and r is the place after them
 pub record Stored (l : List ℕ) (at : ℕ) (xs : List ℕ) (l′ : List ℕ) (r : ℕ) : Type 0 where

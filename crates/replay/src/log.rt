@@ -3,6 +3,7 @@ ghost use mathlib.Core.Path.{_≡_};
 ghost use Prim.Native.Nat.{_+_, _≤_};
 ghost use lib.ListN.{length};
 ghost use Rattle.replay.specs.Log.{Keeps};
+ghost use Rattle.replay.specs.Text.{lineRoom};
 use crate::record;
 use crate::run;
 
@@ -50,7 +51,7 @@ fn take_chunk(
     meas: &mut [u8; 4096],
     output: &mut [u8],
 ) -> Progress
-    requires { ⌜ (kept ≤ length (now input)) × (71 ≤ length (now output)) ⌝ }
+    requires { ⌜ (kept ≤ length (now input)) × (lineRoom ≤ length (now output)) ⌝ }
     ensures { λ r. ⌜ Keeps (length (now (input .entry))) r ⌝ }
 {
     let end = read_after(input, kept);

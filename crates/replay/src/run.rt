@@ -2,17 +2,17 @@
 ghost use mathlib.Core.Path.{_≡_};
 ghost use Prim.Native.Nat.{_+_, _*_, _≤_, _<_};
 ghost use lib.ListN.{length};
+ghost use Rattle.line.specs.Message.{room};
 ghost use Rattle.replay.specs.Record.{Inside};
+ghost use Rattle.replay.specs.Text.{lineRoom};
 use crate::record;
 use crate::record::Record;
 use crate::text;
+use line::ROOM;
 use session::Slotted;
 
-// The longest frame.
-const ROOM: usize = 23;
-
 // What a line is given: three characters for each byte of a frame, and two for none.
-const LINE: usize = 71;
+const LINE: usize = 3 * ROOM + 2;
 
 // How far the records of a chunk were run, and how much of the output they fill.
 pub struct Ran {
@@ -41,7 +41,7 @@ fn set_measured(bytes: &[u8], meas: &mut [u8; 4096], offset: usize)
 
 // The size of the frame that a slot wrote.
 fn size_of(slotted: Slotted) -> usize
-    ensures { λ r. ⌜ r ≤ 23 ⌝ }
+    ensures { λ r. ⌜ r ≤ room ⌝ }
 {
     match slotted {
         Slotted::Idle => 0,
@@ -53,8 +53,8 @@ fn size_of(slotted: Slotted) -> usize
 
 // Writes the gathered lines out where one more might not fit, and answers what is then filled.
 fn make_room(output: &[u8], filled: usize) -> usize
-    requires { ⌜ (filled ≤ length (now output)) × (71 ≤ length (now output)) ⌝ }
-    ensures { λ r. ⌜ r + 71 ≤ length (now (output .entry)) ⌝ }
+    requires { ⌜ (filled ≤ length (now output)) × (lineRoom ≤ length (now output)) ⌝ }
+    ensures { λ r. ⌜ r + lineRoom ≤ length (now (output .entry)) ⌝ }
 {
     if output.len() - filled < LINE {
         io::write_all(1, &output[..filled]);
@@ -64,10 +64,10 @@ fn make_room(output: &[u8], filled: usize) -> usize
 }
 
 fn slot(state: &mut [u8; 247], output: &mut [u8], filled: usize) -> usize
-    requires { ⌜ (filled ≤ length (now output)) × (71 ≤ length (now output)) ⌝ }
+    requires { ⌜ (filled ≤ length (now output)) × (lineRoom ≤ length (now output)) ⌝ }
     ensures { λ r. ⌜ r ≤ length (now (output .entry)) ⌝ }
 {
-    let mut frame = [0; 23];
+    let mut frame = [0; ROOM];
     let size = size_of(session::slot(state, &mut frame));
     let at = make_room(output, filled);
     text::put_line(&frame[..size], output, at)
@@ -83,7 +83,7 @@ fn run(
     output: &mut [u8],
     filled: usize,
 ) -> usize
-    requires { ⌜ Inside (length (now bytes)) found × (filled ≤ length (now output)) × (71 ≤ length (now output)) ⌝ }
+    requires { ⌜ Inside (length (now bytes)) found × (filled ≤ length (now output)) × (lineRoom ≤ length (now output)) ⌝ }
     ensures { λ r. ⌜ r ≤ length (now (output .entry)) ⌝ }
 {
     match found {
@@ -116,7 +116,7 @@ pub fn run_all(
     meas: &mut [u8; 4096],
     output: &mut [u8],
 ) -> Ran
-    requires { ⌜ 71 ≤ length (now output) ⌝ }
+    requires { ⌜ lineRoom ≤ length (now output) ⌝ }
     ensures { λ r. ⌜ (r .at ≤ length (now (bytes .entry))) × (r .filled ≤ length (now (output .entry))) ⌝ }
 {
     let mut at = 0;

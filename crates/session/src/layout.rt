@@ -30,7 +30,7 @@ pub const LAST_ENTRY: u8 = ENTRIES_U8 - 1;
 pub const ALL_ENTRIES: u8 = (LISTS * ODTS * ENTRIES) as u8;
 
 // Most bytes of a packet, and of a sample in store, which is without its ODT's number.
-pub const PACKET_MOST: u8 = 8;
+pub const PACKET_MOST: u8 = line::MOST as u8;
 
 pub const STORED_MOST: u8 = PACKET_MOST - 1;
 
@@ -55,7 +55,7 @@ pub const ADDRESSABLE: usize = 4096;
 pub const CHECKSUM_MOST: u32 = ADDRESSABLE as u32;
 
 // The room that the line asks for a frame.
-pub const ROOM: usize = 23;
+pub const ROOM: usize = line::ROOM;
 
 // The mark that power-up writes; it changes with every layout.
 pub const MARK: u32 = 0x3150_4358;

@@ -1,6 +1,5 @@
 use native.Mathlib.Nat.{add-zero}
 use native.Mathlib.Omega.{arith}
-use Prim.Native.Nat.{_≤_}
 use borrow.Author.Needs.{needs}
 use Rattle.slave.proofs.slotted.Statement.{statement}
 use Rattle.slave.proofs.slotted.Tie as tie
@@ -12,7 +11,7 @@ enum-known-r : tie.Need-enum-known-r
 enum-known-r c = search needs
 
 cast-result : tie.Need-cast-result
-cast-result c = let h : c .before .r .given .0 .0 ≤ 23 = rw (c .before .r .given .1) at (c .before .before .before .pre) in omega arith
+cast-result c = let h = rw (c .before .r .given .1) at (c .before .before .before .pre) in omega (arith, h)
 
 enum-told-2 : tie.Need-enum-told-2
 enum-told-2 c = search needs

@@ -1,14 +1,15 @@
 -- The count stays within the list.
 use Prim.Native.Nat.{_≤_, _-_}
+use Rattle.line.specs.Message.{room}
 use borrow.Author.Needs.{needs}
 use Rattle.bench.proofs.hex.list.Statement.{statement}
 use Rattle.bench.proofs.hex.list.Tie as tie
 
 abbrev Inv-loop : tie.InvT-loop
-Inv-loop text out₀ n₀ out n = n ≤ 23
+Inv-loop text out₀ n₀ out n = n ≤ room
 
 abbrev μ-loop : tie.MeasureT-loop
-μ-loop text out₀ n₀ out n = 23 - n
+μ-loop text out₀ n₀ out n = room - n
 
 loop-holds : tie.Need-loop-holds Inv-loop μ-loop
 loop-holds c = search needs
