@@ -9,8 +9,10 @@ mod steps;
 mod tool;
 mod wire;
 
+use session::STATE_SIZE;
+
 fn main() {
-    let mut state = [0; 247];
+    let mut state = [0; STATE_SIZE];
     let mut cal = [0; 4096];
     let mut meas = [0; 4096];
     let mut text = io::large_buffer();

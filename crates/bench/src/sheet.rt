@@ -6,6 +6,7 @@ use crate::show;
 use crate::steps;
 use crate::tool::Tool;
 use line::ROOM;
+use session::STATE_SIZE;
 
 // Where a step's line has its name, and its bytes.
 const NAME: usize = 2;
@@ -58,7 +59,7 @@ fn run_step(
     step: Step,
     text: &[u8],
     was: Tool,
-    state: &mut [u8; 247],
+    state: &mut [u8; STATE_SIZE],
     cal: &mut [u8; 4096],
     meas: &mut [u8; 4096],
 ) -> Tool {
@@ -93,7 +94,7 @@ fn end_case(was: Tool) -> Tool {
 fn run_line(
     text: &[u8],
     was: Tool,
-    state: &mut [u8; 247],
+    state: &mut [u8; STATE_SIZE],
     cal: &mut [u8; 4096],
     meas: &mut [u8; 4096],
 ) -> Tool {
@@ -118,7 +119,7 @@ fn print_end(all: bool) {
     show::print(b"\n");
 }
 
-pub fn run(text: &[u8], state: &mut [u8; 247], cal: &mut [u8; 4096], meas: &mut [u8; 4096]) {
+pub fn run(text: &[u8], state: &mut [u8; STATE_SIZE], cal: &mut [u8; 4096], meas: &mut [u8; 4096]) {
     let mut tool = Tool::new();
     let mut at = 0;
     while at < text.len() {

@@ -8,12 +8,14 @@ use line::LONGEST;
 use line::MOST;
 use line::ROOM;
 use session::Evented;
+use session::STATE_SIZE;
 
 const MEMORY: usize = 4096;
 
 // Power-up: the start number, four bytes.
-pub fn power_up(bytes: &[u8], was: Tool, state: &mut [u8; 247]) -> Tool {
+pub fn power_up(bytes: &[u8], was: Tool, state: &mut [u8; STATE_SIZE]) -> Tool {
     show::print_bytes(bytes);
+    // Done, as the state has its size.
     session::power_up(state, bytes::long(bytes, 0));
     let mut now = was;
     now.ctr = 0;
@@ -46,7 +48,7 @@ pub fn command(
     bytes: &[u8],
     expected: &[u8],
     was: Tool,
-    state: &mut [u8; 247],
+    state: &mut [u8; STATE_SIZE],
     cal: &mut [u8; 4096],
     meas: &[u8; 4096],
 ) -> Tool {
@@ -62,7 +64,12 @@ pub fn command(
 }
 
 // A slot: the packet that is to come, and the frame that it is to be in.
-pub fn slot(expected: &[u8], frame_expected: &[u8], was: Tool, state: &mut [u8; 247]) -> Tool {
+pub fn slot(
+    expected: &[u8],
+    frame_expected: &[u8],
+    was: Tool,
+    state: &mut [u8; STATE_SIZE],
+) -> Tool {
     let mut frame = [0; ROOM];
     let mut message = [0; LONGEST];
     let size = wire::take_frame(state, &mut frame);
@@ -81,7 +88,7 @@ pub fn unlock(
     bytes: &[u8],
     expected: &[u8],
     was: Tool,
-    state: &mut [u8; 247],
+    state: &mut [u8; STATE_SIZE],
     cal: &mut [u8; 4096],
     meas: &[u8; 4096],
 ) -> Tool {
@@ -99,7 +106,7 @@ pub fn repeat(
     bytes: &[u8],
     expected: &[u8],
     was: Tool,
-    state: &mut [u8; 247],
+    state: &mut [u8; STATE_SIZE],
     cal: &mut [u8; 4096],
     meas: &[u8; 4096],
 ) -> Tool {
@@ -120,7 +127,7 @@ pub fn event(
     bytes: &[u8],
     expected: &[u8],
     was: Tool,
-    state: &mut [u8; 247],
+    state: &mut [u8; STATE_SIZE],
     cal: &[u8; 4096],
     meas: &[u8; 4096],
 ) -> Tool {

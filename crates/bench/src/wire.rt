@@ -5,6 +5,7 @@ use line::Outcome;
 use line::Place;
 use line::ROOM;
 use line::Written;
+use session::STATE_SIZE;
 use session::Slotted;
 
 // Puts a command into its frame and answers the size: 0 where it fits none.
@@ -21,7 +22,7 @@ pub fn send(
     frame: &[u8; ROOM],
     size: usize,
     numbers: &mut [u32; ROOM],
-    state: &mut [u8; 247],
+    state: &mut [u8; STATE_SIZE],
     cal: &mut [u8; 4096],
     meas: &[u8; 4096],
 ) {
@@ -35,7 +36,7 @@ pub fn send(
 }
 
 // Has a slot write its frame and answers the size: 0 where nothing waits.
-pub fn take_frame(state: &mut [u8; 247], out: &mut [u8; ROOM]) -> usize {
+pub fn take_frame(state: &mut [u8; STATE_SIZE], out: &mut [u8; ROOM]) -> usize {
     let slotted = session::slot(state, out);
     if let Slotted::Sent { size } = slotted {
         return size;
@@ -70,7 +71,7 @@ fn exchange(
     command: &[u8],
     expected: &[u8],
     ctr: u8,
-    state: &mut [u8; 247],
+    state: &mut [u8; STATE_SIZE],
     cal: &mut [u8; 4096],
     meas: &[u8; 4096],
 ) -> bool {
@@ -90,7 +91,7 @@ pub fn exchanges(
     command: &[u8],
     expected: &[u8],
     ctr: u8,
-    state: &mut [u8; 247],
+    state: &mut [u8; STATE_SIZE],
     cal: &mut [u8; 4096],
     meas: &[u8; 4096],
 ) -> bool {

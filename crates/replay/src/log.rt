@@ -6,6 +6,7 @@ ghost use Rattle.replay.specs.Log.{Keeps};
 ghost use Rattle.replay.specs.Text.{lineRoom};
 use crate::record;
 use crate::run;
+use session::STATE_SIZE;
 
 // Whether there is more to read, and how many bytes of a record are kept for it.
 enum Progress {
@@ -46,7 +47,7 @@ fn keep(input: &mut [u8], from: usize, end: usize) -> usize
 fn take_chunk(
     input: &mut [u8],
     kept: usize,
-    state: &mut [u8; 247],
+    state: &mut [u8; STATE_SIZE],
     cal: &mut [u8; 4096],
     meas: &mut [u8; 4096],
     output: &mut [u8],
@@ -77,7 +78,7 @@ fn take_chunk(
 
 // Replays the whole log. Nothing says that input ends, and a proved loop has to: it counts its
 // reads, of at least a byte each, down from a number that no log uses up.
-pub fn replay(state: &mut [u8; 247], cal: &mut [u8; 4096], meas: &mut [u8; 4096]) {
+pub fn replay(state: &mut [u8; STATE_SIZE], cal: &mut [u8; 4096], meas: &mut [u8; 4096]) {
     let mut input = io::large_buffer();
     let mut output = io::large_buffer();
     let mut kept = 0;

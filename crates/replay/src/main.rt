@@ -5,13 +5,16 @@ mod record;
 mod run;
 mod text;
 
+use session::STATE_SIZE;
+
 // The start number of the seeds.
 const START: u32 = 1;
 
 fn main() {
-    let mut state = [0; 247];
+    let mut state = [0; STATE_SIZE];
     let mut cal = [0; 4096];
     let mut meas = [0; 4096];
+    // Done, as the state has its size.
     session::power_up(&mut state, START);
     log::replay(&mut state, &mut cal, &mut meas);
 }

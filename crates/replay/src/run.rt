@@ -9,6 +9,7 @@ use crate::record;
 use crate::record::Record;
 use crate::text;
 use line::ROOM;
+use session::STATE_SIZE;
 use session::Slotted;
 
 // What a line is given: three characters for each byte of a frame, and two for none.
@@ -21,7 +22,7 @@ pub struct Ran {
 }
 
 // Wire bytes go to the slave one by one.
-fn wire(bytes: &[u8], state: &mut [u8; 247], cal: &mut [u8; 4096], meas: &[u8; 4096]) {
+fn wire(bytes: &[u8], state: &mut [u8; STATE_SIZE], cal: &mut [u8; 4096], meas: &[u8; 4096]) {
     let mut i = 0;
     while i < bytes.len() {
         session::receive_byte(state, cal, meas, bytes[i]);
@@ -63,7 +64,7 @@ fn make_room(output: &[u8], filled: usize) -> usize
     filled
 }
 
-fn slot(state: &mut [u8; 247], output: &mut [u8], filled: usize) -> usize
+fn slot(state: &mut [u8; STATE_SIZE], output: &mut [u8], filled: usize) -> usize
     requires { ⌜ (filled ≤ length (now output)) × (lineRoom ≤ length (now output)) ⌝ }
     ensures { λ r. ⌜ r ≤ length (now (output .entry)) ⌝ }
 {
@@ -77,7 +78,7 @@ fn slot(state: &mut [u8; 247], output: &mut [u8], filled: usize) -> usize
 fn run(
     found: Record,
     bytes: &[u8],
-    state: &mut [u8; 247],
+    state: &mut [u8; STATE_SIZE],
     cal: &mut [u8; 4096],
     meas: &mut [u8; 4096],
     output: &mut [u8],
@@ -111,7 +112,7 @@ fn run(
 // Runs the records of a chunk in order, up to the first that is bad or not whole.
 pub fn run_all(
     bytes: &[u8],
-    state: &mut [u8; 247],
+    state: &mut [u8; STATE_SIZE],
     cal: &mut [u8; 4096],
     meas: &mut [u8; 4096],
     output: &mut [u8],

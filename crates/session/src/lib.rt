@@ -208,10 +208,12 @@ impl Received {
 }
 
 // The size of the state that each call is lent.
+pub const STATE_SIZE: usize = layout::STATE;
+
 pub fn state_size() -> usize
     ensures { λ r. ⌜ r ≡ size ⌝ }
 {
-    layout::STATE
+    STATE_SIZE
 }
 
 // Writes a fresh state. Only its size is judged.
