@@ -1,6 +1,5 @@
 // The log on standard input, taken in chunks.
-ghost use mathlib.Core.Path.{_≡_};
-ghost use Prim.Native.Nat.{_+_, _≤_};
+ghost use Prim.Native.Nat.{_≤_};
 ghost use lib.ListN.{length};
 ghost use Rattle.replay.specs.Log.{Keeps};
 ghost use Rattle.replay.specs.Text.{lineRoom};

@@ -1,6 +1,5 @@
 // What the records do.
-ghost use mathlib.Core.Path.{_≡_};
-ghost use Prim.Native.Nat.{_+_, _*_, _≤_, _<_};
+ghost use Prim.Native.Nat.{_+_, _≤_};
 ghost use lib.ListN.{length};
 ghost use Rattle.line.specs.Message.{room};
 ghost use Rattle.replay.specs.Record.{Inside};
