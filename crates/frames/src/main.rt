@@ -15,15 +15,9 @@ fn print(text: &[u8]) {
     io::write_all(1, text);
 }
 
-// A capital digit: io::print_hex writes small ones.
-fn digit(n: u8) -> u8 {
-    let d = n % 16;
-    if d < 10 { b'0' + d } else { b'A' + (d - 10) }
-}
-
 fn print_byte(byte: u8) {
-    let text = [digit(byte / 16), digit(byte)];
-    print(&text);
+    let digits = digits::pair(byte);
+    print(&digits);
 }
 
 fn print_bytes(bytes: &[u8]) {

@@ -1,13 +1,14 @@
 -- Laws of the line that a slot prints. Assumes nothing.
 use mathlib.Core.Path.{_≡_, refl, _∙_}
 use mathlib.Core.List.{List, [], _∷_}
-use Prim.Native.Nat.{ℕ, suc, _+_, _-_, _*_, _/_, _%_, _<_, _≤_}
+use Prim.Native.Nat.{ℕ, suc, _+_, _-_, _*_, _<_, _≤_}
 use native.Mathlib.Numerals.{add-one}
 use native.Mathlib.Omega.{arith}
 use native.Mathlib.Nat.{not-suc-le-zero}
 use lib.ListN.{length, getD, set, take, drop, drop-of-length-le}
 use lib.Seq.{sets, drop-cons, take-all}
-use Rattle.replay.specs.Text.{digitOf, restOf, lineOf, Stored}
+use Rattle.digits.specs.Digits.{pairOf}
+use Rattle.replay.specs.Text.{restOf, lineOf, Stored}
 
 pub rest-length : (bs : List ℕ) → length (restOf bs) ≡ 3 * length bs + 1
 unfolding restOf
@@ -19,19 +20,15 @@ unfolding lineOf
 line-length [] = omega arith
 line-length (b ∷ bs) = omega (arith, rest-length bs)
 
--- the digits of b from i
-abbrev pub pair : ℕ → List ℕ
-pair b = digitOf (b / 16) ∷ digitOf (b % 16) ∷ []
-
 -- byte i is written, and what is left begins three characters further
-pub rest-next : (l bs : List ℕ) (to i : ℕ) → i < length bs → sets (sets (set l to 32) (to + 1) (pair (getD bs i 0))) (to + 3) (restOf (drop (i + 1) bs)) ≡ sets l to (restOf (drop i bs))
+pub rest-next : (l bs : List ℕ) (to i : ℕ) → i < length bs → sets (sets (set l to 32) (to + 1) (pairOf (getD bs i 0))) (to + 3) (restOf (drop (i + 1) bs)) ≡ sets l to (restOf (drop i bs))
 unfolding restOf
 rest-next l bs to i h =
     let e : to + 3 ≡ suc (suc (suc to)) = omega arith in
     rw (e, add-one, add-one, drop-cons bs i 0 h)
 
 -- two digits for the first byte, and then the rest
-pub line-cons : (bs l l′ l″ : List ℕ) (at r : ℕ) → 0 < length bs → l′ ≡ sets l at (pair (getD bs 0 0)) → Stored l′ (at + 2) (restOf (take (length bs - 1) (drop 1 bs))) l″ r → Stored l at (lineOf bs) l″ r
+pub line-cons : (bs l l′ l″ : List ℕ) (at r : ℕ) → 0 < length bs → l′ ≡ sets l at (pairOf (getD bs 0 0)) → Stored l′ (at + 2) (restOf (take (length bs - 1) (drop 1 bs))) l″ r → Stored l at (lineOf bs) l″ r
 unfolding lineOf
 line-cons [] l l′ l″ at r h p q = absurd (not-suc-le-zero h)
 line-cons (b ∷ bs) l l′ l″ at r h p q =

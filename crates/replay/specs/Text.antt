@@ -1,26 +1,21 @@
 -- The line that a slot prints.
-use Prim.Native.Nat.{ℕ, _+_, _-_, _*_, _/_, _%_}
+use Prim.Native.Nat.{ℕ, _+_, _*_}
 use mathlib.Core.Path.{_≡_}
-use mathlib.Core.Bool.{cond}
-use mathlib.Core.List.{List, [], _∷_}
-use lib.Dec.{ltb}
+use mathlib.Core.List.{List, [], _∷_, _++_}
 use lib.ListN.{length}
 use lib.Seq.{sets}
+use Rattle.digits.specs.Digits.{pairOf}
 use Rattle.line.specs.Message.{room}
-
--- 0 to 9, A to F
-abbrev pub digitOf : ℕ → ℕ
-digitOf n = cond (ltb n 10) (48 + n) (65 + (n - 10))
 
 -- a space and two digits for each byte, then LF
 unfoldable pub restOf : List ℕ → List ℕ
 restOf [] = 10 ∷ []
-restOf (b ∷ bs) = 32 ∷ digitOf (b / 16) ∷ digitOf (b % 16) ∷ restOf bs
+restOf (b ∷ bs) = 32 ∷ (pairOf b ++ restOf bs)
 
 -- capital hex with single spaces, or - for no frame
 unfoldable pub lineOf : List ℕ → List ℕ
 lineOf [] = 45 ∷ 10 ∷ []
-lineOf (b ∷ bs) = digitOf (b / 16) ∷ digitOf (b % 16) ∷ restOf bs
+lineOf (b ∷ bs) = pairOf b ++ restOf bs
 
 -- what a line is given: three characters for each byte of a frame, and two for none
 abbrev pub lineRoom : ℕ

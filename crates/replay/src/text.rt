@@ -1,25 +1,18 @@
 // The line that a slot prints.
 ghost use mathlib.Core.Path.{_≡_};
-ghost use mathlib.Core.List.{[], _∷_};
-ghost use Prim.Native.Nat.{_+_, _*_, _≤_, _<_, _/_, _%_};
+ghost use Prim.Native.Nat.{_+_, _*_, _≤_};
 ghost use lib.ListN.{length};
 ghost use lib.Seq.{sets};
-ghost use Rattle.replay.specs.Text.{digitOf, restOf, lineOf, Stored};
-
-// A capital digit.
-fn digit(n: u8) -> u8
-    requires { ⌜ n < 16 ⌝ }
-    ensures { λ r. ⌜ r ≡ digitOf n ⌝ }
-{
-    if n < 10 { b'0' + n } else { b'A' + (n - 10) }
-}
+ghost use Rattle.digits.specs.Digits.{pairOf};
+ghost use Rattle.replay.specs.Text.{restOf, lineOf, Stored};
 
 fn put_byte(byte: u8, out: &mut [u8], at: usize)
     requires { ⌜ at + 2 ≤ length (now out) ⌝ }
-    ensures { λ _. ⌜ now (out .exit) ≡ sets (now (out .entry)) at (digitOf (byte / 16) ∷ digitOf (byte % 16) ∷ []) ⌝ }
+    ensures { λ _. ⌜ now (out .exit) ≡ sets (now (out .entry)) at (pairOf byte) ⌝ }
 {
-    out[at] = digit(byte / 16);
-    out[at + 1] = digit(byte % 16);
+    let digits = digits::pair(byte);
+    out[at] = digits[0];
+    out[at + 1] = digits[1];
 }
 
 // A space and two digits for each byte, and a line feed.
