@@ -16,6 +16,7 @@ mod deeds;
 mod events;
 mod judge;
 mod layout;
+mod list_answers;
 mod list_deeds;
 mod lists;
 mod memory;

@@ -9,7 +9,7 @@ ghost use Rattle.session.specs.Doable.{Doable};
 use crate::Deed;
 use crate::answer;
 use crate::deeds;
-use crate::layout;
+use crate::list_answers;
 use crate::list_deeds;
 
 // A deed whose packet has len bytes.
@@ -36,43 +36,16 @@ pub fn perform(deed: Deed, s: &mut [u8], cal: &mut [u8], meas: &[u8], len: u8)
         Deed::ClearList(l) => list_deeds::clear_list(s, l),
         Deed::SetPointer(k, e) => list_deeds::set_pointer(s, k, e),
         Deed::ClearEntry(k, e) => list_deeds::clear_entry(s, k, e),
-        Deed::WriteEntry(k, e, n, extension, a) => list_deeds::write_entry(
-            s,
-            k,
-            e,
-            n,
-            extension,
-            a,
-        ),
+        Deed::WriteEntry(k, e, n, ext, a) => list_deeds::write_entry(s, k, e, n, ext, a),
         Deed::SetMode(l, event) => list_deeds::set_mode(s, l, event),
         Deed::Stop(l) => list_deeds::stop(s, l),
         Deed::Start(l) => list_deeds::start(s, l),
-        Deed::KeepRunning(l) => answer::two(s, 0xFF, layout::ODTS_U8 * l),
+        Deed::KeepRunning(l) => list_answers::keep_running(s, l),
         Deed::Select(l) => list_deeds::select(s, l),
         Deed::StopAll => list_deeds::stop_all(s),
         Deed::StartSelected => list_deeds::start_selected(s),
         Deed::StopSelected => list_deeds::stop_selected(s),
-        Deed::ProcessorInfo => answer::eight(
-            s,
-            0xFF,
-            0x10,
-            layout::LISTS_U8,
-            0x00,
-            layout::EVENTS_U8,
-            0x00,
-            0x00,
-            0x00,
-        ),
-        Deed::ResolutionInfo => answer::eight(
-            s,
-            0xFF,
-            0x01,
-            layout::ENTRY_MOST,
-            0x00,
-            0x00,
-            0x6A,
-            0x01,
-            0x00,
-        ),
+        Deed::ProcessorInfo => list_answers::processor_info(s),
+        Deed::ResolutionInfo => list_answers::resolution_info(s),
     }
 }

@@ -1,5 +1,4 @@
 use mathlib.Core.Path.{refl}
-use native.Mathlib.Omega.{arith}
 use Rattle.session.specs.Perform.{effect, reply, written}
 use borrow.Author.Needs.{needs}
 use Rattle.session.proofs.perform.perform.Statement.{statement}
@@ -140,11 +139,8 @@ start-requires c κs = (c .before .before .before .before .before .before .befor
 enum-known-deed-16 : tie.Need-enum-known-deed-16
 enum-known-deed-16 c = search needs
 
-mul-two : tie.Need-mul-two
-mul-two c = let h = rw (c .before .before .deed16 .given .1) at (c .before .before .before .before .before .before .before .pre .2) in omega arith
-
-two-requires-3 : tie.Need-two-requires-3
-two-requires-3 c κs = search needs
+keep-running-requires : tie.Need-keep-running-requires
+keep-running-requires c κs = (c .before .before .before .before .before .before .before .pre .0, rw (c .before .before .deed16 .given .1) at (c .before .before .before .before .before .before .before .pre .2))
 
 enum-known-deed-17 : tie.Need-enum-known-deed-17
 enum-known-deed-17 c = search needs
@@ -173,14 +169,14 @@ stop-selected-requires c κs = search needs
 enum-told-11 : tie.Need-enum-told-11
 enum-told-11 c = search needs
 
-eight-requires : tie.Need-eight-requires
-eight-requires c κs = search needs
+processor-info-requires : tie.Need-processor-info-requires
+processor-info-requires c κs = search needs
 
 enum-told-12 : tie.Need-enum-told-12
 enum-told-12 c = search needs
 
-eight-requires-2 : tie.Need-eight-requires-2
-eight-requires-2 c κs = search needs
+resolution-info-requires : tie.Need-resolution-info-requires
+resolution-info-requires c κs = search needs
 
 same-length : tie.Need-same-length
 same-length c = search needs
@@ -353,7 +349,7 @@ same-length-27 c = search needs
 
 returns-23 : tie.Need-returns-23
 unfolding effect reply written
-returns-23 c = rw (c .before .before .before .before .before .deed16 .given .1) (record { state = c .before .before .two3 .ensures; memory = refl })
+returns-23 c = rw (c .before .before .before .before .before .deed16 .given .1) (record { state = c .before .before .keep-running .ensures; memory = refl })
 
 same-length-28 : tie.Need-same-length-28
 same-length-28 c = search needs
@@ -388,14 +384,14 @@ same-length-32 c = search needs
 
 returns-28 : tie.Need-returns-28
 unfolding effect reply written
-returns-28 c = rw (c .before .before .before .before .enum-told11 .given .1) (record { state = c .before .before .eight .ensures; memory = refl })
+returns-28 c = rw (c .before .before .before .before .enum-told11 .given .1) (record { state = c .before .before .processor-info .ensures; memory = refl })
 
 same-length-33 : tie.Need-same-length-33
 same-length-33 c = search needs
 
 returns-29 : tie.Need-returns-29
 unfolding effect reply written
-returns-29 c = rw (c .before .before .before .before .enum-told12 .given .1) (record { state = c .before .before .eight2 .ensures; memory = refl })
+returns-29 c = rw (c .before .before .before .before .enum-told12 .given .1) (record { state = c .before .before .resolution-info .ensures; memory = refl })
 
 pub perform-spec : {M : Type 1} → statement M
 perform-spec =
@@ -446,8 +442,7 @@ perform-spec =
     enum-known-deed-15
     start-requires
     enum-known-deed-16
-    mul-two
-    two-requires-3
+    keep-running-requires
     enum-known-deed-17
     select-requires
     enum-told-8
@@ -457,9 +452,9 @@ perform-spec =
     enum-told-10
     stop-selected-requires
     enum-told-11
-    eight-requires
+    processor-info-requires
     enum-told-12
-    eight-requires-2
+    resolution-info-requires
     same-length
     returns
     same-length-2

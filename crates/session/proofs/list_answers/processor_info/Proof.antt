@@ -1,0 +1,17 @@
+use Rattle.session.specs.Perform.{effect, reply}
+use borrow.Author.Needs.{needs}
+use Rattle.session.proofs.list_answers.processor_info.Statement.{statement}
+use Rattle.session.proofs.list_answers.processor_info.Tie as tie
+
+eight-requires : tie.Need-eight-requires
+eight-requires c κs = search needs
+
+same-length : tie.Need-same-length
+same-length c = search needs
+
+returns : tie.Need-returns
+unfolding effect reply
+returns c = c .before .before .eight .ensures
+
+pub processor-info-spec : {M : Type 1} → statement M
+processor-info-spec = tie.close (tie.spec eight-requires same-length returns)

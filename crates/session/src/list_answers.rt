@@ -1,0 +1,52 @@
+// The deeds of the lists that change nothing: of each its answer.
+ghost use mathlib.Core.Path.{_≡_};
+ghost use mathlib.Core.List.{[]};
+ghost use Prim.Native.Nat.{_<_};
+ghost use lib.ListN.{length};
+ghost use Rattle.session.specs.Layout.{lists, size};
+ghost use Rattle.session.specs.Perform.{after};
+use crate::Deed;
+use crate::answer;
+use crate::layout;
+
+// A running list is started again.
+pub fn keep_running(s: &mut [u8], l: u8)
+    requires { ⌜ (length (now s) ≡ size) × (l < lists) ⌝ }
+    ensures { λ _. ⌜ now (s .exit) ≡ after (Deed.KeepRunning l) (now (s .entry)) [] [] ⌝ }
+{
+    answer::two(s, 0xFF, layout::ODTS_U8 * l);
+}
+
+pub fn processor_info(s: &mut [u8])
+    requires { ⌜ length (now s) ≡ size ⌝ }
+    ensures { λ _. ⌜ now (s .exit) ≡ after Deed.ProcessorInfo (now (s .entry)) [] [] ⌝ }
+{
+    answer::eight(
+        s,
+        0xFF,
+        0x10,
+        layout::LISTS_U8,
+        0x00,
+        layout::EVENTS_U8,
+        0x00,
+        0x00,
+        0x00,
+    );
+}
+
+pub fn resolution_info(s: &mut [u8])
+    requires { ⌜ length (now s) ≡ size ⌝ }
+    ensures { λ _. ⌜ now (s .exit) ≡ after Deed.ResolutionInfo (now (s .entry)) [] [] ⌝ }
+{
+    answer::eight(
+        s,
+        0xFF,
+        0x01,
+        layout::ENTRY_MOST,
+        0x00,
+        0x00,
+        0x6A,
+        0x01,
+        0x00,
+    );
+}
