@@ -1,23 +1,24 @@
-// What a command leads to. Of each command the checks stand in the paper's order, one line a check.
+// What a command leads to. Of each command the checks stand in the paper's order, and the first that
+// applies answers.
 ghost use mathlib.Core.Path.{_≡_};
-ghost use Prim.Native.Nat.{_+_, _≤_, _<_};
+ghost use Prim.Native.Nat.{_≤_, _<_};
 ghost use lib.ListN.{length};
 ghost use Rattle.session.specs.Layout.{lists, packetMost, size, packetAt};
 ghost use Rattle.session.specs.Bytes.{block};
 ghost use Rattle.session.specs.State.{seedOf, pointerOf};
-ghost use Rattle.session.specs.Command.{commandOf, fewest, needsOf, lockedOf};
+ghost use Rattle.session.specs.Command.{fewest};
 ghost use Rattle.session.specs.Judge.{extensionFrom, connectDeed, seedDeed, getSeedDeed, unlockBy, setMtaDeed, uploadDeed, shortUploadDeed, checksumDeed, downloadTo, downloadDeed, clearDeed, pointerDeed, writeBlock, writeDeed, modeDeed, startDeed, startStopDeed, synchDeed, judgeThe, judge};
 use crate::Command;
 use crate::Deed;
 use crate::Extension;
 use crate::Mta;
-use crate::Needs;
 use crate::Pointer;
 use crate::Reason;
 use crate::Resource;
 use crate::Seed;
 use crate::bytes::get16;
 use crate::bytes::get32;
+use crate::commands;
 use crate::layout;
 use crate::lists::all_fit;
 use crate::lists::fit;
@@ -26,105 +27,6 @@ use crate::memory::inside;
 use crate::memory::length_of;
 use crate::seeds::key_for;
 use crate::state;
-
-// The dispatch: every other code is unknown.
-fn command(code: u8) -> Command
-    ensures { λ r. ⌜ r ≡ commandOf code ⌝ }
-{
-    match code {
-        0xFF => Command::Connect,
-        0xFE => Command::Disconnect,
-        0xFD => Command::GetStatus,
-        0xFC => Command::Synch,
-        0xF9..=0xFB => Command::Unknown,
-        0xF8 => Command::GetSeed,
-        0xF7 => Command::Unlock,
-        0xF6 => Command::SetMta,
-        0xF5 => Command::Upload,
-        0xF4 => Command::ShortUpload,
-        0xF3 => Command::BuildChecksum,
-        0xF1..=0xF2 => Command::Unknown,
-        0xF0 => Command::Download,
-        0xE4..=0xEF => Command::Unknown,
-        0xE3 => Command::ClearDaqList,
-        0xE2 => Command::SetDaqPtr,
-        0xE1 => Command::WriteDaq,
-        0xE0 => Command::SetDaqListMode,
-        0xDF => Command::Unknown,
-        0xDE => Command::StartStopDaqList,
-        0xDD => Command::StartStopSynch,
-        0xDB..=0xDC => Command::Unknown,
-        0xDA => Command::GetDaqProcessorInfo,
-        0xD9 => Command::GetDaqResolutionInfo,
-        _ => Command::Unknown,
-    }
-}
-
-// The fewest bytes of a command.
-fn fewest(command: Command) -> u8
-    ensures { λ r. ⌜ r ≡ fewest command ⌝ }
-{
-    match command {
-        Command::Unknown => 0,
-        Command::Connect => 2,
-        Command::Disconnect => 1,
-        Command::GetStatus => 1,
-        Command::Synch => 1,
-        Command::GetSeed => 3,
-        Command::Unlock => 2,
-        Command::SetMta => 8,
-        Command::Upload => 2,
-        Command::ShortUpload => 8,
-        Command::BuildChecksum => 8,
-        Command::Download => 2,
-        Command::ClearDaqList => 4,
-        Command::SetDaqPtr => 6,
-        Command::WriteDaq => 8,
-        Command::SetDaqListMode => 8,
-        Command::StartStopDaqList => 4,
-        Command::StartStopSynch => 2,
-        Command::GetDaqProcessorInfo => 1,
-        Command::GetDaqResolutionInfo => 1,
-    }
-}
-
-// The lock that must be open for a command.
-fn needs(command: Command) -> Needs
-    ensures { λ r. ⌜ r ≡ needsOf command ⌝ }
-{
-    match command {
-        Command::Unknown => Needs::Nothing,
-        Command::Connect => Needs::Nothing,
-        Command::Disconnect => Needs::Nothing,
-        Command::GetStatus => Needs::Nothing,
-        Command::Synch => Needs::Nothing,
-        Command::GetSeed => Needs::Nothing,
-        Command::Unlock => Needs::Nothing,
-        Command::SetMta => Needs::Nothing,
-        Command::Upload => Needs::Nothing,
-        Command::ShortUpload => Needs::Nothing,
-        Command::BuildChecksum => Needs::Nothing,
-        Command::Download => Needs::Unlocked(Resource::Calibration),
-        Command::ClearDaqList => Needs::Unlocked(Resource::Lists),
-        Command::SetDaqPtr => Needs::Unlocked(Resource::Lists),
-        Command::WriteDaq => Needs::Unlocked(Resource::Lists),
-        Command::SetDaqListMode => Needs::Unlocked(Resource::Lists),
-        Command::StartStopDaqList => Needs::Unlocked(Resource::Lists),
-        Command::StartStopSynch => Needs::Unlocked(Resource::Lists),
-        Command::GetDaqProcessorInfo => Needs::Unlocked(Resource::Lists),
-        Command::GetDaqResolutionInfo => Needs::Unlocked(Resource::Lists),
-    }
-}
-
-fn locked(s: &[u8], needs: Needs) -> bool
-    requires { ⌜ length (now s) ≡ size ⌝ }
-    ensures { λ r. ⌜ r ≡ lockedOf (now (s .entry)) needs ⌝ }
-{
-    match needs {
-        Needs::Nothing => false,
-        Needs::Unlocked(resource) => !state::unlocked(s, resource),
-    }
-}
 
 // 0 is calibration; a number above 1 was refused before.
 fn extension_from(n: u8) -> Extension
@@ -493,11 +395,11 @@ pub fn judge(s: &[u8], n: u8, nc: usize, nm: usize) -> Deed
     requires { ⌜ (length (now s) ≡ size) × (1 ≤ n) × (n ≤ packetMost) ⌝ }
     ensures { λ r. ⌜ r ≡ judge (block (now (s .entry)) packetAt n) (now (s .entry)) nc nm ⌝ }
 {
-    let c = command(s[layout::PACKET]);
-    if n < fewest(c) {
+    let c = commands::command(s[layout::PACKET]);
+    if n < commands::fewest(c) {
         return Deed::Refuse(Reason::TooShort);
     }
-    if locked(s, needs(c)) {
+    if commands::locked(s, commands::needs(c)) {
         return Deed::Refuse(Reason::Locked);
     }
     judge_the(c, s, n, nc, nm)

@@ -12,6 +12,7 @@ ghost use Rattle.session.specs.Number.{receivedNumber, eventedNumber, sl
 mod answer;
 mod bytes;
 mod changes;
+mod commands;
 mod deeds;
 mod events;
 mod judge;

@@ -1,6 +1,6 @@
 use borrow.Author.Needs.{needs}
-use Rattle.session.proofs.judge.needs.Statement.{statement}
-use Rattle.session.proofs.judge.needs.Tie as tie
+use Rattle.session.proofs.commands.fewest.Statement.{statement}
+use Rattle.session.proofs.commands.fewest.Tie as tie
 
 enum-told : tie.Need-enum-told
 enum-told c = search needs
@@ -122,8 +122,8 @@ returns-19 c = simp (c .enum-told19 .given .1)
 returns-20 : tie.Need-returns-20
 returns-20 c = simp (c .enum-told20 .given .1)
 
-pub needs-spec : {M : Type 1} → statement M
-needs-spec =
+pub fewest-spec : {M : Type 1} → statement M
+fewest-spec =
     tie.close
     (tie.spec
     enum-told

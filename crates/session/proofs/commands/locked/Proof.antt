@@ -1,7 +1,7 @@
 use Rattle.session.specs.Command.{lockedOf}
 use borrow.Author.Needs.{needs}
-use Rattle.session.proofs.judge.locked.Statement.{statement}
-use Rattle.session.proofs.judge.locked.Tie as tie
+use Rattle.session.proofs.commands.locked.Statement.{statement}
+use Rattle.session.proofs.commands.locked.Tie as tie
 
 enum-told : tie.Need-enum-told
 enum-told c = search needs

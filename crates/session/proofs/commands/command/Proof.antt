@@ -1,8 +1,8 @@
 use mathlib.Core.Path.{sym}
 use Rattle.session.specs.Command.{commandOf}
 use Rattle.session.proofs.Codes.{unknown}
-use Rattle.session.proofs.judge.command.Statement.{statement}
-use Rattle.session.proofs.judge.command.Tie as tie
+use Rattle.session.proofs.commands.command.Statement.{statement}
+use Rattle.session.proofs.commands.command.Tie as tie
 
 returns : tie.Need-returns
 unfolding commandOf
