@@ -19,7 +19,7 @@ use Rattle.session.specs.Lists.{sizeOf, extensionOf, addressOf}
 use Rattle.session.specs.Doable.{Inside, Doable}
 use Rattle.session.specs.Judge.{judge}
 use Rattle.session.specs.Perform.{reply, written}
-use Rattle.session.specs.Receive.{Step, only, obeyed, greets, heeded, meant, readOn, fedOf, receiveOf}
+use Rattle.session.specs.Receive.{Step, only, obeyed, goodConnect, heeded, meant, readOn, fedOf, receiveOf}
 use Rattle.session.specs.Event.{samplingOf, entryBytes, gathered, captured, sampledState, Tally, counted, tally, eventOf}
 use Rattle.session.specs.declared.Extension.{Extension}
 use Rattle.session.specs.declared.Extension.the-variants.{Calibration, Measured}
@@ -212,7 +212,7 @@ module _ (cal meas : List ℕ) where
       rw (judged-cut p s)
       (either-cut (waits s) (only-cut Unread s)
       (either-cut (openOf s) (obeyed-cut (judge p s (length cal) (length meas)) p s (judge-doable p s (length cal) (length meas)))
-      (either-cut (greets p) (obeyed-cut Connect p s tt) (only-cut Silent s))))
+      (either-cut (goodConnect p) (obeyed-cut Connect p s tt) (only-cut Silent s))))
 
   meant-cut : (o : Outcome) (m s : List ℕ) → Cut rest (meant o m s cal meas) (meant o m s (front cal) (front meas))
   unfolding meant

@@ -16,7 +16,7 @@ use Rattle.session.specs.Bytes.{block}
 use Rattle.session.specs.State.{consistent, openOf, waits, answerOf}
 use Rattle.session.specs.Perform.{reply}
 use Rattle.session.specs.Doable.{Doable}
-use Rattle.session.specs.Receive.{Step, only, obeyed, greets, heeded, meant, fedOf, receiveOf}
+use Rattle.session.specs.Receive.{Step, only, obeyed, goodConnect, heeded, meant, fedOf, receiveOf}
 use Rattle.session.specs.Number.{receivedNumber}
 use Rattle.session.specs.declared.Deed.{Deed}
 use Rattle.session.specs.declared.Deed.the-variants.{Connect}
@@ -35,7 +35,7 @@ pub record Does (s cal meas : List ℕ) (b : ℕ) (d : Deed) (p : List ℕ) : Ty
   pub can : Doable d (length p) (length cal) (length meas)
   pub found : Found d p (readBy s b)
   pub opened : openOf s ≡ true → d ≡ deedOf p (readBy s b) cal meas
-  pub closed : openOf s ≡ false → (d ≡ Connect) × (greets p ≡ true)
+  pub closed : openOf s ≡ false → (d ≡ Connect) × (goodConnect p ≡ true)
 
 pub data Reads (s cal meas : List ℕ) (b : ℕ) : Step → Option Deed → Type 0 where
   rests : (r : Received) → receivedNumber r ≢ 1 → receivedNumber r ≤ 7 → Reads s cal meas b (only r (readBy s b) cal) none
@@ -46,11 +46,11 @@ module _ (s cal meas : List ℕ) (b : ℕ) (c : consistent s ≡ true) where
   heeded-reads : (p : List ℕ) → packetEnded s b ≡ some p → Reads s cal meas b (heeded p (readBy s b) cal meas) (heeds (some p) (readBy s b) cal meas)
   unfolding heeded heeds
   heeded-reads p e =
-      go (waits (readBy s b)) (openOf (readBy s b)) (greets p) (sym (read-waits s b c)) (sym (read-open s b c)) refl where
+      go (waits (readBy s b)) (openOf (readBy s b)) (goodConnect p) (sym (read-waits s b c)) (sym (read-open s b c)) refl where
         t : List ℕ
         t = readBy s b
 
-        go : (w o g : Bool) → waits s ≡ w → openOf s ≡ o → greets p ≡ g
+        go : (w o g : Bool) → waits s ≡ w → openOf s ≡ o → goodConnect p ≡ g
             → Reads s cal meas b
             (cond w (only Unread t cal) (cond o (obeyed (deedOf p t cal meas) p t cal meas) (cond g (obeyed Connect p t cal meas) (only Silent t cal))))
             (cond w none (cond o (some (deedOf p t cal meas)) (cond g (some Connect) none)))

@@ -14,7 +14,7 @@ use Rattle.session.specs.Generator.{keyOf}
 use Rattle.session.specs.State.{flagOf, openOf, generatorOf, seedOf, waits}
 use Rattle.session.specs.Judge.{judge}
 use Rattle.session.specs.Perform.{reply}
-use Rattle.session.specs.Receive.{greets, fedOf, readOn}
+use Rattle.session.specs.Receive.{goodConnect, fedOf, readOn}
 use Rattle.session.specs.declared.Resource.{Resource}
 use Rattle.session.specs.declared.Seed.{Seed}
 use Rattle.session.specs.declared.Seed.the-variants.{None, For}
@@ -54,7 +54,7 @@ answerTo p s cal meas = reply (deedOf p s cal meas) s cal meas
 -- ---- what is done at byte b, if anything is
 unfoldable pub heeds : Option (List ℕ) → List ℕ → List ℕ → List ℕ → Option Deed
 heeds none s cal meas = none
-heeds (some p) s cal meas = cond (waits s) none (cond (openOf s) (some (deedOf p s cal meas)) (cond (greets p) (some Connect) none))
+heeds (some p) s cal meas = cond (waits s) none (cond (openOf s) (some (deedOf p s cal meas)) (cond (goodConnect p) (some Connect) none))
 
 abbrev pub doneAt : List ℕ → List ℕ → List ℕ → ℕ → Option Deed
 doneAt s cal meas b = heeds (packetEnded s b) (readBy s b) cal meas

@@ -21,7 +21,7 @@ use Rattle.session.specs.State.{consistent, flagOf, openOf, generatorOf, setGen
 use Rattle.session.specs.Lists.{runsOf, restarted, listCleared, modeSet, tagOf, entryCleared, entrySet, stopEach, startOne, startSelected, stopSelected}
 use Rattle.session.specs.Judge.{judge}
 use Rattle.session.specs.Perform.{nextEntry, effect, reply, after}
-use Rattle.session.specs.Receive.{Step, greets, heeded, meant, readOn, fedOf, receiveOf}
+use Rattle.session.specs.Receive.{Step, goodConnect, heeded, meant, readOn, fedOf, receiveOf}
 use Rattle.session.specs.Event.{stored, captured, samplingOf, sampledState, tally, Happened, eventOf}
 use Rattle.session.specs.Slot.{Slot, turnOf, nextCtr, answerSent, packetSent, sentBy, slotOf}
 use Rattle.session.specs.PowerUp.{powered, powerUpOf}
@@ -221,7 +221,7 @@ marked-heeded p s cal meas =
     let Good : Step → Type 0 = λ (o : Step). Marked s (o .state) in
     cond-ind Good (waits s) (λ _. marked-none)
     (λ _. cond-ind Good (openOf s) (λ _. marked-after (judge p s (length cal) (length meas)) s cal meas)
-    (λ _. cond-ind Good (greets p) (λ _. marked-after Connect s cal meas)
+    (λ _. cond-ind Good (goodConnect p) (λ _. marked-after Connect s cal meas)
     (λ _. marked-none)))
 
 marked-meant : (o : Outcome) (m s cal meas : List ℕ) → Marked s (meant o m s cal meas .state)

@@ -88,11 +88,12 @@ checksumDeed (At e a) n nc nm =
     (cond (insideOf a n (pick e nc nm)) (deed.Checksum e a n)
     (deed.Refuse NotInside)))
 
--- DOWNLOAD of n bytes in a packet of `length` bytes
+-- DOWNLOAD of n bytes
 unfoldable pub downloadTo : Extension → ℕ → ℕ → ℕ → Deed
 downloadTo CalibrationMemory a n nc = cond (insideOf a n nc) (deed.Download a n) (deed.Refuse NotInside)
 downloadTo Measured a n nc = deed.Refuse ReadOnly
 
+-- `length` is the packet's
 unfoldable pub downloadDeed : Mta → ℕ → ℕ → ℕ → Deed
 downloadDeed Unset n length nc = deed.Refuse Sequence
 downloadDeed (At e a) n length nc =
@@ -193,7 +194,7 @@ judgeThe StartStopSynch p s nc nm = synchDeed s (getD p 1 0)
 judgeThe GetDaqProcessorInfo p s nc nm = deed.ProcessorInfo
 judgeThe GetDaqResolutionInfo p s nc nm = deed.ResolutionInfo
 
--- unknown, too short, locked: once for all commands
+-- too short and locked, once for all commands; an unknown code is never either, and `judgeThe` refuses it
 unfoldable pub judgeBy : Command → List ℕ → List ℕ → ℕ → ℕ → Deed
 judgeBy c p s nc nm =
     cond (ltb (length p) (fewest c)) (deed.Refuse TooShort)

@@ -19,7 +19,7 @@ abbrev pub pick : {A : Type 0} → Extension → A → A → A
 pick Calibration cal meas = cal
 pick Measured cal meas = meas
 
--- a block is inside when its address plus size is at most that
+-- a block is inside a memory of that length when its address plus size is within what can be addressed
 unfoldable pub insideOf : ℕ → ℕ → ℕ → Bool
 insideOf address n length = leb (address + n) (reach length)
 

@@ -6,7 +6,7 @@ use mathlib.Core.List.{List, [], _∷_}
 use lib.Dec.{eqb}
 use lib.ListN.{set}
 use lib.Seq.{sets}
-use Rattle.session.specs.Layout.{lists, lastEntry, events, packetMost, entryMost, selectedAt, firstOdt, listOf}
+use Rattle.session.specs.Layout.{lists, lastEntry, events, packetMost, entryMost, addressable, selectedAt, firstOdt, listOf}
 use Rattle.session.specs.Bytes.{block, bytes32}
 use Rattle.session.specs.Generator.{nextOf}
 use Rattle.session.specs.Memory.{pick, blockSum}
@@ -61,7 +61,7 @@ effect ResolutionInfo s = s
 -- ---- the answer, by the state and the memories before the deed
 unfoldable pub reply : Deed → List ℕ → List ℕ → List ℕ → List ℕ
 reply (Refuse r) s cal meas = 0xFE ∷ codeOf r ∷ []
-reply RefuseSize s cal meas = 0xFE ∷ 0x22 ∷ 0x00 ∷ 0x00 ∷ 0x00 ∷ 0x10 ∷ 0x00 ∷ 0x00 ∷ []
+reply RefuseSize s cal meas = 0xFE ∷ codeOf reason.OutOfRange ∷ 0x00 ∷ 0x00 ∷ bytes32 addressable
 reply WrongKey s cal meas = 0xFE ∷ codeOf reason.WrongKey ∷ []
 reply Connect s cal meas = 0xFF ∷ 0x05 ∷ 0x00 ∷ packetMost ∷ packetMost ∷ 0x00 ∷ 0x01 ∷ 0x01 ∷ []
 reply Disconnect s cal meas = 0xFF ∷ []

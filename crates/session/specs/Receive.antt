@@ -31,16 +31,16 @@ only r s cal = record { received = r; state = s; cal = cal }
 abbrev pub obeyed : Deed → List ℕ → List ℕ → List ℕ → List ℕ → Step
 obeyed d p s cal meas = record { received = Answered; state = after d s cal meas; cal = written d p cal }
 
--- a good CONNECT
-unfoldable pub greets : List ℕ → Bool
-greets p = cond (eqb (getD p 0 0) 0xFF) (cond (ltb (length p) 2) false (eqb (getD p 1 0) 0)) false
+-- CONNECT with its two bytes, and mode 0
+unfoldable pub goodConnect : List ℕ → Bool
+goodConnect p = cond (eqb (getD p 0 0) 0xFF) (cond (ltb (length p) 2) false (eqb (getD p 1 0) 0)) false
 
 -- a good message with packet p
 unfoldable pub heeded : List ℕ → List ℕ → List ℕ → List ℕ → Step
 heeded p s cal meas =
     cond (waits s) (only Unread s cal)
     (cond (openOf s) (obeyed (judge p s (length cal) (length meas)) p s cal meas)
-    (cond (greets p) (obeyed Connect p s cal meas)
+    (cond (goodConnect p) (obeyed Connect p s cal meas)
     (only Silent s cal)))
 
 -- what the line's outcome means, with the message buffer m

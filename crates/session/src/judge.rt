@@ -390,7 +390,8 @@ fn judge_the(command: Command, s: &[u8], n: u8, nc: usize, nm: usize) -> Deed
     }
 }
 
-// The command in the n bytes of the packet; unknown, too short and locked are judged once for all.
+// The command in the n bytes of the packet. Too short and locked are judged once for all; an unknown
+// code is never either, and `judge_the` refuses it.
 pub fn judge(s: &[u8], n: u8, nc: usize, nm: usize) -> Deed
     requires { ⌜ (length (now s) ≡ size) × (1 ≤ n) × (n ≤ packetMost) ⌝ }
     ensures { λ r. ⌜ r ≡ judge (block (now (s .entry)) packetAt n) (now (s .entry)) nc nm ⌝ }

@@ -1,13 +1,12 @@
 // An XCP slave over one lent state buffer: commands, memory access, lists, events, slots. No call
 // leans on its caller: any bytes at any moment with any lent memory get a defined answer.
 ghost use mathlib.Core.Path.{_≡_};
-ghost use Prim.Native.Nat.{_*_};
 ghost use Rattle.session.specs.Receive.{Receives, receiveOf};
 ghost use Rattle.session.specs.Event.{Happens, eventOf};
 ghost use Rattle.session.specs.Slot.{Sends, slotOf};
 ghost use Rattle.session.specs.PowerUp.{Powers, powerUpOf};
 ghost use Rattle.session.specs.Layout.{size};
-ghost use Rattle.session.specs.Number.{receivedNumber, eventedNumber, slottedNumber, poweredUpNumber};
+ghost use Rattle.session.specs.Number.{receivedNumber};
 
 mod answer;
 mod bytes;

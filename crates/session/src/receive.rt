@@ -4,7 +4,7 @@ ghost use Prim.Native.Nat.{_≤_};
 ghost use lib.ListN.{length};
 ghost use Rattle.session.specs.Layout.{packetMost, size, packetAt};
 ghost use Rattle.session.specs.Bytes.{block};
-ghost use Rattle.session.specs.Receive.{Receives, greets, heeded, fedOf, receivedBy};
+ghost use Rattle.session.specs.Receive.{Receives, goodConnect, heeded, fedOf, receivedBy};
 use crate::Deed;
 use crate::Received;
 use crate::judge::judge;
@@ -14,9 +14,9 @@ use crate::state;
 use line::Outcome;
 
 // Whether the packet of n bytes is a good CONNECT.
-fn is_greeting(s: &[u8], n: u8) -> bool
+fn good_connect(s: &[u8], n: u8) -> bool
     requires { ⌜ (length (now s) ≡ size) × (1 ≤ n) × (n ≤ packetMost) ⌝ }
-    ensures { λ r. ⌜ r ≡ greets (block (now (s .entry)) packetAt n) ⌝ }
+    ensures { λ r. ⌜ r ≡ goodConnect (block (now (s .entry)) packetAt n) ⌝ }
 {
     if s[layout::PACKET] != 0xFF {
         return false;
@@ -40,7 +40,7 @@ fn heed(s: &mut [u8], cal: &mut [u8], meas: &[u8], n: u8) -> Received
         perform(deed, s, cal, meas, n);
         return Received::Answered;
     }
-    if is_greeting(s, n) {
+    if good_connect(s, n) {
         perform(Deed::Connect, s, cal, meas, n);
         return Received::Answered;
     }

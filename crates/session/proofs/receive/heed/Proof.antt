@@ -38,8 +38,8 @@ returns-2 : tie.Need-returns-2
 unfolding heeded
 returns-2 c = simp (← (c .before .before .before .before .before .before .before .before .before .before .before .before .before .answer-length .ensures .0), le-ltb _ _ (c .before .before .before .before .before .before .before .before .before .before .before .before .if1 .left), sym (c .before .before .before .before .before .before .before .before .before .before .flag .ensures) ∙ c .before .before .before .before .before .before .before .before .before .if2 .taken, ← (c .before .before .before .before .before .before .before .judge .ensures)) (record { result = refl; state = c .before .before .before .before .perform .ensures .state; memory = c .before .before .before .before .perform .ensures .memory })
 
-is-greeting-requires : tie.Need-is-greeting-requires
-is-greeting-requires c κs = search needs
+good-connect-requires : tie.Need-good-connect-requires
+good-connect-requires c κs = search needs
 
 perform-requires-2 : tie.Need-perform-requires-2
 perform-requires-2 c κs = search needs
@@ -52,14 +52,14 @@ same-length-5 c = search needs
 
 returns-3 : tie.Need-returns-3
 unfolding heeded
-returns-3 c = simp (← (c .before .before .before .before .before .before .before .before .before .before .before .before .before .before .answer-length .ensures .0), le-ltb _ _ (c .before .before .before .before .before .before .before .before .before .before .before .before .before .if1 .left), sym (c .before .before .before .before .before .before .before .before .before .before .before .flag .ensures) ∙ c .before .before .before .before .before .before .before .before .before .before .if2 .left, sym (c .before .before .before .before .before .before .before .before .is-greeting .ensures) ∙ c .before .before .before .before .before .before .before .if3 .taken) (record { result = refl; state = c .before .before .before .before .perform2 .ensures .state; memory = c .before .before .before .before .perform2 .ensures .memory })
+returns-3 c = simp (← (c .before .before .before .before .before .before .before .before .before .before .before .before .before .before .answer-length .ensures .0), le-ltb _ _ (c .before .before .before .before .before .before .before .before .before .before .before .before .before .if1 .left), sym (c .before .before .before .before .before .before .before .before .before .before .before .flag .ensures) ∙ c .before .before .before .before .before .before .before .before .before .before .if2 .left, sym (c .before .before .before .before .before .before .before .before .good-connect .ensures) ∙ c .before .before .before .before .before .before .before .if3 .taken) (record { result = refl; state = c .before .before .before .before .perform2 .ensures .state; memory = c .before .before .before .before .perform2 .ensures .memory })
 
 same-length-6 : tie.Need-same-length-6
 same-length-6 c = search needs
 
 returns-4 : tie.Need-returns-4
 unfolding heeded
-returns-4 c = simp (← (c .before .before .before .before .before .before .before .answer-length .ensures .0), le-ltb _ _ (c .before .before .before .before .before .before .if1 .left), sym (c .before .before .before .before .flag .ensures) ∙ c .before .before .before .if2 .left, sym (c .before .is-greeting .ensures) ∙ c .if3 .left) (record { result = refl; state = refl; memory = refl })
+returns-4 c = simp (← (c .before .before .before .before .before .before .before .answer-length .ensures .0), le-ltb _ _ (c .before .before .before .before .before .before .if1 .left), sym (c .before .before .before .before .flag .ensures) ∙ c .before .before .before .if2 .left, sym (c .before .good-connect .ensures) ∙ c .if3 .left) (record { result = refl; state = refl; memory = refl })
 
 pub heed-spec : {M : Type 1} → statement M
 heed-spec =
@@ -74,7 +74,7 @@ heed-spec =
     same-length-2
     same-length-3
     returns-2
-    is-greeting-requires
+    good-connect-requires
     perform-requires-2
     same-length-4
     same-length-5

@@ -1,20 +1,20 @@
 use native.Mathlib.Omega.{arith}
 use Rattle.session.proofs.Packet.{packet-length, packet-byte}
 use borrow.Author.Tests.{eq-eqb, le-ltb, lt-ltb, ne-eqb}
-use Rattle.session.specs.Receive.{greets}
+use Rattle.session.specs.Receive.{goodConnect}
 use borrow.Author.Needs.{needs}
-use Rattle.session.proofs.receive.is_greeting.Statement.{statement}
-use Rattle.session.proofs.receive.is_greeting.Tie as tie
+use Rattle.session.proofs.receive.good_connect.Statement.{statement}
+use Rattle.session.proofs.receive.good_connect.Tie as tie
 
 shared-slice-read-if1 : tie.Need-shared-slice-read-if1
 shared-slice-read-if1 c = search needs
 
 returns : tie.Need-returns
-unfolding greets
+unfolding goodConnect
 returns c = rw (packet-byte (c .before .before .args .s .now) (c .before .before .args .n) 0 (omega arith)) (simp (ne-eqb _ _ (c .if1 .taken)))
 
 returns-2 : tie.Need-returns-2
-unfolding greets
+unfolding goodConnect
 returns-2 c = rw (packet-byte (c .before .before .before .args .s .now) (c .before .before .before .args .n) 0 (omega arith), packet-length (c .before .before .before .args .s .now) (c .before .before .before .args .n) (c .before .before .before .pre .2) (c .before .before .before .pre .0)) (simp (lt-ltb _ _ (c .if2 .taken), eq-eqb _ _ (c .before .if1 .left)))
 
 add-result : tie.Need-add-result
@@ -24,11 +24,11 @@ shared-slice-read-result : tie.Need-shared-slice-read-result
 shared-slice-read-result c = search needs
 
 returns-3 : tie.Need-returns-3
-unfolding greets
+unfolding goodConnect
 returns-3 c = rw (packet-byte (c .before .before .before .before .args .s .now) (c .before .before .before .before .args .n) 0 (omega arith), packet-length (c .before .before .before .before .args .s .now) (c .before .before .before .before .args .n) (c .before .before .before .before .pre .2) (c .before .before .before .before .pre .0), packet-byte (c .before .before .before .before .args .s .now) (c .before .before .before .before .args .n) 1 (omega arith)) (simp (le-ltb _ _ (c .before .if2 .left), eq-eqb _ _ (c .before .before .if1 .left)))
 
-pub is-greeting-spec : {M : Type 1} → statement M
-is-greeting-spec =
+pub good-connect-spec : {M : Type 1} → statement M
+good-connect-spec =
     tie.close
     (tie.spec
     shared-slice-read-if1
