@@ -27,7 +27,7 @@ pub fn two(s: &mut [u8], a: u8, b: u8)
 {
     s[layout::ANSWER] = 2;
     s[layout::ANSWER_BYTES] = a;
-    s[layout::ANSWER_BYTES + 1] = b;
+    s[layout::ANSWER_1] = b;
 }
 
 pub fn six(s: &mut [u8], a: u8, b: u8, c: u8, d: u8, e: u8, f: u8)
@@ -36,11 +36,11 @@ pub fn six(s: &mut [u8], a: u8, b: u8, c: u8, d: u8, e: u8, f: u8)
 {
     s[layout::ANSWER] = 6;
     s[layout::ANSWER_BYTES] = a;
-    s[layout::ANSWER_BYTES + 1] = b;
-    s[layout::ANSWER_BYTES + 2] = c;
-    s[layout::ANSWER_BYTES + 3] = d;
-    s[layout::ANSWER_BYTES + 4] = e;
-    s[layout::ANSWER_BYTES + 5] = f;
+    s[layout::ANSWER_1] = b;
+    s[layout::ANSWER_2] = c;
+    s[layout::ANSWER_3] = d;
+    s[layout::ANSWER_4] = e;
+    s[layout::ANSWER_5] = f;
 }
 
 pub fn eight(s: &mut [u8], a: u8, b: u8, c: u8, d: u8, e: u8, f: u8, g: u8, h: u8)
@@ -49,13 +49,13 @@ pub fn eight(s: &mut [u8], a: u8, b: u8, c: u8, d: u8, e: u8, f: u8, g: u8, h: u
 {
     s[layout::ANSWER] = 8;
     s[layout::ANSWER_BYTES] = a;
-    s[layout::ANSWER_BYTES + 1] = b;
-    s[layout::ANSWER_BYTES + 2] = c;
-    s[layout::ANSWER_BYTES + 3] = d;
-    s[layout::ANSWER_BYTES + 4] = e;
-    s[layout::ANSWER_BYTES + 5] = f;
-    s[layout::ANSWER_BYTES + 6] = g;
-    s[layout::ANSWER_BYTES + 7] = h;
+    s[layout::ANSWER_1] = b;
+    s[layout::ANSWER_2] = c;
+    s[layout::ANSWER_3] = d;
+    s[layout::ANSWER_4] = e;
+    s[layout::ANSWER_5] = f;
+    s[layout::ANSWER_6] = g;
+    s[layout::ANSWER_7] = h;
 }
 
 // FF 04 and a seed.
@@ -65,8 +65,8 @@ pub fn seed(s: &mut [u8], x: u32)
 {
     s[layout::ANSWER] = 6;
     s[layout::ANSWER_BYTES] = 0xFF;
-    s[layout::ANSWER_BYTES + 1] = 0x04;
-    store32(s, layout::ANSWER_BYTES + 2, x);
+    s[layout::ANSWER_1] = 0x04;
+    store32(s, layout::ANSWER_2, x);
 }
 
 // FF 02 00 00 and a sum.
@@ -76,10 +76,10 @@ pub fn sum(s: &mut [u8], x: u32)
 {
     s[layout::ANSWER] = 8;
     s[layout::ANSWER_BYTES] = 0xFF;
-    s[layout::ANSWER_BYTES + 1] = 0x02;
-    s[layout::ANSWER_BYTES + 2] = 0x00;
-    s[layout::ANSWER_BYTES + 3] = 0x00;
-    store32(s, layout::ANSWER_BYTES + 4, x);
+    s[layout::ANSWER_1] = 0x02;
+    s[layout::ANSWER_2] = 0x00;
+    s[layout::ANSWER_3] = 0x00;
+    store32(s, layout::ANSWER_4, x);
 }
 
 // FF and n bytes of a memory.
@@ -89,7 +89,7 @@ pub fn bytes(s: &mut [u8], mem: &[u8], at: usize, n: u8)
 {
     s[layout::ANSWER] = n + 1;
     s[layout::ANSWER_BYTES] = 0xFF;
-    copy(s, layout::ANSWER_BYTES + 1, mem, at, n as usize);
+    copy(s, layout::ANSWER_1, mem, at, n as usize);
 }
 
 fn code(reason: Reason) -> u8

@@ -157,7 +157,7 @@ pub fn download(s: &mut [u8], cal: &mut [u8], address: u32, n: u8, len: u8)
     requires { ⌜ (length (now s) ≡ size) × (len ≤ packetMost) × (n + 2 ≤ len) × Inside downloadMost address n (length (now cal)) ⌝ }
     ensures { λ _. ⌜ (now (s .exit) ≡ after (Deed.Download address n) (now (s .entry)) [] []) × (now (cal .exit) ≡ written (Deed.Download address n) (block (now (s .entry)) packetAt len) (now (cal .entry))) ⌝ }
 {
-    copy(cal, address as usize, s, layout::PACKET + 2, n as usize);
+    copy(cal, address as usize, s, layout::PACKET_2, n as usize);
     state::set_mta(s, Mta::At(Extension::Calibration, address + n as u32));
     answer::ok(s);
 }

@@ -87,14 +87,14 @@ fn unlock(s: &[u8], n: u8) -> Deed
     match seed {
         Seed::None => Deed::Refuse(Reason::Sequence),
         Seed::For(resource) => {
-            if s[layout::PACKET + 1] != 4 {
+            if s[layout::PACKET_1] != 4 {
                 return Deed::Refuse(Reason::OutOfRange);
             }
             if n < 6 {
                 return Deed::Refuse(Reason::DataMissing);
             }
             let g = state::generator(s);
-            if get32(s, layout::PACKET + 2) == key_for(resource, g.x) {
+            if get32(s, layout::PACKET_2) == key_for(resource, g.x) {
                 Deed::Unlock(resource)
             } else {
                 Deed::WrongKey
@@ -353,38 +353,41 @@ fn start_stop_synch(s: &[u8], mode: u8) -> Deed
     Deed::StopSelected
 }
 
-// Each command's own checks, on the n bytes of its packet.
+// Each command's own checks, on the n bytes of its packet: b is a byte of it, w the number in two, d in
+// four. No check looks at a byte behind the n.
 fn judge_the(command: Command, s: &[u8], n: u8, nc: usize, nm: usize) -> Deed
     requires { ⌜ (length (now s) ≡ size) × (fewest command ≤ n) × (n ≤ packetMost) ⌝ }
     ensures { λ r. ⌜ r ≡ judgeThe command (block (now (s .entry)) packetAt n) (now (s .entry)) nc nm ⌝ }
 {
-    let p = layout::PACKET;
+    let b1 = s[layout::PACKET_1];
+    let b2 = s[layout::PACKET_2];
+    let b3 = s[layout::PACKET_3];
+    let b4 = s[layout::PACKET_4];
+    let b5 = s[layout::PACKET_5];
+    let b6 = s[layout::PACKET_6];
+    let b7 = s[layout::PACKET_7];
+    let w2 = get16(s, layout::PACKET_2);
+    let w4 = get16(s, layout::PACKET_4);
+    let d4 = get32(s, layout::PACKET_4);
     match command {
         Command::Unknown => Deed::Refuse(Reason::Unknown),
-        Command::Connect => connect(s[p + 1]),
+        Command::Connect => connect(b1),
         Command::Disconnect => Deed::Disconnect,
         Command::GetStatus => Deed::Status,
         Command::Synch => Deed::Synch,
-        Command::GetSeed => get_seed(s, s[p + 1], s[p + 2]),
+        Command::GetSeed => get_seed(s, b1, b2),
         Command::Unlock => unlock(s, n),
-        Command::SetMta => set_mta(s[p + 3], get32(s, p + 4)),
-        Command::Upload => upload(state::mta(s), s[p + 1], nc, nm),
-        Command::ShortUpload => short_upload(s[p + 1], s[p + 3], get32(s, p + 4), nc, nm),
-        Command::BuildChecksum => build_checksum(state::mta(s), get32(s, p + 4), nc, nm),
-        Command::Download => download(state::mta(s), s[p + 1], n, nc),
-        Command::ClearDaqList => clear_list(s, get16(s, p + 2)),
-        Command::SetDaqPtr => set_pointer(get16(s, p + 2), s[p + 4], s[p + 5]),
-        Command::WriteDaq => write_entry(s, s[p + 1], s[p + 2], s[p + 3], get32(s, p + 4), nc, nm),
-        Command::SetDaqListMode => set_mode(
-            s,
-            s[p + 1],
-            get16(s, p + 2),
-            get16(s, p + 4),
-            s[p + 6],
-            s[p + 7],
-        ),
-        Command::StartStopDaqList => start_stop(s, s[p + 1], get16(s, p + 2)),
-        Command::StartStopSynch => start_stop_synch(s, s[p + 1]),
+        Command::SetMta => set_mta(b3, d4),
+        Command::Upload => upload(state::mta(s), b1, nc, nm),
+        Command::ShortUpload => short_upload(b1, b3, d4, nc, nm),
+        Command::BuildChecksum => build_checksum(state::mta(s), d4, nc, nm),
+        Command::Download => download(state::mta(s), b1, n, nc),
+        Command::ClearDaqList => clear_list(s, w2),
+        Command::SetDaqPtr => set_pointer(w2, b4, b5),
+        Command::WriteDaq => write_entry(s, b1, b2, b3, d4, nc, nm),
+        Command::SetDaqListMode => set_mode(s, b1, w2, w4, b6, b7),
+        Command::StartStopDaqList => start_stop(s, b1, w2),
+        Command::StartStopSynch => start_stop_synch(s, b1),
         Command::GetDaqProcessorInfo => Deed::ProcessorInfo,
         Command::GetDaqResolutionInfo => Deed::ResolutionInfo,
     }

@@ -131,3 +131,33 @@ pub const ANSWER: usize = 238;
 pub const ANSWER_BYTES: usize = ANSWER + 1;
 
 pub const STATE: usize = 247;
+
+// The packet's bytes after its code.
+pub const PACKET_1: usize = PACKET + 1;
+
+pub const PACKET_2: usize = PACKET + 2;
+
+pub const PACKET_3: usize = PACKET + 3;
+
+pub const PACKET_4: usize = PACKET + 4;
+
+pub const PACKET_5: usize = PACKET + 5;
+
+pub const PACKET_6: usize = PACKET + 6;
+
+pub const PACKET_7: usize = PACKET + 7;
+
+// The answer's bytes after its first.
+pub const ANSWER_1: usize = ANSWER_BYTES + 1;
+
+pub const ANSWER_2: usize = ANSWER_BYTES + 2;
+
+pub const ANSWER_3: usize = ANSWER_BYTES + 3;
+
+pub const ANSWER_4: usize = ANSWER_BYTES + 4;
+
+pub const ANSWER_5: usize = ANSWER_BYTES + 5;
+
+pub const ANSWER_6: usize = ANSWER_BYTES + 6;
+
+pub const ANSWER_7: usize = ANSWER_BYTES + 7;

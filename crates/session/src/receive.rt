@@ -24,7 +24,7 @@ fn good_connect(s: &[u8], n: u8) -> bool
     if n < 2 {
         return false;
     }
-    s[layout::PACKET + 1] == 0
+    s[layout::PACKET_1] == 0
 }
 
 // A good message, whose packet has n bytes.

@@ -13,14 +13,8 @@ slice-write-s c = search needs
 slice-write-s-2 : tie.Need-slice-write-s-2
 slice-write-s-2 c = search needs
 
-add-s : tie.Need-add-s
-add-s c = search needs
-
 slice-write-s-3 : tie.Need-slice-write-s-3
 slice-write-s-3 c = search needs
-
-add-store32 : tie.Need-add-store32
-add-store32 c = search needs
 
 store32-requires : tie.Need-store32-requires
 store32-requires c κs = simp length-set (omega arith)
@@ -38,9 +32,7 @@ seed-spec =
     (tie.spec
     slice-write-s
     slice-write-s-2
-    add-s
     slice-write-s-3
-    add-store32
     store32-requires
     same-length
     returns)

@@ -13,26 +13,14 @@ slice-write-s c = search needs
 slice-write-s-2 : tie.Need-slice-write-s-2
 slice-write-s-2 c = search needs
 
-add-s : tie.Need-add-s
-add-s c = search needs
-
 slice-write-s-3 : tie.Need-slice-write-s-3
 slice-write-s-3 c = search needs
-
-add-s-2 : tie.Need-add-s-2
-add-s-2 c = search needs
 
 slice-write-s-4 : tie.Need-slice-write-s-4
 slice-write-s-4 c = search needs
 
-add-s-3 : tie.Need-add-s-3
-add-s-3 c = search needs
-
 slice-write-s-5 : tie.Need-slice-write-s-5
 slice-write-s-5 c = simp length-set (omega arith)
-
-add-store32 : tie.Need-add-store32
-add-store32 c = search needs
 
 store32-requires : tie.Need-store32-requires
 store32-requires c κs = simp length-set (omega arith)
@@ -50,13 +38,9 @@ sum-spec =
     (tie.spec
     slice-write-s
     slice-write-s-2
-    add-s
     slice-write-s-3
-    add-s-2
     slice-write-s-4
-    add-s-3
     slice-write-s-5
-    add-store32
     store32-requires
     same-length
     returns)

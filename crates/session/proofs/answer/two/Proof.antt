@@ -10,9 +10,6 @@ slice-write-s c = search needs
 slice-write-s-2 : tie.Need-slice-write-s-2
 slice-write-s-2 c = search needs
 
-add-s : tie.Need-add-s
-add-s c = search needs
-
 slice-write-s-3 : tie.Need-slice-write-s-3
 slice-write-s-3 c = search needs
 
@@ -25,4 +22,4 @@ returns c = refl
 
 pub two-spec : {M : Type 1} → statement M
 two-spec =
-    tie.close (tie.spec slice-write-s slice-write-s-2 add-s slice-write-s-3 same-length returns)
+    tie.close (tie.spec slice-write-s slice-write-s-2 slice-write-s-3 same-length returns)

@@ -11,14 +11,11 @@ use borrow.Author.Needs.{needs}
 use Rattle.session.proofs.deeds.download.Statement.{statement}
 use Rattle.session.proofs.deeds.download.Tie as tie
 
-add-copy : tie.Need-add-copy
-add-copy c = search needs
-
 copy-requires : tie.Need-copy-requires
 copy-requires c κs = (inside-le (c .before .before .before .before .args .address) (c .before .before .before .before .args .n) (length (c .before .before .before .before .args .cal .now)) (c .before .before .before .before .pre .3 .1) .0, omega (arith, c .before .before .before .before .pre .0, c .before .before .before .before .pre .1, c .before .before .before .before .pre .2))
 
-add-t18 : tie.Need-add-t18
-add-t18 c = omega (arith, inside-le (c .before .before .before .before .before .before .before .before .args .address) (c .before .before .before .before .before .before .before .before .args .n) (length (c .before .before .before .before .before .before .before .before .args .cal .now)) (c .before .before .before .before .before .before .before .before .pre .3 .1) .1)
+add-t17 : tie.Need-add-t17
+add-t17 c = omega (arith, inside-le (c .before .before .before .before .before .before .before .before .args .address) (c .before .before .before .before .before .before .before .before .args .n) (length (c .before .before .before .before .before .before .before .before .args .cal .now)) (c .before .before .before .before .before .before .before .before .pre .3 .1) .1)
 
 set-mta-requires : tie.Need-set-mta-requires
 set-mta-requires c κs = search needs
@@ -40,9 +37,8 @@ pub download-spec : {M : Type 1} → statement M
 download-spec =
     tie.close
     (tie.spec
-    add-copy
     copy-requires
-    add-t18
+    add-t17
     set-mta-requires
     ok-requires
     same-length

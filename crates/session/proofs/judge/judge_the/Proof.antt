@@ -32,278 +32,146 @@ word {c} {k} {n} told long i there s =
     let h : fewest k ≤ n = rw told at long in
     packet-u32 s n i (omega (arith, leb→le (i + 4) (fewest k) there))
 
-enum-told : tie.Need-enum-told
-enum-told c = search needs
+shared-slice-read-b1 : tie.Need-shared-slice-read-b1
+shared-slice-read-b1 c = search needs
 
-enum-told-2 : tie.Need-enum-told-2
-enum-told-2 c = search needs
+shared-slice-read-b2 : tie.Need-shared-slice-read-b2
+shared-slice-read-b2 c = search needs
 
-add-connect : tie.Need-add-connect
-add-connect c = search needs
+shared-slice-read-b3 : tie.Need-shared-slice-read-b3
+shared-slice-read-b3 c = search needs
 
-shared-slice-read-connect : tie.Need-shared-slice-read-connect
-shared-slice-read-connect c = search needs
+shared-slice-read-b4 : tie.Need-shared-slice-read-b4
+shared-slice-read-b4 c = search needs
 
-connect-requires : tie.Need-connect-requires
-connect-requires c κs = search needs
+shared-slice-read-b5 : tie.Need-shared-slice-read-b5
+shared-slice-read-b5 c = search needs
 
-enum-told-3 : tie.Need-enum-told-3
-enum-told-3 c = search needs
+shared-slice-read-b6 : tie.Need-shared-slice-read-b6
+shared-slice-read-b6 c = search needs
 
-enum-told-4 : tie.Need-enum-told-4
-enum-told-4 c = search needs
-
-enum-told-5 : tie.Need-enum-told-5
-enum-told-5 c = search needs
-
-enum-told-6 : tie.Need-enum-told-6
-enum-told-6 c = search needs
-
-add-get-seed : tie.Need-add-get-seed
-add-get-seed c = search needs
-
-shared-slice-read-get-seed : tie.Need-shared-slice-read-get-seed
-shared-slice-read-get-seed c = search needs
-
-add-get-seed-2 : tie.Need-add-get-seed-2
-add-get-seed-2 c = search needs
-
-shared-slice-read-get-seed-2 : tie.Need-shared-slice-read-get-seed-2
-shared-slice-read-get-seed-2 c = search needs
-
-get-seed-requires : tie.Need-get-seed-requires
-get-seed-requires c κs = search needs
-
-enum-told-7 : tie.Need-enum-told-7
-enum-told-7 c = search needs
-
-unlock-requires : tie.Need-unlock-requires
-unlock-requires c κs = (c .before .before .before .pre .0, rw (c .enum-told7 .given .1) at (c .before .before .before .pre .1), c .before .before .before .pre .2)
-
-enum-told-8 : tie.Need-enum-told-8
-enum-told-8 c = search needs
-
-add-set-mta : tie.Need-add-set-mta
-add-set-mta c = search needs
-
-shared-slice-read-set-mta : tie.Need-shared-slice-read-set-mta
-shared-slice-read-set-mta c = search needs
-
-add-get32 : tie.Need-add-get32
-add-get32 c = search needs
-
-get32-requires : tie.Need-get32-requires
-get32-requires c κs = search needs
-
-set-mta-requires : tie.Need-set-mta-requires
-set-mta-requires c κs = search needs
-
-enum-told-9 : tie.Need-enum-told-9
-enum-told-9 c = search needs
-
-mta-requires : tie.Need-mta-requires
-mta-requires c κs = search needs
-
-add-upload : tie.Need-add-upload
-add-upload c = search needs
-
-shared-slice-read-upload : tie.Need-shared-slice-read-upload
-shared-slice-read-upload c = search needs
-
-upload-requires : tie.Need-upload-requires
-upload-requires c κs = search needs
-
-enum-told-10 : tie.Need-enum-told-10
-enum-told-10 c = search needs
-
-add-short-upload : tie.Need-add-short-upload
-add-short-upload c = search needs
-
-shared-slice-read-short-upload : tie.Need-shared-slice-read-short-upload
-shared-slice-read-short-upload c = search needs
-
-add-short-upload-2 : tie.Need-add-short-upload-2
-add-short-upload-2 c = search needs
-
-shared-slice-read-short-upload-2 : tie.Need-shared-slice-read-short-upload-2
-shared-slice-read-short-upload-2 c = search needs
-
-add-get32-2 : tie.Need-add-get32-2
-add-get32-2 c = search needs
-
-get32-requires-2 : tie.Need-get32-requires-2
-get32-requires-2 c κs = search needs
-
-short-upload-requires : tie.Need-short-upload-requires
-short-upload-requires c κs = search needs
-
-enum-told-11 : tie.Need-enum-told-11
-enum-told-11 c = search needs
-
-mta-requires-2 : tie.Need-mta-requires-2
-mta-requires-2 c κs = search needs
-
-add-get32-3 : tie.Need-add-get32-3
-add-get32-3 c = search needs
-
-get32-requires-3 : tie.Need-get32-requires-3
-get32-requires-3 c κs = search needs
-
-build-checksum-requires : tie.Need-build-checksum-requires
-build-checksum-requires c κs = search needs
-
-enum-told-12 : tie.Need-enum-told-12
-enum-told-12 c = search needs
-
-mta-requires-3 : tie.Need-mta-requires-3
-mta-requires-3 c κs = search needs
-
-add-download : tie.Need-add-download
-add-download c = search needs
-
-shared-slice-read-download : tie.Need-shared-slice-read-download
-shared-slice-read-download c = search needs
-
-download-requires : tie.Need-download-requires
-download-requires c κs = search needs
-
-enum-told-13 : tie.Need-enum-told-13
-enum-told-13 c = search needs
-
-add-get16 : tie.Need-add-get16
-add-get16 c = search needs
+shared-slice-read-b7 : tie.Need-shared-slice-read-b7
+shared-slice-read-b7 c = search needs
 
 get16-requires : tie.Need-get16-requires
 get16-requires c κs = search needs
 
-clear-list-requires : tie.Need-clear-list-requires
-clear-list-requires c κs = search needs
-
-enum-told-14 : tie.Need-enum-told-14
-enum-told-14 c = search needs
-
-add-get16-2 : tie.Need-add-get16-2
-add-get16-2 c = search needs
-
 get16-requires-2 : tie.Need-get16-requires-2
 get16-requires-2 c κs = search needs
 
-add-set-pointer : tie.Need-add-set-pointer
-add-set-pointer c = search needs
+get32-requires : tie.Need-get32-requires
+get32-requires c κs = search needs
 
-shared-slice-read-set-pointer : tie.Need-shared-slice-read-set-pointer
-shared-slice-read-set-pointer c = search needs
+enum-told : tie.Need-enum-told
+enum-told c = c .match .keys1
 
-add-set-pointer-2 : tie.Need-add-set-pointer-2
-add-set-pointer-2 c = search needs
+enum-told-2 : tie.Need-enum-told-2
+enum-told-2 c = c .match .keys2
 
-shared-slice-read-set-pointer-2 : tie.Need-shared-slice-read-set-pointer-2
-shared-slice-read-set-pointer-2 c = search needs
+connect-requires : tie.Need-connect-requires
+connect-requires c κs = tt
+
+enum-told-3 : tie.Need-enum-told-3
+enum-told-3 c = c .match .keys3
+
+enum-told-4 : tie.Need-enum-told-4
+enum-told-4 c = c .match .keys4
+
+enum-told-5 : tie.Need-enum-told-5
+enum-told-5 c = c .match .keys5
+
+enum-told-6 : tie.Need-enum-told-6
+enum-told-6 c = c .match .keys6
+
+get-seed-requires : tie.Need-get-seed-requires
+get-seed-requires c κs = c .before .before .before .before .before .before .before .before .before .before .before .before .before .pre .0
+
+enum-told-7 : tie.Need-enum-told-7
+enum-told-7 c = c .match .keys7
+
+unlock-requires : tie.Need-unlock-requires
+unlock-requires c κs = (c .before .before .before .before .before .before .before .before .before .before .before .before .before .pre .0, rw (c .enum-told7 .given .1) at (c .before .before .before .before .before .before .before .before .before .before .before .before .before .pre .1), c .before .before .before .before .before .before .before .before .before .before .before .before .before .pre .2)
+
+enum-told-8 : tie.Need-enum-told-8
+enum-told-8 c = c .match .keys8
+
+set-mta-requires : tie.Need-set-mta-requires
+set-mta-requires c κs = tt
+
+enum-told-9 : tie.Need-enum-told-9
+enum-told-9 c = c .match .keys9
+
+mta-requires : tie.Need-mta-requires
+mta-requires c κs = c .before .before .before .before .before .before .before .before .before .before .before .before .before .pre .0
+
+upload-requires : tie.Need-upload-requires
+upload-requires c κs = tt
+
+enum-told-10 : tie.Need-enum-told-10
+enum-told-10 c = c .match .keys10
+
+short-upload-requires : tie.Need-short-upload-requires
+short-upload-requires c κs = tt
+
+enum-told-11 : tie.Need-enum-told-11
+enum-told-11 c = c .match .keys11
+
+mta-requires-2 : tie.Need-mta-requires-2
+mta-requires-2 c κs = c .before .before .before .before .before .before .before .before .before .before .before .before .before .pre .0
+
+build-checksum-requires : tie.Need-build-checksum-requires
+build-checksum-requires c κs = tt
+
+enum-told-12 : tie.Need-enum-told-12
+enum-told-12 c = c .match .keys12
+
+mta-requires-3 : tie.Need-mta-requires-3
+mta-requires-3 c κs = c .before .before .before .before .before .before .before .before .before .before .before .before .before .pre .0
+
+download-requires : tie.Need-download-requires
+download-requires c κs = tt
+
+enum-told-13 : tie.Need-enum-told-13
+enum-told-13 c = c .match .keys13
+
+clear-list-requires : tie.Need-clear-list-requires
+clear-list-requires c κs = c .before .before .before .before .before .before .before .before .before .before .before .before .before .pre .0
+
+enum-told-14 : tie.Need-enum-told-14
+enum-told-14 c = c .match .keys14
 
 set-pointer-requires : tie.Need-set-pointer-requires
-set-pointer-requires c κs = search needs
+set-pointer-requires c κs = tt
 
 enum-told-15 : tie.Need-enum-told-15
-enum-told-15 c = search needs
-
-add-write-entry : tie.Need-add-write-entry
-add-write-entry c = search needs
-
-shared-slice-read-write-entry : tie.Need-shared-slice-read-write-entry
-shared-slice-read-write-entry c = search needs
-
-add-write-entry-2 : tie.Need-add-write-entry-2
-add-write-entry-2 c = search needs
-
-shared-slice-read-write-entry-2 : tie.Need-shared-slice-read-write-entry-2
-shared-slice-read-write-entry-2 c = search needs
-
-add-write-entry-3 : tie.Need-add-write-entry-3
-add-write-entry-3 c = search needs
-
-shared-slice-read-write-entry-3 : tie.Need-shared-slice-read-write-entry-3
-shared-slice-read-write-entry-3 c = search needs
-
-add-get32-4 : tie.Need-add-get32-4
-add-get32-4 c = search needs
-
-get32-requires-4 : tie.Need-get32-requires-4
-get32-requires-4 c κs = search needs
+enum-told-15 c = c .match .keys15
 
 write-entry-requires : tie.Need-write-entry-requires
-write-entry-requires c κs = search needs
+write-entry-requires c κs = c .before .before .before .before .before .before .before .before .before .before .before .before .before .pre .0
 
 enum-told-16 : tie.Need-enum-told-16
-enum-told-16 c = search needs
-
-add-set-mode : tie.Need-add-set-mode
-add-set-mode c = search needs
-
-shared-slice-read-set-mode : tie.Need-shared-slice-read-set-mode
-shared-slice-read-set-mode c = search needs
-
-add-get16-3 : tie.Need-add-get16-3
-add-get16-3 c = search needs
-
-get16-requires-3 : tie.Need-get16-requires-3
-get16-requires-3 c κs = search needs
-
-add-get16-4 : tie.Need-add-get16-4
-add-get16-4 c = search needs
-
-get16-requires-4 : tie.Need-get16-requires-4
-get16-requires-4 c κs = search needs
-
-add-set-mode-2 : tie.Need-add-set-mode-2
-add-set-mode-2 c = search needs
-
-shared-slice-read-set-mode-2 : tie.Need-shared-slice-read-set-mode-2
-shared-slice-read-set-mode-2 c = search needs
-
-add-set-mode-3 : tie.Need-add-set-mode-3
-add-set-mode-3 c = search needs
-
-shared-slice-read-set-mode-3 : tie.Need-shared-slice-read-set-mode-3
-shared-slice-read-set-mode-3 c = search needs
+enum-told-16 c = c .match .keys16
 
 set-mode-requires : tie.Need-set-mode-requires
-set-mode-requires c κs = search needs
+set-mode-requires c κs = c .before .before .before .before .before .before .before .before .before .before .before .before .before .pre .0
 
 enum-told-17 : tie.Need-enum-told-17
-enum-told-17 c = search needs
-
-add-start-stop : tie.Need-add-start-stop
-add-start-stop c = search needs
-
-shared-slice-read-start-stop : tie.Need-shared-slice-read-start-stop
-shared-slice-read-start-stop c = search needs
-
-add-get16-5 : tie.Need-add-get16-5
-add-get16-5 c = search needs
-
-get16-requires-5 : tie.Need-get16-requires-5
-get16-requires-5 c κs = search needs
+enum-told-17 c = c .match .keys17
 
 start-stop-requires : tie.Need-start-stop-requires
-start-stop-requires c κs = search needs
+start-stop-requires c κs = c .before .before .before .before .before .before .before .before .before .before .before .before .before .pre .0
 
 enum-told-18 : tie.Need-enum-told-18
-enum-told-18 c = search needs
-
-add-start-stop-synch : tie.Need-add-start-stop-synch
-add-start-stop-synch c = search needs
-
-shared-slice-read-start-stop-synch : tie.Need-shared-slice-read-start-stop-synch
-shared-slice-read-start-stop-synch c = search needs
+enum-told-18 c = c .match .keys18
 
 start-stop-synch-requires : tie.Need-start-stop-synch-requires
-start-stop-synch-requires c κs = search needs
+start-stop-synch-requires c κs = c .before .before .before .before .before .before .before .before .before .before .before .before .before .pre .0
 
 enum-told-19 : tie.Need-enum-told-19
-enum-told-19 c = search needs
+enum-told-19 c = c .match .keys19
 
 enum-told-20 : tie.Need-enum-told-20
-enum-told-20 c = search needs
+enum-told-20 c = c .match .keys20
 
 returns : tie.Need-returns
 unfolding judgeThe
@@ -311,7 +179,7 @@ returns c = rw (c .enum-told .given .1)
 
 returns-2 : tie.Need-returns-2
 unfolding judgeThe
-returns-2 c = simp (c .before .before .enum-told2 .given .1, byte (c .before .before .enum-told2 .given .1) (c .before .before .before .before .before .pre .1) 1 tt) (c .connect .ensures)
+returns-2 c = simp (c .before .enum-told2 .given .1, byte (c .before .enum-told2 .given .1) (c .before .before .before .before .before .before .before .before .before .before .before .before .before .before .pre .1) 1 tt) (c .connect .ensures)
 
 returns-3 : tie.Need-returns-3
 unfolding judgeThe
@@ -327,7 +195,7 @@ returns-5 c = rw (c .enum-told5 .given .1)
 
 returns-6 : tie.Need-returns-6
 unfolding judgeThe
-returns-6 c = simp (c .before .before .before .enum-told6 .given .1, byte (c .before .before .before .enum-told6 .given .1) (c .before .before .before .before .before .before .pre .1) 1 tt, byte (c .before .before .before .enum-told6 .given .1) (c .before .before .before .before .before .before .pre .1) 2 tt) (c .get-seed .ensures)
+returns-6 c = simp (c .before .enum-told6 .given .1, byte (c .before .enum-told6 .given .1) (c .before .before .before .before .before .before .before .before .before .before .before .before .before .before .pre .1) 1 tt, byte (c .before .enum-told6 .given .1) (c .before .before .before .before .before .before .before .before .before .before .before .before .before .before .pre .1) 2 tt) (c .get-seed .ensures)
 
 returns-7 : tie.Need-returns-7
 unfolding judgeThe
@@ -335,47 +203,47 @@ returns-7 c = rw (c .before .enum-told7 .given .1) (c .unlock .ensures)
 
 returns-8 : tie.Need-returns-8
 unfolding judgeThe
-returns-8 c = simp (c .before .before .before .enum-told8 .given .1, byte (c .before .before .before .enum-told8 .given .1) (c .before .before .before .before .before .before .pre .1) 3 tt, word (c .before .before .before .enum-told8 .given .1) (c .before .before .before .before .before .before .pre .1) 4 tt, ← (c .before .get32 .ensures)) (c .set-mta .ensures)
+returns-8 c = simp (c .before .enum-told8 .given .1, byte (c .before .enum-told8 .given .1) (c .before .before .before .before .before .before .before .before .before .before .before .before .before .before .pre .1) 3 tt, word (c .before .enum-told8 .given .1) (c .before .before .before .before .before .before .before .before .before .before .before .before .before .before .pre .1) 4 tt, ← (c .before .before .before .get32 .ensures)) (c .set-mta .ensures)
 
 returns-9 : tie.Need-returns-9
 unfolding judgeThe
-returns-9 c = simp (c .before .before .before .enum-told9 .given .1, byte (c .before .before .before .enum-told9 .given .1) (c .before .before .before .before .before .before .pre .1) 1 tt, ← (c .before .before .mta .ensures)) (c .upload .ensures)
+returns-9 c = simp (c .before .before .enum-told9 .given .1, byte (c .before .before .enum-told9 .given .1) (c .before .before .before .before .before .before .before .before .before .before .before .before .before .before .before .pre .1) 1 tt, ← (c .before .mta .ensures)) (c .upload .ensures)
 
 returns-10 : tie.Need-returns-10
 unfolding judgeThe
-returns-10 c = simp (c .before .before .before .before .enum-told10 .given .1, byte (c .before .before .before .before .enum-told10 .given .1) (c .before .before .before .before .before .before .before .pre .1) 1 tt, byte (c .before .before .before .before .enum-told10 .given .1) (c .before .before .before .before .before .before .before .pre .1) 3 tt, word (c .before .before .before .before .enum-told10 .given .1) (c .before .before .before .before .before .before .before .pre .1) 4 tt, ← (c .before .get322 .ensures)) (c .short-upload .ensures)
+returns-10 c = simp (c .before .enum-told10 .given .1, byte (c .before .enum-told10 .given .1) (c .before .before .before .before .before .before .before .before .before .before .before .before .before .before .pre .1) 1 tt, byte (c .before .enum-told10 .given .1) (c .before .before .before .before .before .before .before .before .before .before .before .before .before .before .pre .1) 3 tt, word (c .before .enum-told10 .given .1) (c .before .before .before .before .before .before .before .before .before .before .before .before .before .before .pre .1) 4 tt, ← (c .before .before .before .get32 .ensures)) (c .short-upload .ensures)
 
 returns-11 : tie.Need-returns-11
 unfolding judgeThe
-returns-11 c = simp (c .before .before .before .enum-told11 .given .1, word (c .before .before .before .enum-told11 .given .1) (c .before .before .before .before .before .before .pre .1) 4 tt, ← (c .before .before .mta2 .ensures), ← (c .before .get323 .ensures)) (c .build-checksum .ensures)
+returns-11 c = simp (c .before .before .enum-told11 .given .1, word (c .before .before .enum-told11 .given .1) (c .before .before .before .before .before .before .before .before .before .before .before .before .before .before .before .pre .1) 4 tt, ← (c .before .mta2 .ensures), ← (c .before .before .before .before .get32 .ensures)) (c .build-checksum .ensures)
 
 returns-12 : tie.Need-returns-12
 unfolding judgeThe
-returns-12 c = simp (c .before .before .before .enum-told12 .given .1, byte (c .before .before .before .enum-told12 .given .1) (c .before .before .before .before .before .before .pre .1) 1 tt, packet-length (now (c .before .before .before .before .before .before .args .s)) (c .before .before .before .before .before .before .args .n) (c .before .before .before .before .before .before .pre .2) (c .before .before .before .before .before .before .pre .0), ← (c .before .before .mta3 .ensures)) (c .download .ensures)
+returns-12 c = simp (c .before .before .enum-told12 .given .1, byte (c .before .before .enum-told12 .given .1) (c .before .before .before .before .before .before .before .before .before .before .before .before .before .before .before .pre .1) 1 tt, packet-length (now (c .before .before .before .before .before .before .before .before .before .before .before .before .before .before .before .args .s)) (c .before .before .before .before .before .before .before .before .before .before .before .before .before .before .before .args .n) (c .before .before .before .before .before .before .before .before .before .before .before .before .before .before .before .pre .2) (c .before .before .before .before .before .before .before .before .before .before .before .before .before .before .before .pre .0), ← (c .before .mta3 .ensures)) (c .download .ensures)
 
 returns-13 : tie.Need-returns-13
 unfolding judgeThe
-returns-13 c = simp (c .before .before .enum-told13 .given .1, half (c .before .before .enum-told13 .given .1) (c .before .before .before .before .before .pre .1) 2 tt, ← (c .before .get16 .ensures)) (c .clear-list .ensures)
+returns-13 c = simp (c .before .enum-told13 .given .1, half (c .before .enum-told13 .given .1) (c .before .before .before .before .before .before .before .before .before .before .before .before .before .before .pre .1) 2 tt, ← (c .before .before .before .before .before .get16 .ensures)) (c .clear-list .ensures)
 
 returns-14 : tie.Need-returns-14
 unfolding judgeThe
-returns-14 c = simp (c .before .before .before .before .enum-told14 .given .1, half (c .before .before .before .before .enum-told14 .given .1) (c .before .before .before .before .before .before .before .pre .1) 2 tt, byte (c .before .before .before .before .enum-told14 .given .1) (c .before .before .before .before .before .before .before .pre .1) 4 tt, byte (c .before .before .before .before .enum-told14 .given .1) (c .before .before .before .before .before .before .before .pre .1) 5 tt, ← (c .before .before .before .get162 .ensures)) (c .set-pointer .ensures)
+returns-14 c = simp (c .before .enum-told14 .given .1, half (c .before .enum-told14 .given .1) (c .before .before .before .before .before .before .before .before .before .before .before .before .before .before .pre .1) 2 tt, byte (c .before .enum-told14 .given .1) (c .before .before .before .before .before .before .before .before .before .before .before .before .before .before .pre .1) 4 tt, byte (c .before .enum-told14 .given .1) (c .before .before .before .before .before .before .before .before .before .before .before .before .before .before .pre .1) 5 tt, ← (c .before .before .before .before .before .get16 .ensures)) (c .set-pointer .ensures)
 
 returns-15 : tie.Need-returns-15
 unfolding judgeThe
-returns-15 c = simp (c .before .before .before .before .before .enum-told15 .given .1, byte (c .before .before .before .before .before .enum-told15 .given .1) (c .before .before .before .before .before .before .before .before .pre .1) 1 tt, byte (c .before .before .before .before .before .enum-told15 .given .1) (c .before .before .before .before .before .before .before .before .pre .1) 2 tt, byte (c .before .before .before .before .before .enum-told15 .given .1) (c .before .before .before .before .before .before .before .before .pre .1) 3 tt, word (c .before .before .before .before .before .enum-told15 .given .1) (c .before .before .before .before .before .before .before .before .pre .1) 4 tt, ← (c .before .get324 .ensures)) (c .write-entry .ensures)
+returns-15 c = simp (c .before .enum-told15 .given .1, byte (c .before .enum-told15 .given .1) (c .before .before .before .before .before .before .before .before .before .before .before .before .before .before .pre .1) 1 tt, byte (c .before .enum-told15 .given .1) (c .before .before .before .before .before .before .before .before .before .before .before .before .before .before .pre .1) 2 tt, byte (c .before .enum-told15 .given .1) (c .before .before .before .before .before .before .before .before .before .before .before .before .before .before .pre .1) 3 tt, word (c .before .enum-told15 .given .1) (c .before .before .before .before .before .before .before .before .before .before .before .before .before .before .pre .1) 4 tt, ← (c .before .before .before .get32 .ensures)) (c .write-entry .ensures)
 
 returns-16 : tie.Need-returns-16
 unfolding judgeThe
-returns-16 c = simp (c .before .before .before .before .before .before .enum-told16 .given .1, byte (c .before .before .before .before .before .before .enum-told16 .given .1) (c .before .before .before .before .before .before .before .before .before .pre .1) 1 tt, half (c .before .before .before .before .before .before .enum-told16 .given .1) (c .before .before .before .before .before .before .before .before .before .pre .1) 2 tt, half (c .before .before .before .before .before .before .enum-told16 .given .1) (c .before .before .before .before .before .before .before .before .before .pre .1) 4 tt, byte (c .before .before .before .before .before .before .enum-told16 .given .1) (c .before .before .before .before .before .before .before .before .before .pre .1) 6 tt, byte (c .before .before .before .before .before .before .enum-told16 .given .1) (c .before .before .before .before .before .before .before .before .before .pre .1) 7 tt, ← (c .before .before .before .before .get163 .ensures), ← (c .before .before .before .get164 .ensures)) (c .set-mode .ensures)
+returns-16 c = simp (c .before .enum-told16 .given .1, byte (c .before .enum-told16 .given .1) (c .before .before .before .before .before .before .before .before .before .before .before .before .before .before .pre .1) 1 tt, half (c .before .enum-told16 .given .1) (c .before .before .before .before .before .before .before .before .before .before .before .before .before .before .pre .1) 2 tt, half (c .before .enum-told16 .given .1) (c .before .before .before .before .before .before .before .before .before .before .before .before .before .before .pre .1) 4 tt, byte (c .before .enum-told16 .given .1) (c .before .before .before .before .before .before .before .before .before .before .before .before .before .before .pre .1) 6 tt, byte (c .before .enum-told16 .given .1) (c .before .before .before .before .before .before .before .before .before .before .before .before .before .before .pre .1) 7 tt, ← (c .before .before .before .before .before .get16 .ensures), ← (c .before .before .before .before .get162 .ensures)) (c .set-mode .ensures)
 
 returns-17 : tie.Need-returns-17
 unfolding judgeThe
-returns-17 c = simp (c .before .before .before .enum-told17 .given .1, byte (c .before .before .before .enum-told17 .given .1) (c .before .before .before .before .before .before .pre .1) 1 tt, half (c .before .before .before .enum-told17 .given .1) (c .before .before .before .before .before .before .pre .1) 2 tt, ← (c .before .get165 .ensures)) (c .start-stop .ensures)
+returns-17 c = simp (c .before .enum-told17 .given .1, byte (c .before .enum-told17 .given .1) (c .before .before .before .before .before .before .before .before .before .before .before .before .before .before .pre .1) 1 tt, half (c .before .enum-told17 .given .1) (c .before .before .before .before .before .before .before .before .before .before .before .before .before .before .pre .1) 2 tt, ← (c .before .before .before .before .before .get16 .ensures)) (c .start-stop .ensures)
 
 returns-18 : tie.Need-returns-18
 unfolding judgeThe
-returns-18 c = simp (c .before .before .enum-told18 .given .1, byte (c .before .before .enum-told18 .given .1) (c .before .before .before .before .before .pre .1) 1 tt) (c .start-stop-synch .ensures)
+returns-18 c = simp (c .before .enum-told18 .given .1, byte (c .before .enum-told18 .given .1) (c .before .before .before .before .before .before .before .before .before .before .before .before .before .before .pre .1) 1 tt) (c .start-stop-synch .ensures)
 
 returns-19 : tie.Need-returns-19
 unfolding judgeThe
@@ -389,94 +257,50 @@ pub judge-the-spec : {M : Type 1} → statement M
 judge-the-spec =
     tie.close
     (tie.spec
+    shared-slice-read-b1
+    shared-slice-read-b2
+    shared-slice-read-b3
+    shared-slice-read-b4
+    shared-slice-read-b5
+    shared-slice-read-b6
+    shared-slice-read-b7
+    get16-requires
+    get16-requires-2
+    get32-requires
     enum-told
     enum-told-2
-    add-connect
-    shared-slice-read-connect
     connect-requires
     enum-told-3
     enum-told-4
     enum-told-5
     enum-told-6
-    add-get-seed
-    shared-slice-read-get-seed
-    add-get-seed-2
-    shared-slice-read-get-seed-2
     get-seed-requires
     enum-told-7
     unlock-requires
     enum-told-8
-    add-set-mta
-    shared-slice-read-set-mta
-    add-get32
-    get32-requires
     set-mta-requires
     enum-told-9
     mta-requires
-    add-upload
-    shared-slice-read-upload
     upload-requires
     enum-told-10
-    add-short-upload
-    shared-slice-read-short-upload
-    add-short-upload-2
-    shared-slice-read-short-upload-2
-    add-get32-2
-    get32-requires-2
     short-upload-requires
     enum-told-11
     mta-requires-2
-    add-get32-3
-    get32-requires-3
     build-checksum-requires
     enum-told-12
     mta-requires-3
-    add-download
-    shared-slice-read-download
     download-requires
     enum-told-13
-    add-get16
-    get16-requires
     clear-list-requires
     enum-told-14
-    add-get16-2
-    get16-requires-2
-    add-set-pointer
-    shared-slice-read-set-pointer
-    add-set-pointer-2
-    shared-slice-read-set-pointer-2
     set-pointer-requires
     enum-told-15
-    add-write-entry
-    shared-slice-read-write-entry
-    add-write-entry-2
-    shared-slice-read-write-entry-2
-    add-write-entry-3
-    shared-slice-read-write-entry-3
-    add-get32-4
-    get32-requires-4
     write-entry-requires
     enum-told-16
-    add-set-mode
-    shared-slice-read-set-mode
-    add-get16-3
-    get16-requires-3
-    add-get16-4
-    get16-requires-4
-    add-set-mode-2
-    shared-slice-read-set-mode-2
-    add-set-mode-3
-    shared-slice-read-set-mode-3
     set-mode-requires
     enum-told-17
-    add-start-stop
-    shared-slice-read-start-stop
-    add-get16-5
-    get16-requires-5
     start-stop-requires
     enum-told-18
-    add-start-stop-synch
-    shared-slice-read-start-stop-synch
     start-stop-synch-requires
     enum-told-19
     enum-told-20

@@ -16,9 +16,6 @@ enum-told c = search needs
 enum-known-seed : tie.Need-enum-known-seed
 enum-known-seed c = search needs
 
-add-if1 : tie.Need-add-if1
-add-if1 c = search needs
-
 shared-slice-read-if1 : tie.Need-shared-slice-read-if1
 shared-slice-read-if1 c = search needs
 
@@ -32,9 +29,6 @@ returns-2 c = simp (← (c .before .before .before .before .before .before .seed
 
 generator-requires : tie.Need-generator-requires
 generator-requires c κs = search needs
-
-add-get32 : tie.Need-add-get32
-add-get32 c = search needs
 
 get32-requires : tie.Need-get32-requires
 get32-requires c κs = search needs
@@ -61,12 +55,10 @@ unlock-spec =
     seed-requires
     enum-told
     enum-known-seed
-    add-if1
     shared-slice-read-if1
     returns
     returns-2
     generator-requires
-    add-get32
     get32-requires
     key-for-requires
     returns-3

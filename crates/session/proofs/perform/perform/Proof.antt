@@ -5,175 +5,175 @@ use Rattle.session.proofs.perform.perform.Statement.{statement}
 use Rattle.session.proofs.perform.perform.Tie as tie
 
 enum-known-deed : tie.Need-enum-known-deed
-enum-known-deed c = search needs
+enum-known-deed c = c .match .keys1
 
 refusal-requires : tie.Need-refusal-requires
 refusal-requires c κs = search needs
 
 enum-told : tie.Need-enum-told
-enum-told c = search needs
+enum-told c = c .match .keys2
 
 refuse-size-requires : tie.Need-refuse-size-requires
 refuse-size-requires c κs = search needs
 
 enum-told-2 : tie.Need-enum-told-2
-enum-told-2 c = search needs
+enum-told-2 c = c .match .keys3
 
 wrong-key-requires : tie.Need-wrong-key-requires
 wrong-key-requires c κs = search needs
 
 enum-told-3 : tie.Need-enum-told-3
-enum-told-3 c = search needs
+enum-told-3 c = c .match .keys4
 
 connect-requires : tie.Need-connect-requires
 connect-requires c κs = search needs
 
 enum-told-4 : tie.Need-enum-told-4
-enum-told-4 c = search needs
+enum-told-4 c = c .match .keys5
 
 disconnect-requires : tie.Need-disconnect-requires
 disconnect-requires c κs = search needs
 
 enum-told-5 : tie.Need-enum-told-5
-enum-told-5 c = search needs
+enum-told-5 c = c .match .keys6
 
 status-requires : tie.Need-status-requires
 status-requires c κs = search needs
 
 enum-told-6 : tie.Need-enum-told-6
-enum-told-6 c = search needs
+enum-told-6 c = c .match .keys7
 
 two-requires : tie.Need-two-requires
 two-requires c κs = search needs
 
 enum-told-7 : tie.Need-enum-told-7
-enum-told-7 c = search needs
+enum-told-7 c = c .match .keys8
 
 two-requires-2 : tie.Need-two-requires-2
 two-requires-2 c κs = search needs
 
 enum-known-deed-2 : tie.Need-enum-known-deed-2
-enum-known-deed-2 c = search needs
+enum-known-deed-2 c = c .match .keys9
 
 give-seed-requires : tie.Need-give-seed-requires
 give-seed-requires c κs = search needs
 
 enum-known-deed-3 : tie.Need-enum-known-deed-3
-enum-known-deed-3 c = search needs
+enum-known-deed-3 c = c .match .keys10
 
 unlock-requires : tie.Need-unlock-requires
 unlock-requires c κs = search needs
 
 enum-known-deed-4 : tie.Need-enum-known-deed-4
-enum-known-deed-4 c = search needs
+enum-known-deed-4 c = c .match .keys11
 
 set-mta-requires : tie.Need-set-mta-requires
 set-mta-requires c κs = search needs
 
 enum-known-deed-5 : tie.Need-enum-known-deed-5
-enum-known-deed-5 c = search needs
+enum-known-deed-5 c = c .match .keys12
 
 upload-requires : tie.Need-upload-requires
 upload-requires c κs = (c .before .before .before .before .before .before .before .before .pre .0, rw (c .before .before .before .deed5 .given .1) at (c .before .before .before .before .before .before .before .before .pre .2))
 
 enum-known-deed-6 : tie.Need-enum-known-deed-6
-enum-known-deed-6 c = search needs
+enum-known-deed-6 c = c .match .keys13
 
 read-requires : tie.Need-read-requires
 read-requires c κs = (c .before .before .before .before .before .before .before .before .pre .0, rw (c .before .before .before .deed6 .given .1) at (c .before .before .before .before .before .before .before .before .pre .2))
 
 enum-known-deed-7 : tie.Need-enum-known-deed-7
-enum-known-deed-7 c = search needs
+enum-known-deed-7 c = c .match .keys14
 
 checksum-requires : tie.Need-checksum-requires
 checksum-requires c κs = (c .before .before .before .before .before .before .before .before .pre .0, rw (c .before .before .before .deed7 .given .1) at (c .before .before .before .before .before .before .before .before .pre .2))
 
 enum-known-deed-8 : tie.Need-enum-known-deed-8
-enum-known-deed-8 c = search needs
+enum-known-deed-8 c = c .match .keys15
 
 download-requires : tie.Need-download-requires
 download-requires c κs = let h = rw (c .before .before .before .deed8 .given .1) at (c .before .before .before .before .before .before .before .before .pre .2) in (c .before .before .before .before .before .before .before .before .pre .0, c .before .before .before .before .before .before .before .before .pre .1, h .0, h .1)
 
 enum-known-deed-9 : tie.Need-enum-known-deed-9
-enum-known-deed-9 c = search needs
+enum-known-deed-9 c = c .match .keys16
 
 clear-list-requires : tie.Need-clear-list-requires
 clear-list-requires c κs = (c .before .before .before .before .before .before .before .pre .0, rw (c .before .before .deed9 .given .1) at (c .before .before .before .before .before .before .before .pre .2))
 
 enum-known-deed-10 : tie.Need-enum-known-deed-10
-enum-known-deed-10 c = search needs
+enum-known-deed-10 c = c .match .keys17
 
 set-pointer-requires : tie.Need-set-pointer-requires
 set-pointer-requires c κs = let h = rw (c .before .before .deed10 .given .1) at (c .before .before .before .before .before .before .before .pre .2) in (c .before .before .before .before .before .before .before .pre .0, h .0, h .1)
 
 enum-known-deed-11 : tie.Need-enum-known-deed-11
-enum-known-deed-11 c = search needs
+enum-known-deed-11 c = c .match .keys18
 
 clear-entry-requires : tie.Need-clear-entry-requires
 clear-entry-requires c κs = let h = rw (c .before .before .deed11 .given .1) at (c .before .before .before .before .before .before .before .pre .2) in (c .before .before .before .before .before .before .before .pre .0, h .0, h .1)
 
 enum-known-deed-12 : tie.Need-enum-known-deed-12
-enum-known-deed-12 c = search needs
+enum-known-deed-12 c = c .match .keys19
 
 write-entry-requires : tie.Need-write-entry-requires
 write-entry-requires c κs = let h = rw (c .before .before .deed12 .given .1) at (c .before .before .before .before .before .before .before .pre .2) in (c .before .before .before .before .before .before .before .pre .0, h .0, h .1)
 
 enum-known-deed-13 : tie.Need-enum-known-deed-13
-enum-known-deed-13 c = search needs
+enum-known-deed-13 c = c .match .keys20
 
 set-mode-requires : tie.Need-set-mode-requires
 set-mode-requires c κs = let h = rw (c .before .before .deed13 .given .1) at (c .before .before .before .before .before .before .before .pre .2) in (c .before .before .before .before .before .before .before .pre .0, h .0, h .1)
 
 enum-known-deed-14 : tie.Need-enum-known-deed-14
-enum-known-deed-14 c = search needs
+enum-known-deed-14 c = c .match .keys21
 
 stop-requires : tie.Need-stop-requires
 stop-requires c κs = (c .before .before .before .before .before .before .before .pre .0, rw (c .before .before .deed14 .given .1) at (c .before .before .before .before .before .before .before .pre .2))
 
 enum-known-deed-15 : tie.Need-enum-known-deed-15
-enum-known-deed-15 c = search needs
+enum-known-deed-15 c = c .match .keys22
 
 start-requires : tie.Need-start-requires
 start-requires c κs = (c .before .before .before .before .before .before .before .pre .0, rw (c .before .before .deed15 .given .1) at (c .before .before .before .before .before .before .before .pre .2))
 
 enum-known-deed-16 : tie.Need-enum-known-deed-16
-enum-known-deed-16 c = search needs
+enum-known-deed-16 c = c .match .keys23
 
 keep-running-requires : tie.Need-keep-running-requires
 keep-running-requires c κs = (c .before .before .before .before .before .before .before .pre .0, rw (c .before .before .deed16 .given .1) at (c .before .before .before .before .before .before .before .pre .2))
 
 enum-known-deed-17 : tie.Need-enum-known-deed-17
-enum-known-deed-17 c = search needs
+enum-known-deed-17 c = c .match .keys24
 
 select-requires : tie.Need-select-requires
 select-requires c κs = (c .before .before .before .before .before .before .before .pre .0, rw (c .before .before .deed17 .given .1) at (c .before .before .before .before .before .before .before .pre .2))
 
 enum-told-8 : tie.Need-enum-told-8
-enum-told-8 c = search needs
+enum-told-8 c = c .match .keys25
 
 stop-all-requires : tie.Need-stop-all-requires
 stop-all-requires c κs = search needs
 
 enum-told-9 : tie.Need-enum-told-9
-enum-told-9 c = search needs
+enum-told-9 c = c .match .keys26
 
 start-selected-requires : tie.Need-start-selected-requires
 start-selected-requires c κs = search needs
 
 enum-told-10 : tie.Need-enum-told-10
-enum-told-10 c = search needs
+enum-told-10 c = c .match .keys27
 
 stop-selected-requires : tie.Need-stop-selected-requires
 stop-selected-requires c κs = search needs
 
 enum-told-11 : tie.Need-enum-told-11
-enum-told-11 c = search needs
+enum-told-11 c = c .match .keys28
 
 processor-info-requires : tie.Need-processor-info-requires
 processor-info-requires c κs = search needs
 
 enum-told-12 : tie.Need-enum-told-12
-enum-told-12 c = search needs
+enum-told-12 c = c .match .keys29
 
 resolution-info-requires : tie.Need-resolution-info-requires
 resolution-info-requires c κs = search needs

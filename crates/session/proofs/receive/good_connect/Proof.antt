@@ -17,9 +17,6 @@ returns-2 : tie.Need-returns-2
 unfolding goodConnect
 returns-2 c = rw (packet-byte (c .before .before .before .args .s .now) (c .before .before .before .args .n) 0 (omega arith), packet-length (c .before .before .before .args .s .now) (c .before .before .before .args .n) (c .before .before .before .pre .2) (c .before .before .before .pre .0)) (simp (lt-ltb _ _ (c .if2 .taken), eq-eqb _ _ (c .before .if1 .left)))
 
-add-result : tie.Need-add-result
-add-result c = search needs
-
 shared-slice-read-result : tie.Need-shared-slice-read-result
 shared-slice-read-result c = search needs
 
@@ -34,6 +31,5 @@ good-connect-spec =
     shared-slice-read-if1
     returns
     returns-2
-    add-result
     shared-slice-read-result
     returns-3)
