@@ -1,5 +1,5 @@
 -- A list's own bytes: the packets of it that wait are read from these alone, so a change elsewhere leaves them. Assumes nothing.
-use Prim.Native.Nat.{ℕ, _+_, _*_, _≤_, _<_}
+use Prim.Native.Nat.{ℕ, zero, suc, _+_, _*_, _≤_, _<_}
 use mathlib.Core.Path.{_≡_, refl}
 use mathlib.Core.Bool.{Bool, true, false, cond}
 use mathlib.Core.List.{List}
@@ -7,8 +7,9 @@ use native.Mathlib.Omega.{arith}
 use borrow.Author.Tests.{ltb-false}
 use lib.Dec.{T, ltb, leb, le→leb, lit≤}
 use lib.ListN.{set}
+use Rattle.session.specs.Layout.{entries}
 use Rattle.session.specs.Bytes.{cleared}
-use Rattle.session.specs.Lists.{sizeOf, odtBytes, modeOf, fitOf, runsOf}
+use Rattle.session.specs.Lists.{sizeOf, bytesOfFirst, odtBytes, modeOf, fitOf, runsOf}
 use Rattle.fields.proofs.Stores.{out}
 use Rattle.fields.proofs.Frames.{Only, only-set, only-cleared}
 use Rattle.fields.proofs.Readers.{Same, same-part, same-then, flag-reads, open-reads}
@@ -88,10 +89,13 @@ own-cleared s i n m = own-only m (only-cleared s i n (omega arith) (omega arith)
 
 -- ---- what is read from them
 module _ {s t : List ℕ} where
+  first-own : (k n : ℕ) → n ≤ entries → Same (33 + 16 * k) (49 + 16 * k) s t → bytesOfFirst t k n ≡ bytesOfFirst s k n
+  unfolding bytesOfFirst sizeOf
+  first-own k zero h w = refl
+  first-own k (suc n) h w = rw (first-own k n (omega arith) w, w .byte (33 + 16 * k + 4 * n) (omega arith) (omega arith))
+
   odt-own : (k : ℕ) → Same (33 + 16 * k) (49 + 16 * k) s t → odtBytes t k ≡ odtBytes s k
-  unfolding odtBytes sizeOf
-  odt-own k w =
-      rw (w .byte (33 + 16 * k + 4 * 0) (omega arith) (omega arith), w .byte (33 + 16 * k + 4 * 1) (omega arith) (omega arith), w .byte (33 + 16 * k + 4 * 2) (omega arith) (omega arith), w .byte (33 + 16 * k + 4 * 3) (omega arith) (omega arith))
+  odt-own k w = first-own k entries (lit≤ tt) w
 
   pub mode-own : (l : ℕ) → Own l s t → modeOf t l ≡ modeOf s l
   unfolding modeOf

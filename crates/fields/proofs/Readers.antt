@@ -13,7 +13,7 @@ use Rattle.line.proofs.Laws.{cond-ind}
 use Rattle.session.specs.Layout.{size, entries, allOdts, packetMost}
 use Rattle.session.specs.Bytes.{u16At, u32At, block}
 use Rattle.session.specs.State.{consistent, flagOf, generatorOf, openOf, unlockedOf, maskOf, seedOf, mtaOf, pointerOf, placeOf, messageOf, answerLength, waits, answerKind, answerOf, answered, setSeed}
-use Rattle.session.specs.Lists.{sizeOf, extensionOf, addressOf, odtBytes, modeOf, fitOf, runsOf, anyRuns, storedLength}
+use Rattle.session.specs.Lists.{sizeOf, extensionOf, addressOf, bytesOfFirst, odtBytes, modeOf, fitOf, runsOf, anyRuns, storedLength}
 use Rattle.session.specs.Receive.{readOn}
 use Rattle.session.specs.declared.Seed.{Seed}
 use Rattle.session.specs.declared.Resource.{Resource}
@@ -156,10 +156,13 @@ module _ {s t : List ℕ} where
   address-reads k e p q w =
       rw (w .byte (33 + 16 * k + 4 * e + 2) (omega arith) (omega arith), w .byte (33 + 16 * k + 4 * e + 2 + 1) (omega arith) (omega arith))
 
+  first-reads : (k n : ℕ) → k < allOdts → n ≤ entries → Same 33 161 s t → bytesOfFirst t k n ≡ bytesOfFirst s k n
+  unfolding bytesOfFirst
+  first-reads k zero p q w = refl
+  first-reads k (suc n) p q w = rw (first-reads k n p (omega arith) w, size-reads k n p (omega arith) w)
+
   odt-reads : (k : ℕ) → k < allOdts → Same 33 161 s t → odtBytes t k ≡ odtBytes s k
-  unfolding odtBytes
-  odt-reads k p w =
-      rw (size-reads k 0 p (lit< tt) w, size-reads k 1 p (lit< tt) w, size-reads k 2 p (lit< tt) w, size-reads k 3 p (lit< tt) w)
+  odt-reads k p w = first-reads k entries p (lit≤ tt) w
 
   pub mode-reads : (l : ℕ) → l < 4 → Same 21 33 s t → modeOf t l ≡ modeOf s l
   unfolding modeOf

@@ -11,7 +11,7 @@ use Rattle.line.proofs.Laws.{sets-append}
 use Rattle.session.specs.Bytes.{put16}
 use Rattle.session.specs.Layout.{entries, sampleAt, allOdts, entryMost}
 use Rattle.session.specs.Memory.{pick, byteOf, bytesOf}
-use Rattle.session.specs.Lists.{sizeOf, extensionOf, addressOf, odtBytes}
+use Rattle.session.specs.Lists.{sizeOf, extensionOf, addressOf, bytesOfFirst, odtBytes}
 use Rattle.session.specs.Event.{entryBytes, gathered, stored}
 use Rattle.session.proofs.Entries.{Alike, sets-alike, size-most, entry-alike, gathered-alike}
 
@@ -44,9 +44,13 @@ module _ (s : List ℕ) (k : ℕ) (cal meas : List ℕ) where
   gathered-most zero = omega arith
   gathered-most (suc n) = omega (arith, gathered-length n, gathered-most n, size-most s k n)
 
+  gathered-first : (n : ℕ) → length (gathered s k cal meas n) ≡ bytesOfFirst s k n
+  unfolding gathered bytesOfFirst
+  gathered-first zero = refl
+  gathered-first (suc n) = gathered-length n ∙ ap (λ (m : ℕ). m + sizeOf s k n) (gathered-first n)
+
   pub gathered-odt : length (gathered s k cal meas entries) ≡ odtBytes s k
-  unfolding gathered odtBytes
-  gathered-odt = omega (arith, gathered-length 0, gathered-length 1, gathered-length 2, gathered-length 3)
+  gathered-odt = gathered-first entries
 
   -- entries are read as they were, with bytes stored past them already
   module _ (odt : k < allOdts) (at : ℕ) (past : sampleAt 0 ≤ at) where

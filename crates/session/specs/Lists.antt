@@ -4,7 +4,7 @@ use mathlib.Core.Bool.{Bool, true, false, cond}
 use mathlib.Core.List.{List}
 use lib.Dec.{eqb, ltb}
 use lib.ListN.{getD, set}
-use Rattle.session.specs.Layout.{odts, events, storedMost, clockSize, entryMost, odt0Most, odt1Most, listSize, modeAt, selectedAt, runningAt, entrySize, odtSize, entriesAt, entryAt, sampleAt, firstOdt}
+use Rattle.session.specs.Layout.{odts, entries, events, storedMost, clockSize, entryMost, odt0Most, odt1Most, listSize, modeAt, selectedAt, runningAt, entrySize, odtSize, entriesAt, entryAt, sampleAt, firstOdt}
 use Rattle.session.specs.Bytes.{u16At, put16, cleared}
 use Rattle.session.specs.State.{flagOf, openOf}
 use Rattle.session.specs.declared.Extension.{Extension}
@@ -21,9 +21,13 @@ extensionOf s k e = cond (flagOf s (entryAt k e + 1)) Measured Calibration
 unfoldable pub addressOf : List ℕ → ℕ → ℕ → ℕ
 addressOf s k e = u16At s (entryAt k e + 2)
 
--- the bytes of an ODT
-unfoldable pub odtBytes : List ℕ → ℕ → ℕ
-odtBytes s k = sizeOf s k 0 + sizeOf s k 1 + sizeOf s k 2 + sizeOf s k 3
+-- the bytes of an ODT: of its first n entries, and of all
+unfoldable pub bytesOfFirst : List ℕ → ℕ → ℕ → ℕ
+bytesOfFirst s k zero = 0
+bytesOfFirst s k (suc n) = bytesOfFirst s k n + sizeOf s k n
+
+abbrev pub odtBytes : List ℕ → ℕ → ℕ
+odtBytes s k = bytesOfFirst s k entries
 
 -- ---- lists
 -- mode never set, or set for event 0 or event 1

@@ -53,7 +53,13 @@ pub fn odt_bytes(s: &[u8], k: usize) -> u8
     requires { ⌜ (length (now s) ≡ size) × (k < allOdts) ⌝ }
     ensures { λ r. ⌜ (r ≡ odtBytes (now (s .entry)) k) × (r ≤ entries * entryMost) ⌝ }
 {
-    entry_size(s, k, 0) + entry_size(s, k, 1) + entry_size(s, k, 2) + entry_size(s, k, 3)
+    let mut n = 0;
+    let mut e = 0;
+    while e < layout::ENTRIES {
+        n += entry_size(s, k, e);
+        e += 1;
+    }
+    n
 }
 
 // ---- lists

@@ -1,43 +1,52 @@
+use Prim.Native.Nat.{_≤_, _*_, _-_}
+use mathlib.Core.Path.{_≡_, ap, _∙_}
 use native.Mathlib.Omega.{arith}
-use Rattle.session.specs.Lists.{odtBytes}
+use native.Mathlib.Numerals.{add-one}
 use borrow.Author.Needs.{needs}
+use Rattle.session.specs.Layout.{entries, entryMost}
+use Rattle.session.specs.Lists.{bytesOfFirst}
 use Rattle.session.proofs.lists.odt_bytes.Statement.{statement}
 use Rattle.session.proofs.lists.odt_bytes.Tie as tie
 
-entry-size-requires : tie.Need-entry-size-requires
+abbrev Inv-loop : tie.InvT-loop
+Inv-loop s k n₀ e₀ n e = (e ≤ entries) × (n ≡ bytesOfFirst s k e) × (n ≤ entryMost * e)
+
+abbrev μ-loop : tie.MeasureT-loop
+μ-loop s k n₀ e₀ n e = entries - e
+
+loop-holds : tie.Need-loop-holds Inv-loop μ-loop
+unfolding bytesOfFirst
+loop-holds c = search needs
+
+entry-size-requires : tie.Need-entry-size-requires Inv-loop μ-loop
 entry-size-requires c κs = search needs
 
-entry-size-requires-2 : tie.Need-entry-size-requires-2
-entry-size-requires-2 c κs = search needs
+add-n : tie.Need-add-n Inv-loop μ-loop
+add-n c = search needs
 
-add-result : tie.Need-add-result
-add-result c = search needs
+add-e : tie.Need-add-e Inv-loop μ-loop
+add-e c = search needs
 
-entry-size-requires-3 : tie.Need-entry-size-requires-3
-entry-size-requires-3 c κs = search needs
+loop-less : tie.Need-loop-less Inv-loop μ-loop
+loop-less c = search needs
 
-add-result-2 : tie.Need-add-result-2
-add-result-2 c = search needs
+loop-again : tie.Need-loop-again Inv-loop μ-loop
+unfolding bytesOfFirst
+loop-again c = (omega arith, simp (add-one, c .entry-size .ensures .0, c .before .before .loop .inv .1), omega arith)
 
-entry-size-requires-4 : tie.Need-entry-size-requires-4
-entry-size-requires-4 c κs = search needs
-
-add-result-3 : tie.Need-add-result-3
-add-result-3 c = search needs
-
-returns : tie.Need-returns
-unfolding odtBytes
-returns c = (omega (arith, c .before .before .before .entry-size .ensures, c .before .before .entry-size2 .ensures, c .before .entry-size3 .ensures, c .entry-size4 .ensures), omega (arith, c .before .before .before .entry-size .ensures, c .before .before .entry-size2 .ensures, c .before .entry-size3 .ensures, c .entry-size4 .ensures))
+returns : tie.Need-returns Inv-loop μ-loop
+returns c = let e : c .before .loop .e ≡ entries = omega arith in (c .before .loop .inv .1 ∙ ap (bytesOfFirst (c .before .before .before .args .s .now) (c .before .before .before .args .k)) e, omega arith)
 
 pub odt-bytes-spec : {M : Type 1} → statement M
 odt-bytes-spec =
     tie.close
     (tie.spec
+    Inv-loop
+    μ-loop
+    loop-holds
     entry-size-requires
-    entry-size-requires-2
-    add-result
-    entry-size-requires-3
-    add-result-2
-    entry-size-requires-4
-    add-result-3
+    add-n
+    add-e
+    loop-less
+    loop-again
     returns)
