@@ -6,7 +6,7 @@ use mathlib.Core.List.{List, [], _∷_, _++_}
 use lib.Dec.{eqb, ltb, leb}
 use lib.ListN.{length, getD, take, drop}
 use Rattle.line.specs.Wire.{unstuff}
-use Rattle.session.specs.Layout.{entries, firstOdt, listOf}
+use Rattle.session.specs.Layout.{firstOdt, listOf, entryCount}
 use Rattle.session.specs.Bytes.{block}
 use Rattle.session.specs.State.{waits, answerOf}
 use Rattle.session.specs.Lists.{runsOf, storedLength}
@@ -49,8 +49,8 @@ second k (b ∷ bs) = (k ∷ b ∷ bs) ∷ []
 
 unfoldable pub sampleOf : List ℕ → ℕ → ℕ → List ℕ → List ℕ → List (List ℕ)
 sampleOf s l clock cal meas =
-    (firstOdt l ∷ clock % 256 ∷ clock / 256 % 256 ∷ gathered s (firstOdt l) cal meas entries)
-    ∷ second (firstOdt l + 1) (gathered s (firstOdt l + 1) cal meas entries)
+    (firstOdt l ∷ clock % 256 ∷ clock / 256 % 256 ∷ gathered s (firstOdt l) cal meas (entryCount (firstOdt l)))
+    ∷ second (firstOdt l + 1) (gathered s (firstOdt l + 1) cal meas (entryCount (firstOdt l + 1)))
 
 abbrev pub isSampled : Sampling → Bool
 isSampled Idle = false

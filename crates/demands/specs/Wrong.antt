@@ -8,7 +8,7 @@ use lib.ListN.{length, getD, set, take, drop}
 use Rattle.line.specs.Stuffing.{stuff, onWire}
 use Rattle.line.specs.Message.{sum}
 use Rattle.line.specs.Writer.{atFront}
-use Rattle.session.specs.Layout.{lists, entries, calibrationAt, listsAt, firstOdt}
+use Rattle.session.specs.Layout.{lists, calibrationAt, listsAt, firstOdt, entryCount}
 use Rattle.session.specs.State.{consistent, ctrOf, maskOf, mtaOf, setMta, waits, answered}
 use Rattle.session.specs.Lists.{storedLength}
 use Rattle.session.specs.Receive.{Step, only, obeyed, heeded, receiveOf}
@@ -140,7 +140,7 @@ movesAfterRefusal = heeding (λ p s cal meas. cond (eqb (getD p 0 0) 0xF5) (move
 
 -- where a packet of ODT 1 waits, its bytes are taken from the memories lent now
 abbrev pub reread : List ℕ → ℕ → List ℕ → List ℕ → List ℕ
-reread s k cal meas = cond (ltb 0 (storedLength s k)) (stored s k (gathered s k cal meas entries)) s
+reread s k cal meas = cond (ltb 0 (storedLength s k)) (stored s k (gathered s k cal meas (entryCount k))) s
 
 unfoldable pub rereadEach : List ℕ → List ℕ → List ℕ → ℕ → List ℕ
 rereadEach s cal meas zero = s

@@ -6,7 +6,7 @@ use mathlib.Core.List.{List, [], _∷_, _++_}
 use lib.Dec.{eqb, ltb, leb}
 use lib.ListN.{length}
 use lib.Seq.{sets}
-use Rattle.session.specs.Layout.{lists, entries, events, sampleAt, firstOdt}
+use Rattle.session.specs.Layout.{lists, events, sampleAt, firstOdt, entryCount}
 use Rattle.session.specs.Memory.{pick, bytesOf}
 use Rattle.session.specs.State.{consistent}
 use Rattle.session.specs.Lists.{sizeOf, extensionOf, addressOf, modeOf, runsOf, storedLength}
@@ -39,8 +39,8 @@ stored s k bs = sets s (sampleAt k) (length bs ∷ bs)
 unfoldable pub captured : List ℕ → ℕ → ℕ → List ℕ → List ℕ → List ℕ
 captured s l clock cal meas =
     stored
-    (stored s (firstOdt l) (clock % 256 ∷ clock / 256 % 256 ∷ gathered s (firstOdt l) cal meas entries))
-    (firstOdt l + 1) (gathered s (firstOdt l + 1) cal meas entries)
+    (stored s (firstOdt l) (clock % 256 ∷ clock / 256 % 256 ∷ gathered s (firstOdt l) cal meas (entryCount (firstOdt l))))
+    (firstOdt l + 1) (gathered s (firstOdt l + 1) cal meas (entryCount (firstOdt l + 1)))
 
 -- the state, and how many lists sampled and missed
 pub record Tally : Type 0 where

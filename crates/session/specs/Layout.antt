@@ -162,9 +162,15 @@ answerAt = 238
 abbrev pub size : ℕ
 size = 247
 
--- a list's first ODT, and an ODT's list
+-- which ODTs a list has, and which entries an ODT: the same for every list today, out of a table of allocations later
 abbrev pub firstOdt : ℕ → ℕ
 firstOdt l = odts * l
 
+abbrev pub odtCount : ℕ → ℕ
+odtCount l = odts
+
 abbrev pub listOf : ℕ → ℕ
 listOf k = k / odts
+
+abbrev pub entryCount : ℕ → ℕ
+entryCount k = entries

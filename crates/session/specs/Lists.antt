@@ -4,7 +4,7 @@ use mathlib.Core.Bool.{Bool, true, false, cond}
 use mathlib.Core.List.{List}
 use lib.Dec.{eqb, ltb}
 use lib.ListN.{getD, set}
-use Rattle.session.specs.Layout.{odts, entries, events, storedMost, clockSize, entryMost, odt0Most, odt1Most, listSize, modeAt, selectedAt, runningAt, entrySize, odtSize, entriesAt, entryAt, sampleAt, firstOdt}
+use Rattle.session.specs.Layout.{odts, events, storedMost, clockSize, entryMost, odt0Most, odt1Most, listSize, modeAt, selectedAt, runningAt, entrySize, odtSize, entriesAt, entryAt, sampleAt, firstOdt, odtCount, entryCount}
 use Rattle.session.specs.Bytes.{u16At, put16, cleared}
 use Rattle.session.specs.State.{flagOf, openOf}
 use Rattle.session.specs.declared.Extension.{Extension}
@@ -27,7 +27,7 @@ bytesOfFirst s k zero = 0
 bytesOfFirst s k (suc n) = bytesOfFirst s k n + sizeOf s k n
 
 abbrev pub odtBytes : List ℕ → ℕ → ℕ
-odtBytes s k = bytesOfFirst s k entries
+odtBytes s k = bytesOfFirst s k (entryCount k)
 
 -- ---- lists
 -- mode never set, or set for event 0 or event 1
@@ -81,7 +81,7 @@ started s l = restarted s l 1
 
 -- as after E3
 unfoldable pub listCleared : List ℕ → ℕ → List ℕ
-listCleared s l = cleared (cleared s (modeAt l) listSize) (entriesAt (firstOdt l)) (odts * odtSize)
+listCleared s l = cleared (cleared s (modeAt l) listSize) (entriesAt (firstOdt l)) (odtCount l * odtSize)
 
 unfoldable pub modeSet : List ℕ → ℕ → ℕ → List ℕ
 modeSet s l event = set (set s (modeAt l) (event + 1)) (runningAt l) 0
