@@ -12,7 +12,7 @@ use Rattle.line.proofs.Stuffed.{false-true}
 use Rattle.session.specs.Layout.{size, lists, listOf}
 use Rattle.session.specs.Generator.{nextOf}
 use Rattle.session.specs.State.{generatorOf, setGenerator, lockAt, setMta, setPointer, closed, fresh}
-use Rattle.session.specs.Lists.{restarted, listCleared, modeSet, entryCleared, entrySet}
+use Rattle.session.specs.Lists.{switched, listCleared, modeSet, entryCleared, entrySet}
 use Rattle.session.specs.Doable.{Doable}
 use Rattle.session.specs.Perform.{nextEntry, effect}
 use Rattle.session.specs.declared.Seed.the-variants.{None, For}
@@ -25,7 +25,7 @@ use Rattle.fields.proofs.Frames.{only-generator, only-lock, only-seed, only-mta
 use Rattle.demands.specs.Heard.{stops}
 use Rattle.demands.specs.Waiting.{waitingOf}
 use Rattle.demands.proofs.Own.{own-then, own-only, waiting-reads}
-use Rattle.demands.proofs.ListChanges.{rests-waiting, own-restarted, own-listCleared, own-modeSet, own-entryCleared, own-entrySet, own-selected, restarted-waiting, listCleared-waiting, modeSet-waiting, entryCleared-waiting, entrySet-waiting, resting-kept}
+use Rattle.demands.proofs.ListChanges.{rests-waiting, own-switched, own-listCleared, own-modeSet, own-entryCleared, own-entrySet, own-selected, switched-waiting, listCleared-waiting, modeSet-waiting, entryCleared-waiting, entrySet-waiting, resting-kept}
 use Rattle.demands.proofs.Synch.{stopEach-waiting, startSelected-waiting, stopSelected-keeps, stopSelected-drops}
 use Rattle.demands.proofs.Judged.{Found}
 
@@ -70,9 +70,9 @@ effect-waiting (WriteEntry k i m x a) p s l n nc nm h l4 can found e =
     ∙ resting-kept s t (listOf k) l found (entrySet-waiting s k i h (can .0) (can .1) m x a) (λ d. own-entrySet l4 (can .0) (can .1) d s m x a)
 effect-waiting (SetMode j event) p s l n nc nm h l4 can found e =
     resting-kept s (modeSet s j event) j l found (modeSet-waiting s j h (can .0) event) (λ d. own-modeSet l4 (can .0) d s event)
-effect-waiting (Stop j) p s l n nc nm h l4 can found e = waiting-reads l (own-restarted l4 can (λ d. eqb-false l j e (sym d)) s 0)
+effect-waiting (Stop j) p s l n nc nm h l4 can found e = waiting-reads l (own-switched l4 can (λ d. eqb-false l j e (sym d)) s 0)
 effect-waiting (Start j) p s l n nc nm h l4 can found e =
-    resting-kept s (restarted s j 1) j l found (restarted-waiting s j h can 1) (λ d. own-restarted l4 can d s 1)
+    resting-kept s (switched s j 1) j l found (switched-waiting s j h can 1) (λ d. own-switched l4 can d s 1)
 effect-waiting (KeepRunning j) p s l n nc nm h l4 can found e = refl
 effect-waiting (Select j) p s l n nc nm h l4 can found e = waiting-reads l (own-selected s j 1 l4 can)
 effect-waiting StopAll p s l n nc nm h l4 can found e = absurd (false-true (sym e))
@@ -104,7 +104,7 @@ effect-stops (SetPointer k i) s l h l4 e = absurd (false-true e)
 effect-stops (ClearEntry k i) s l h l4 e = absurd (false-true e)
 effect-stops (WriteEntry k i m x a) s l h l4 e = absurd (false-true e)
 effect-stops (SetMode j event) s l h l4 e = absurd (false-true e)
-effect-stops (Stop j) s l h l4 e = subst (λ (i : ℕ). waitingOf (restarted s i 0) l ≡ []) (eqb-true l j e) (restarted-waiting s l h l4 0)
+effect-stops (Stop j) s l h l4 e = subst (λ (i : ℕ). waitingOf (switched s i 0) l ≡ []) (eqb-true l j e) (switched-waiting s l h l4 0)
 effect-stops (Start j) s l h l4 e = absurd (false-true e)
 effect-stops (KeepRunning j) s l h l4 e = absurd (false-true e)
 effect-stops (Select j) s l h l4 e = absurd (false-true e)

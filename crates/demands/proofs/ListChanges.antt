@@ -13,7 +13,7 @@ use Rattle.line.proofs.Laws.{cond-ind}
 use Rattle.session.specs.Layout.{size, modeAt, selectedAt, runningAt, entriesAt, entryAt, sampleAt, firstOdt, listOf}
 use Rattle.session.specs.Bytes.{cleared}
 use Rattle.session.specs.State.{flagOf, openOf}
-use Rattle.session.specs.Lists.{runsOf, restarted, listCleared, modeSet, tagOf, entryCleared, entrySet}
+use Rattle.session.specs.Lists.{runsOf, switched, listCleared, modeSet, tagOf, entryCleared, entrySet}
 use Rattle.session.specs.declared.Extension.{Extension}
 use Rattle.fields.proofs.Stores.{cleared-in}
 use Rattle.fields.proofs.Fields.{empty-stored}
@@ -43,9 +43,9 @@ stores-waiting s l e f =
 
 -- ---- a change of list j leaves list l's bytes
 module _ {l j : ℕ} (l4 : l < 4) (j4 : j < 4) (n : j ≢ l) (s : List ℕ) where
-  pub own-restarted : (on : ℕ) → Own l s (restarted s j on)
-  unfolding restarted
-  own-restarted on =
+  pub own-switched : (on : ℕ) → Own l s (switched s j on)
+  unfolding switched
+  own-switched on =
       let s₁ : List ℕ = set s (runningAt j) on in
       let s₂ : List ℕ = set s₁ (sampleAt (firstOdt j)) 0 in
       own-then (own-set s (runningAt j) on (omega arith))
@@ -85,9 +85,9 @@ own-selected s j a l4 j4 = own-set s (selectedAt j) a (omega arith)
 
 -- ---- the list that is changed
 module _ (s : List ℕ) (l : ℕ) (h : length s ≡ size) (l4 : l < 4) where
-  pub restarted-waiting : (on : ℕ) → waitingOf (restarted s l on) l ≡ []
-  unfolding restarted
-  restarted-waiting on =
+  pub switched-waiting : (on : ℕ) → waitingOf (switched s l on) l ≡ []
+  unfolding switched
+  switched-waiting on =
       let s₁ : List ℕ = set s (runningAt l) on in
       let s₂ : List ℕ = set s₁ (sampleAt (firstOdt l)) 0 in
       let h₁ : length s₁ ≡ size = length-set s (runningAt l) on ∙ h in

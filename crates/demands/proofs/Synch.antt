@@ -9,13 +9,13 @@ use lib.ListN.{length, set}
 use Rattle.line.proofs.Laws.{cond-ind}
 use Rattle.session.specs.Layout.{size, selectedAt, runningAt, sampleAt, firstOdt}
 use Rattle.session.specs.State.{flagOf}
-use Rattle.session.specs.Lists.{runsOf, restarted, stopEach, startOne, startSelected, stopOne, stopSelected}
+use Rattle.session.specs.Lists.{runsOf, switched, stopEach, startOne, startSelected, stopOne, stopSelected}
 use Rattle.fields.proofs.Frames.{only-set}
 use Rattle.fields.proofs.Readers.{Same, same-then, flag-reads}
 use Rattle.fields.proofs.Effects.{only-stopEach, only-startSelected, only-stopSelected}
 use Rattle.demands.specs.Waiting.{waitingOf}
 use Rattle.demands.proofs.Own.{Own, own-none, own-then, same-missed, waiting-reads}
-use Rattle.demands.proofs.ListChanges.{own-restarted, own-selected, restarted-waiting, this-or-other, resting-kept}
+use Rattle.demands.proofs.ListChanges.{own-switched, own-selected, switched-waiting, this-or-other, resting-kept}
 
 -- list by list, list n is changed and then deselected
 deselected-waiting : (t : List ℕ) (n l : ℕ) → n < 4 → l < 4 → waitingOf (set t (selectedAt n) 0) l ≡ waitingOf t l
@@ -29,17 +29,17 @@ pub stopEach-waiting : (s : List ℕ) (n l : ℕ) → length s ≡ size → n �
 unfolding stopEach
 stopEach-waiting s (suc n) l h n4 k =
     let t : List ℕ = stopEach s n in
-    deselected-waiting (restarted t n 0) n l (omega arith) (omega arith)
+    deselected-waiting (switched t n 0) n l (omega arith) (omega arith)
     ∙ this-or-other n l
-    (λ e. subst (λ (i : ℕ). waitingOf (restarted t n 0) i ≡ []) e (restarted-waiting t n (stopEach-size s n h (omega arith)) (omega arith) 0))
-    (λ d. waiting-reads l (own-restarted (omega arith) (omega arith) d t 0) ∙ stopEach-waiting s n l h (omega arith) (omega arith))
+    (λ e. subst (λ (i : ℕ). waitingOf (switched t n 0) i ≡ []) e (switched-waiting t n (stopEach-size s n h (omega arith)) (omega arith) 0))
+    (λ d. waiting-reads l (own-switched (omega arith) (omega arith) d t 0) ∙ stopEach-waiting s n l h (omega arith) (omega arith))
 
 -- ---- those selected are started: of one that runs everything stays, of one that does not nothing waits
 startOne-waiting : (s : List ℕ) (n l : ℕ) → length s ≡ size → n < 4 → l < 4 → waitingOf (startOne s n) l ≡ waitingOf s l
 startOne-waiting s n l h n4 l4 =
     let P : List ℕ → Type 0 = λ (t : List ℕ). waitingOf t l ≡ waitingOf s l in
     cond-ind P (flagOf s (selectedAt n))
-    (λ _. cond-ind P (runsOf s n) (λ _. refl) (λ r. resting-kept s (restarted s n 1) n l r (restarted-waiting s n h n4 1) (λ d. own-restarted l4 n4 d s 1)))
+    (λ _. cond-ind P (runsOf s n) (λ _. refl) (λ r. resting-kept s (switched s n 1) n l r (switched-waiting s n h n4 1) (λ d. own-switched l4 n4 d s 1)))
     (λ _. refl)
 
 pub startSelected-waiting : (s : List ℕ) (n l : ℕ) → length s ≡ size → n ≤ 4 → l < 4 → waitingOf (startSelected s n) l ≡ waitingOf s l
@@ -55,9 +55,9 @@ startSelected-waiting s (suc n) l h n4 l4 =
 selected-set : (s : List ℕ) (l i a : ℕ) → i ≢ selectedAt l → Same (selectedAt l) (selectedAt l + 1) s (set s i a)
 selected-set s l i a n = same-missed (omega arith) (only-set {lo = i} {hi = i + 1} s i a (omega arith) (omega arith))
 
-selected-restarted : (s : List ℕ) (n l : ℕ) → l < 4 → Same (selectedAt l) (selectedAt l + 1) s (restarted s n 0)
-unfolding restarted
-selected-restarted s n l l4 =
+selected-switched : (s : List ℕ) (n l : ℕ) → l < 4 → Same (selectedAt l) (selectedAt l + 1) s (switched s n 0)
+unfolding switched
+selected-switched s n l l4 =
     let s₁ : List ℕ = set s (runningAt n) 0 in
     let s₂ : List ℕ = set s₁ (sampleAt (firstOdt n)) 0 in
     same-then (selected-set s l (runningAt n) 0 (omega arith))
@@ -71,16 +71,16 @@ still-selected s (suc n) l k l4 =
     let t : List ℕ = stopSelected s n in
     flag-reads (selectedAt l) (selected-set (stopOne t n) l (selectedAt n) 0 (omega arith))
     ∙ cond-ind (λ (u : List ℕ). flagOf u (selectedAt l) ≡ flagOf t (selectedAt l)) (flagOf t (selectedAt n))
-    (λ _. flag-reads (selectedAt l) (selected-restarted t n l l4)) (λ _. refl)
+    (λ _. flag-reads (selectedAt l) (selected-switched t n l l4)) (λ _. refl)
     ∙ still-selected s n l (omega arith) l4
 
 own-stopOne : (s : List ℕ) (n l : ℕ) → n < 4 → l < 4 → n ≢ l → Own l s (stopOne s n)
-own-stopOne s n l n4 l4 d = cond-ind (Own l s) (flagOf s (selectedAt n)) (λ _. own-restarted l4 n4 d s 0) (λ _. own-none)
+own-stopOne s n l n4 l4 d = cond-ind (Own l s) (flagOf s (selectedAt n)) (λ _. own-switched l4 n4 d s 0) (λ _. own-none)
 
 -- one that is not selected stays as it is
 stopOne-keeps : (s : List ℕ) (n l : ℕ) → n < 4 → l < 4 → (n ≡ l → flagOf s (selectedAt n) ≡ false) → Own l s (stopOne s n)
 stopOne-keeps s n l n4 l4 e =
-    this-or-other n l (λ d. subst (λ (b : Bool). Own l s (cond b (restarted s n 0) s)) (sym (e d)) own-none) (own-stopOne s n l n4 l4)
+    this-or-other n l (λ d. subst (λ (b : Bool). Own l s (cond b (switched s n 0) s)) (sym (e d)) own-none) (own-stopOne s n l n4 l4)
 
 pub stopSelected-keeps : (s : List ℕ) (n l : ℕ) → n ≤ 4 → l < 4 → flagOf s (selectedAt l) ≡ false → Own l s (stopSelected s n)
 unfolding stopSelected
@@ -93,7 +93,7 @@ stopSelected-keeps s (suc n) l n4 l4 e =
 
 -- one that is selected stops, and nothing of it waits
 stopOne-drops : (s : List ℕ) (n : ℕ) → length s ≡ size → n < 4 → flagOf s (selectedAt n) ≡ true → waitingOf (stopOne s n) n ≡ []
-stopOne-drops s n h n4 e = rw e (restarted-waiting s n h n4 0)
+stopOne-drops s n h n4 e = rw e (switched-waiting s n h n4 0)
 
 pub stopSelected-drops : (s : List ℕ) (n l : ℕ) → length s ≡ size → n ≤ 4 → l < n → flagOf s (selectedAt l) ≡ true → waitingOf (stopSelected s n) l ≡ []
 unfolding stopSelected

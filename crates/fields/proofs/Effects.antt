@@ -12,7 +12,7 @@ use Rattle.session.specs.Bytes.{block, cleared}
 use Rattle.session.specs.Generator.{nextOf}
 use Rattle.session.specs.Memory.{pick}
 use Rattle.session.specs.State.{flagOf, generatorOf, setGenerator, lockAt, setSeed, setMta, setPointer, placeOf, messageOf, waits, answerOf}
-use Rattle.session.specs.Lists.{runsOf, restarted, listCleared, modeSet, tagOf, entryCleared, entrySet, stopEach, startOne, startSelected, stopSelected}
+use Rattle.session.specs.Lists.{runsOf, switched, listCleared, modeSet, tagOf, entryCleared, entrySet, stopEach, startOne, startSelected, stopSelected}
 use Rattle.session.specs.Doable.{Doable}
 use Rattle.session.specs.Perform.{nextEntry, effect, reply, after}
 use Rattle.session.specs.declared.Extension.{Extension}
@@ -29,9 +29,9 @@ use Rattle.fields.proofs.Readers.{Same, apart, same-then, place-reads, 
 only-cond : {lo hi : ℕ} {s t u : List ℕ} (b : Bool) → Only lo hi s t → Only lo hi s u → Only lo hi s (cond b t u)
 only-cond {lo} {hi} {s} b p q = cond-ind (Only lo hi s) b (λ _. p) (λ _. q)
 
-pub only-restarted : (s : List ℕ) (l on : ℕ) → l < lists → Only 21 225 s (restarted s l on)
-unfolding restarted
-only-restarted s l on h =
+pub only-switched : (s : List ℕ) (l on : ℕ) → l < lists → Only 21 225 s (switched s l on)
+unfolding switched
+only-switched s l on h =
     let s₁ : List ℕ = set s (runningAt l) on in
     let s₂ : List ℕ = set s₁ (sampleAt (firstOdt l)) 0 in
     only-then (only-set s (runningAt l) on (omega arith) (omega arith))
@@ -69,10 +69,10 @@ pub only-stopEach : (s : List ℕ) (n : ℕ) → n ≤ lists → Only 21 225 s (
 unfolding stopEach
 only-stopEach s zero h = only-none
 only-stopEach s (suc n) h =
-    only-deselected n (omega arith) (only-then (only-stopEach s n (omega arith)) (only-restarted (stopEach s n) n 0 (omega arith)))
+    only-deselected n (omega arith) (only-then (only-stopEach s n (omega arith)) (only-switched (stopEach s n) n 0 (omega arith)))
 
 only-startOne : (s : List ℕ) (l : ℕ) → l < lists → Only 21 225 s (startOne s l)
-only-startOne s l h = only-cond (flagOf s (selectedAt l)) (only-cond (runsOf s l) only-none (only-restarted s l 1 h)) only-none
+only-startOne s l h = only-cond (flagOf s (selectedAt l)) (only-cond (runsOf s l) only-none (only-switched s l 1 h)) only-none
 
 pub only-startSelected : (s : List ℕ) (n : ℕ) → n ≤ lists → Only 21 225 s (startSelected s n)
 unfolding startSelected
@@ -86,7 +86,7 @@ only-stopSelected s zero h = only-none
 only-stopSelected s (suc n) h =
     only-deselected n (omega arith)
     (only-then (only-stopSelected s n (omega arith))
-    (only-cond (flagOf (stopSelected s n) (selectedAt n)) (only-restarted (stopSelected s n) n 0 (omega arith)) only-none))
+    (only-cond (flagOf (stopSelected s n) (selectedAt n)) (only-switched (stopSelected s n) n 0 (omega arith)) only-none))
 
 -- ---- the deeds
 -- t differs from s in the generator and the session alone: not in the mark, the CTR, the round, the reader or the answer
@@ -142,8 +142,8 @@ effected (WriteEntry k e m x a) s n nc nm h =
     let p : k < allOdts = h .0 in
     pointer (nextEntry k e) (only-entrySet s (listOf k) k e m x a (omega arith) p (h .1))
 effected (SetMode l event) s n nc nm h = listed (only-wider (lit≤ tt) (lit≤ tt) (only-modeSet s l event (h .0)))
-effected (Stop l) s n nc nm h = listed (only-restarted s l 0 h)
-effected (Start l) s n nc nm h = listed (only-restarted s l 1 h)
+effected (Stop l) s n nc nm h = listed (only-switched s l 0 h)
+effected (Start l) s n nc nm h = listed (only-switched s l 1 h)
 effected (KeepRunning l) s n nc nm h = none
 effected (Select l) s n nc nm h = listed (only-set s (selectedAt l) 1 (omega arith) (omega arith))
 effected StopAll s n nc nm h = listed (only-stopEach s lists (lit≤ tt))

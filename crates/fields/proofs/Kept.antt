@@ -18,7 +18,7 @@ use Rattle.session.specs.Layout.{mark, size, lists, modeAt, selectedAt, running
 use Rattle.session.specs.Bytes.{u32At, put16, put32, block, cleared}
 use Rattle.session.specs.Generator.{startOf, nextOf}
 use Rattle.session.specs.State.{consistent, flagOf, openOf, generatorOf, setGenerator, lockAt, setSeed, setMta, setPointer, placeOf, messageOf, waits, answerKind, answered}
-use Rattle.session.specs.Lists.{runsOf, restarted, listCleared, modeSet, tagOf, entryCleared, entrySet, stopEach, startOne, startSelected, stopSelected}
+use Rattle.session.specs.Lists.{runsOf, switched, listCleared, modeSet, tagOf, entryCleared, entrySet, stopEach, startOne, startSelected, stopSelected}
 use Rattle.session.specs.Judge.{judge}
 use Rattle.session.specs.Perform.{nextEntry, effect, reply, after}
 use Rattle.session.specs.Receive.{Step, goodConnect, heeded, meant, readOn, fedOf, receiveOf}
@@ -105,9 +105,9 @@ unfolding powerUpOf
 power-up-consistent s start h = simp (eq-eqb (length s) size h) (power-consistent start)
 
 -- ---- the lists' changes
-marked-restarted : (s : List ℕ) (l on : ℕ) → Marked s (restarted s l on)
-unfolding restarted
-marked-restarted s l on =
+marked-switched : (s : List ℕ) (l on : ℕ) → Marked s (switched s l on)
+unfolding switched
+marked-switched s l on =
     let s₁ : List ℕ = set s (runningAt l) on in
     let s₂ : List ℕ = set s₁ (sampleAt (firstOdt l)) 0 in
     marked-then (marked-set s (runningAt l) on (omega arith))
@@ -144,11 +144,11 @@ marked-entrySet s l k e n x a =
 marked-stopEach : (s : List ℕ) (n : ℕ) → Marked s (stopEach s n)
 unfolding stopEach
 marked-stopEach s zero = marked-none
-marked-stopEach s (suc n) = marked-deselected n (marked-then (marked-stopEach s n) (marked-restarted (stopEach s n) n 0))
+marked-stopEach s (suc n) = marked-deselected n (marked-then (marked-stopEach s n) (marked-switched (stopEach s n) n 0))
 
 marked-startOne : (s : List ℕ) (l : ℕ) → Marked s (startOne s l)
 marked-startOne s l =
-    marked-cond (flagOf s (selectedAt l)) (marked-cond (runsOf s l) marked-none (marked-restarted s l 1)) marked-none
+    marked-cond (flagOf s (selectedAt l)) (marked-cond (runsOf s l) marked-none (marked-switched s l 1)) marked-none
 
 marked-startSelected : (s : List ℕ) (n : ℕ) → Marked s (startSelected s n)
 unfolding startSelected
@@ -160,7 +160,7 @@ unfolding stopSelected
 marked-stopSelected s zero = marked-none
 marked-stopSelected s (suc n) =
     marked-deselected n
-    (marked-then (marked-stopSelected s n) (marked-cond (flagOf (stopSelected s n) (selectedAt n)) (marked-restarted (stopSelected s n) n 0) marked-none))
+    (marked-then (marked-stopSelected s n) (marked-cond (flagOf (stopSelected s n) (selectedAt n)) (marked-switched (stopSelected s n) n 0) marked-none))
 
 -- ---- the deeds
 marked-seed : (s : List ℕ) (x : Seed) → Marked s (setSeed s x)
@@ -197,8 +197,8 @@ marked-effect (ClearEntry k e) s = marked-then (marked-entryCleared s (listOf k)
 marked-effect (WriteEntry k e n x a) s =
     marked-then (marked-entrySet s (listOf k) k e n x a) (marked-pointer (entrySet s (listOf k) k e n x a) (nextEntry k e))
 marked-effect (SetMode l event) s = marked-modeSet s l event
-marked-effect (Stop l) s = marked-restarted s l 0
-marked-effect (Start l) s = marked-restarted s l 1
+marked-effect (Stop l) s = marked-switched s l 0
+marked-effect (Start l) s = marked-switched s l 1
 marked-effect (KeepRunning l) s = marked-none
 marked-effect (Select l) s = marked-set s (selectedAt l) 1 (omega arith)
 marked-effect StopAll s = marked-stopEach s lists

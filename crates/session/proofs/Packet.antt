@@ -18,7 +18,7 @@ packet-byte s n i h = getD-take n (drop packetAt s) i 0 h ∙ getD-drop packetAt
 
 -- the byte k further on
 later-byte : (s : List ℕ) (n i k : ℕ) → i + k < n → getD (block s packetAt n) (i + k) 0 ≡ getD s (packetAt + i + k) 0
-later-byte s n i k h = rw add-assoc (packet-byte s n (i + k) h)
+later-byte s n i k h = rw (add-assoc packetAt i k) (packet-byte s n (i + k) h)
 
 pub packet-u16 : (s : List ℕ) (n i : ℕ) → i + 2 ≤ n → u16At (block s packetAt n) i ≡ u16At s (packetAt + i)
 unfolding u16At

@@ -23,10 +23,11 @@ unsent s l = cond (ltb 0 (storedLength s (firstOdt l))) true (ltb 0 (storedLengt
 unfoldable pub samplingOf : List ℕ → ℕ → ℕ → Sampling
 samplingOf s l event = cond (runsOf s l) (cond (eqb (modeOf s l) (event + 1)) (cond (unsent s l) Missed Sampled) Idle) Idle
 
--- the bytes of ODT k's first n entries, in entry order, as the memories hold them now
+-- the bytes of entry e of ODT k, as the memories hold them now
 unfoldable pub entryBytes : List ℕ → ℕ → ℕ → List ℕ → List ℕ → List ℕ
 entryBytes s k e cal meas = bytesOf (pick (extensionOf s k e) cal meas) (addressOf s k e) (sizeOf s k e)
 
+-- those of ODT k's first n entries, in entry order
 unfoldable pub gathered : List ℕ → ℕ → List ℕ → List ℕ → ℕ → List ℕ
 gathered s k cal meas zero = []
 gathered s k cal meas (suc n) = gathered s k cal meas n ++ entryBytes s k n cal meas

@@ -1,6 +1,6 @@
 -- Where everything lies in the lent state. Limits and places have one name each; later limits change numbers here.
 use Prim.Native.Nat.{ℕ, _+_, _*_, _-_, _/_}
-use Rattle.line.specs.Message.{most}
+use Rattle.line.specs.Message.{most, longest}
 
 -- four lists, each two ODTs of four entries
 abbrev pub lists : ℕ
@@ -78,15 +78,13 @@ ctrAt = 8
 abbrev pub servedAt : ℕ
 servedAt = 9
 
+-- whether the last frame was an answer
 abbrev pub lastAt : ℕ
 lastAt = 10
 
--- the session's own bytes, all 0 in a closed one
+-- the session's own bytes, up to the reader's; written 0 when it closes
 abbrev pub sessionAt : ℕ
 sessionAt = 11
-
-abbrev pub sessionSize : ℕ
-sessionSize = 214
 
 abbrev pub openAt : ℕ
 openAt = 11
@@ -130,7 +128,7 @@ abbrev pub odtSize : ℕ
 odtSize = entries * entrySize
 
 abbrev pub entriesAt : ℕ → ℕ
-entriesAt k = 33 + odtSize * k
+entriesAt k = modeAt lists + odtSize * k
 
 abbrev pub entryAt : ℕ → ℕ → ℕ
 entryAt k e = entriesAt k + entrySize * e
@@ -140,27 +138,30 @@ abbrev pub sampleSize : ℕ
 sampleSize = storedMost + 1
 
 abbrev pub sampleAt : ℕ → ℕ
-sampleAt k = 161 + sampleSize * k
+sampleAt k = entriesAt allOdts + sampleSize * k
 
 -- the reader's place with its message buffer
 abbrev pub placeAt : ℕ
-placeAt = 225
+placeAt = sampleAt allOdts
+
+abbrev pub sessionSize : ℕ
+sessionSize = placeAt - sessionAt
 
 abbrev pub countAt : ℕ
-countAt = 226
+countAt = placeAt + 1
 
 abbrev pub messageAt : ℕ
-messageAt = 227
+messageAt = countAt + 1
 
 abbrev pub packetAt : ℕ
-packetAt = 229
+packetAt = messageAt + 2
 
 -- the waiting answer: its length, and eight bytes
 abbrev pub answerAt : ℕ
-answerAt = 238
+answerAt = messageAt + longest
 
 abbrev pub size : ℕ
-size = 247
+size = answerAt + 1 + packetMost
 
 -- which ODTs a list has, and which entries an ODT: the same for every list today, out of a table of allocations later
 abbrev pub firstOdt : ℕ → ℕ

@@ -30,7 +30,7 @@ abbrev pub odtBytes : List ℕ → ℕ → ℕ
 odtBytes s k = bytesOfFirst s k (entryCount k)
 
 -- ---- lists
--- mode never set, or set for event 0 or event 1
+-- 0 if a list's mode was never set, else 1 more than its event; any other value reads as 0
 unfoldable pub modeOf : List ℕ → ℕ → ℕ
 modeOf s l = cond (ltb events (getD s (modeAt l) 0)) 0 (getD s (modeAt l) 0)
 
@@ -61,23 +61,24 @@ allFit s zero = true
 allFit s (suc n) = cond (allFit s n) (mayStart s n) false
 
 -- ---- packets
--- the length of ODT k's packet in store, without its number: the clock at least for an ODT 0, 1 at least for an ODT 1
+-- the shortest packet in store, without its number: the clock for an ODT 0, a byte for an ODT 1
 unfoldable pub leastOf : ℕ → ℕ
 leastOf k = cond (eqb (k % odts) 0) clockSize 1
 
+-- the length of ODT k's packet in store, without its number; one that no packet can have reads as 0, no packet
 unfoldable pub storedLength : List ℕ → ℕ → ℕ
 storedLength s k = cond (ltb (getD s (sampleAt k) 0) (leastOf k)) 0 (cond (ltb storedMost (getD s (sampleAt k) 0)) 0 (getD s (sampleAt k) 0))
 
 -- ---- changes
 -- the running flag, with both packets dropped
-unfoldable pub restarted : List ℕ → ℕ → ℕ → List ℕ
-restarted s l on = set (set (set s (runningAt l) on) (sampleAt (firstOdt l)) 0) (sampleAt (firstOdt l + 1)) 0
+unfoldable pub switched : List ℕ → ℕ → ℕ → List ℕ
+switched s l on = set (set (set s (runningAt l) on) (sampleAt (firstOdt l)) 0) (sampleAt (firstOdt l + 1)) 0
 
 abbrev pub stopped : List ℕ → ℕ → List ℕ
-stopped s l = restarted s l 0
+stopped s l = switched s l 0
 
 abbrev pub started : List ℕ → ℕ → List ℕ
-started s l = restarted s l 1
+started s l = switched s l 1
 
 -- as after E3
 unfoldable pub listCleared : List ℕ → ℕ → List ℕ

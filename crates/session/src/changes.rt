@@ -3,7 +3,7 @@ ghost use mathlib.Core.Path.{_≡_};
 ghost use Prim.Native.Nat.{_<_};
 ghost use lib.ListN.{length, set};
 ghost use Rattle.session.specs.Layout.{lists, entries, allOdts, events, size, selectedAt, listOf};
-ghost use Rattle.session.specs.Lists.{restarted, stopped, started, listCleared, modeSet, tagOf, entryCleared, entrySet, stopEach, startOne, startSelected, stopOne, stopSelected};
+ghost use Rattle.session.specs.Lists.{switched, stopped, started, listCleared, modeSet, tagOf, entryCleared, entrySet, stopEach, startOne, startSelected, stopOne, stopSelected};
 use crate::Extension;
 use crate::bytes::clear;
 use crate::bytes::store16;
@@ -12,9 +12,9 @@ use crate::lists::runs;
 use crate::lists::selected;
 
 // Both packets of a list dropped, and its running flag set to on.
-fn restart(s: &mut [u8], l: usize, on: u8)
+fn switch(s: &mut [u8], l: usize, on: u8)
     requires { ⌜ (length (now s) ≡ size) × (l < lists) ⌝ }
-    ensures { λ _. ⌜ now (s .exit) ≡ restarted (now (s .entry)) l on ⌝ }
+    ensures { λ _. ⌜ now (s .exit) ≡ switched (now (s .entry)) l on ⌝ }
 {
     s[layout::RUNNING + layout::LIST_SIZE * l] = on;
     s[layout::SAMPLE + layout::SAMPLE_SIZE * (layout::ODTS * l)] = 0;
@@ -25,14 +25,14 @@ pub fn stop(s: &mut [u8], l: usize)
     requires { ⌜ (length (now s) ≡ size) × (l < lists) ⌝ }
     ensures { λ _. ⌜ now (s .exit) ≡ stopped (now (s .entry)) l ⌝ }
 {
-    restart(s, l, 0);
+    switch(s, l, 0);
 }
 
 pub fn start(s: &mut [u8], l: usize)
     requires { ⌜ (length (now s) ≡ size) × (l < lists) ⌝ }
     ensures { λ _. ⌜ now (s .exit) ≡ started (now (s .entry)) l ⌝ }
 {
-    restart(s, l, 1);
+    switch(s, l, 1);
 }
 
 pub fn select(s: &mut [u8], l: usize, on: u8)

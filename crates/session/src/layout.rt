@@ -27,7 +27,9 @@ pub const LAST_LIST: u8 = LISTS_U8 - 1;
 pub const LAST_ENTRY: u8 = ENTRIES_U8 - 1;
 
 // In all.
-pub const ALL_ENTRIES: u8 = (LISTS * ODTS * ENTRIES) as u8;
+pub const ALL_ODTS: usize = LISTS * ODTS;
+
+pub const ALL_ENTRIES: u8 = (ALL_ODTS * ENTRIES) as u8;
 
 // Most bytes of a packet, and of a sample in store, which is without its ODT's number.
 pub const PACKET_MOST: u8 = line::MOST as u8;
@@ -54,7 +56,9 @@ pub const ADDRESSABLE: usize = 4096;
 
 pub const CHECKSUM_MOST: u32 = ADDRESSABLE as u32;
 
-// The room that the line asks for a frame.
+// The line's longest message, and the room that it asks for a frame.
+pub const LONGEST: usize = line::LONGEST;
+
 pub const ROOM: usize = line::ROOM;
 
 // The mark that power-up writes; it changes with every layout.
@@ -69,12 +73,13 @@ pub const CTR: usize = 8;
 
 pub const SERVED: usize = 9;
 
+// Whether the last frame was an answer.
 pub const LAST: usize = 10;
 
-// The session's own bytes, all 0 in a closed one.
+// The session's own bytes, up to the reader's; written 0 when it closes.
 pub const SESSION: usize = 11;
 
-pub const SESSION_SIZE: usize = 214;
+pub const SESSION_SIZE: usize = PLACE - SESSION;
 
 pub const OPEN: usize = 11;
 
@@ -100,7 +105,7 @@ pub const RUNNING: usize = 23;
 pub const LIST_SIZE: usize = 3;
 
 // Of each ODT: four entries of size, extension and address.
-pub const ENTRY: usize = 33;
+pub const ENTRY: usize = MODE + LIST_SIZE * LISTS;
 
 pub const ENTRY_SIZE: usize = 4;
 
@@ -109,7 +114,7 @@ pub const ODT_SIZE: usize = ENTRIES * ENTRY_SIZE;
 pub const LIST_ENTRIES_SIZE: usize = ODTS * ODT_SIZE;
 
 // Of each ODT: the length of its waiting packet without the number, and seven bytes.
-pub const SAMPLE: usize = 161;
+pub const SAMPLE: usize = ENTRY + ODT_SIZE * ALL_ODTS;
 
 pub const SAMPLE_SIZE: usize = 1 + STORED_MOST as usize;
 
@@ -117,20 +122,20 @@ pub const SAMPLE_SIZE: usize = 1 + STORED_MOST as usize;
 pub const CLOCKED: usize = 1 + CLOCK_SIZE as usize;
 
 // The reader's place with its message buffer.
-pub const PLACE: usize = 225;
+pub const PLACE: usize = SAMPLE + SAMPLE_SIZE * ALL_ODTS;
 
-pub const COUNT: usize = 226;
+pub const COUNT: usize = PLACE + 1;
 
-pub const MESSAGE: usize = 227;
+pub const MESSAGE: usize = COUNT + 1;
 
-pub const PACKET: usize = 229;
+pub const PACKET: usize = MESSAGE + 2;
 
 // The waiting answer: its length, and eight bytes.
-pub const ANSWER: usize = 238;
+pub const ANSWER: usize = MESSAGE + LONGEST;
 
 pub const ANSWER_BYTES: usize = ANSWER + 1;
 
-pub const STATE: usize = 247;
+pub const STATE: usize = ANSWER_BYTES + PACKET_MOST as usize;
 
 // The packet's bytes after its code.
 pub const PACKET_1: usize = PACKET + 1;

@@ -1,10 +1,10 @@
 use mathlib.Core.Path.{refl}
 use lib.ListN.{length-set}
 use native.Mathlib.Omega.{arith}
-use Rattle.session.specs.Lists.{restarted}
+use Rattle.session.specs.Lists.{switched}
 use borrow.Author.Needs.{needs}
-use Rattle.session.proofs.changes.restart.Statement.{statement}
-use Rattle.session.proofs.changes.restart.Tie as tie
+use Rattle.session.proofs.changes.switch.Statement.{statement}
+use Rattle.session.proofs.changes.switch.Tie as tie
 
 mul-s : tie.Need-mul-s
 mul-s c = search needs
@@ -46,11 +46,11 @@ same-length : tie.Need-same-length
 same-length c = search needs
 
 returns : tie.Need-returns
-unfolding restarted
+unfolding switched
 returns c = refl
 
-pub restart-spec : {M : Type 1} → statement M
-restart-spec =
+pub switch-spec : {M : Type 1} → statement M
+switch-spec =
     tie.close
     (tie.spec
     mul-s
