@@ -1,4 +1,7 @@
 // Where everything lies in the lent state. docs/STATE.md says how each value reads.
+ghost use mathlib.Core.Path.{_≡_};
+ghost use Prim.Native.Nat.{_<_};
+ghost use Rattle.session.specs.Layout.{lists, entries, allOdts, entriesAt, entryAt, sampleAt, firstOdt, listOf};
 
 // Four lists, each of two ODTs of four entries.
 pub const LISTS: usize = 4;
@@ -166,3 +169,43 @@ pub const ANSWER_5: usize = ANSWER_BYTES + 5;
 pub const ANSWER_6: usize = ANSWER_BYTES + 6;
 
 pub const ANSWER_7: usize = ANSWER_BYTES + 7;
+
+// ---- storage by the ODT's absolute number; a table of allocations would stand here
+
+// A list's first ODT.
+pub fn first_odt(l: usize) -> usize
+    requires { ⌜ l < lists ⌝ }
+    ensures { λ r. ⌜ r ≡ firstOdt l ⌝ }
+{
+    ODTS * l
+}
+
+// An ODT's list.
+pub fn list_of(k: usize) -> usize
+    ensures { λ r. ⌜ r ≡ listOf k ⌝ }
+{
+    k / ODTS
+}
+
+// An ODT's entries, and one of them.
+pub fn entries_at(k: usize) -> usize
+    requires { ⌜ k < allOdts ⌝ }
+    ensures { λ r. ⌜ r ≡ entriesAt k ⌝ }
+{
+    ENTRY + ODT_SIZE * k
+}
+
+pub fn entry_at(k: usize, e: usize) -> usize
+    requires { ⌜ (k < allOdts) × (e < entries) ⌝ }
+    ensures { λ r. ⌜ r ≡ entryAt k e ⌝ }
+{
+    entries_at(k) + ENTRY_SIZE * e
+}
+
+// An ODT's waiting packet.
+pub fn sample_at(k: usize) -> usize
+    requires { ⌜ k < allOdts ⌝ }
+    ensures { λ r. ⌜ r ≡ sampleAt k ⌝ }
+{
+    SAMPLE + SAMPLE_SIZE * k
+}

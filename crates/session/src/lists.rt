@@ -17,7 +17,7 @@ pub fn entry_size(s: &[u8], k: usize, e: usize) -> u8
     requires { ⌜ (length (now s) ≡ size) × (k < allOdts) × (e < entries) ⌝ }
     ensures { λ r. ⌜ (r ≡ sizeOf (now (s .entry)) k e) × (r ≤ entryMost) ⌝ }
 {
-    let n = s[layout::ENTRY + layout::ODT_SIZE * k + layout::ENTRY_SIZE * e];
+    let n = s[layout::entry_at(k, e)];
     if layout::ENTRY_MOST < n {
         return 0;
     }
@@ -28,10 +28,7 @@ pub fn entry_extension(s: &[u8], k: usize, e: usize) -> Extension
     requires { ⌜ (length (now s) ≡ size) × (k < allOdts) × (e < entries) ⌝ }
     ensures { λ r. ⌜ r ≡ extensionOf (now (s .entry)) k e ⌝ }
 {
-    if flag(
-        s,
-        layout::ENTRY + layout::ODT_SIZE * k + layout::ENTRY_SIZE * e + 1,
-    ) {
+    if flag(s, layout::entry_at(k, e) + 1) {
         Extension::Measured
     } else {
         Extension::Calibration
@@ -42,10 +39,7 @@ pub fn entry_address(s: &[u8], k: usize, e: usize) -> u16
     requires { ⌜ (length (now s) ≡ size) × (k < allOdts) × (e < entries) ⌝ }
     ensures { λ r. ⌜ r ≡ addressOf (now (s .entry)) k e ⌝ }
 {
-    get16(
-        s,
-        layout::ENTRY + layout::ODT_SIZE * k + layout::ENTRY_SIZE * e + 2,
-    )
+    get16(s, layout::entry_at(k, e) + 2)
 }
 
 // The bytes of an ODT.
@@ -91,8 +85,9 @@ pub fn fit(s: &[u8], l: usize) -> bool
     if mode(s, l) == 0 {
         return false;
     }
-    let first = odt_bytes(s, layout::ODTS * l);
-    let second = odt_bytes(s, layout::ODTS * l + 1);
+    let k = layout::first_odt(l);
+    let first = odt_bytes(s, k);
+    let second = odt_bytes(s, k + 1);
     if first + second == 0 {
         return false;
     }
@@ -175,7 +170,7 @@ pub fn stored_length(s: &[u8], k: usize) -> u8
     requires { ⌜ (length (now s) ≡ size) × (k < allOdts) ⌝ }
     ensures { λ r. ⌜ (r ≡ storedLength (now (s .entry)) k) × (r ≤ storedMost) ⌝ }
 {
-    let n = s[layout::SAMPLE + layout::SAMPLE_SIZE * k];
+    let n = s[layout::sample_at(k)];
     if n < least(k) {
         return 0;
     }
