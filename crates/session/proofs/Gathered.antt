@@ -63,19 +63,20 @@ module _ (s : List ℕ) (k : ℕ) (cal meas : List ℕ) where
     pub gathered-after : (xs : List ℕ) → sets (sets s at xs) (at + length xs) (gathered (sets s at xs) k cal meas entries) ≡ sets s at (xs ++ gathered s k cal meas entries)
     gathered-after xs = rw (gathered-alike (sets s at xs) s (sets-alike xs s at past) k odt cal meas entries (omega arith)) (sets-append xs (gathered s k cal meas entries) s at)
 
-module _ (s : List ℕ) (k : ℕ) (cal meas : List ℕ) (odt : k < allOdts) (n : ℕ) (bytes : n ≡ odtBytes s k) where
-  pub stored-second : sets (set s (sampleAt k) n) (sampleAt k + 1) (gathered (set s (sampleAt k) n) k cal meas entries) ≡ stored s k (gathered s k cal meas entries)
+module _ (s : List ℕ) (k : ℕ) (cal meas : List ℕ) (odt : k < allOdts) (at : ℕ) (place : at ≡ sampleAt k) (n : ℕ) (bytes : n ≡ odtBytes s k) where
+  pub stored-second : sets (set s at n) (at + 1) (gathered (set s at n) k cal meas entries) ≡ stored s k (gathered s k cal meas entries)
   unfolding stored
   stored-second =
-      gathered-after s k cal meas odt (sampleAt k) (omega arith) (n ∷ [])
-      ∙ ap (λ (m : ℕ). sets s (sampleAt k) (m ∷ gathered s k cal meas entries)) (bytes ∙ sym (gathered-odt s k cal meas))
+      gathered-after s k cal meas odt at (omega arith) (n ∷ [])
+      ∙ rw (place, bytes ∙ sym (gathered-odt s k cal meas))
 
-  pub stored-first : (clock : ℕ) → sets (put16 (set s (sampleAt k) (n + 2)) (sampleAt k + 1) clock) (sampleAt k + 3) (gathered (put16 (set s (sampleAt k) (n + 2)) (sampleAt k + 1) clock) k cal meas entries) ≡ stored s k (clock % 256 ∷ clock / 256 % 256 ∷ gathered s k cal meas entries)
+  pub stored-first : (clock : ℕ) → sets (put16 (set s at (n + 2)) (at + 1) clock) (at + 3) (gathered (put16 (set s at (n + 2)) (at + 1) clock) k cal meas entries) ≡ stored s k (clock % 256 ∷ clock / 256 % 256 ∷ gathered s k cal meas entries)
   unfolding stored
   stored-first clock =
-      rw (put16-sets s (sampleAt k) (n + 2) clock)
-      (gathered-after s k cal meas odt (sampleAt k) (omega arith) ((n + 2) ∷ clock % 256 ∷ clock / 256 % 256 ∷ [])
-      ∙ ap (λ (m : ℕ). sets s (sampleAt k) (m ∷ clock % 256 ∷ clock / 256 % 256 ∷ gathered s k cal meas entries)) (omega (arith, gathered-odt s k cal meas)))
+      let m : n + 2 ≡ length (clock % 256 ∷ clock / 256 % 256 ∷ gathered s k cal meas entries) = omega (arith, gathered-odt s k cal meas) in
+      rw (put16-sets s at (n + 2) clock)
+      (gathered-after s k cal meas odt at (omega arith) ((n + 2) ∷ clock % 256 ∷ clock / 256 % 256 ∷ [])
+      ∙ rw (place, m))
 
 -- a packet in store does not change what is gathered
 pub gathered-stored : (s : List ℕ) (k : ℕ) (bs : List ℕ) (j : ℕ) (cal meas : List ℕ) → j < allOdts → gathered (stored s k bs) j cal meas entries ≡ gathered s j cal meas entries

@@ -20,10 +20,11 @@ fn is_unsent(s: &[u8], l: usize) -> bool
     requires { ⌜ (length (now s) ≡ size) × (l < lists) ⌝ }
     ensures { λ r. ⌜ r ≡ unsent (now (s .entry)) l ⌝ }
 {
-    if 0 < lists::stored_length(s, layout::ODTS * l) {
+    let k = layout::first_odt(l);
+    if 0 < lists::stored_length(s, k) {
         return true;
     }
-    0 < lists::stored_length(s, layout::ODTS * l + 1)
+    0 < lists::stored_length(s, k + 1)
 }
 
 // What an event is to a list.
@@ -89,7 +90,7 @@ fn capture_first(s: &mut [u8], cal: &[u8], meas: &[u8], k: usize, clock: u16)
     requires { ⌜ (length (now s) ≡ size) × (k < allOdts) ⌝ }
     ensures { λ _. ⌜ now (s .exit) ≡ stored (now (s .entry)) k (clock % 256 ∷ clock / 256 % 256 ∷ gathered (now (s .entry)) k (now (cal .entry)) (now (meas .entry)) entries) ⌝ }
 {
-    let at = layout::SAMPLE + layout::SAMPLE_SIZE * k;
+    let at = layout::sample_at(k);
     let n = lists::odt_bytes(s, k);
     s[at] = n + layout::CLOCK_SIZE;
     store16(s, at + 1, clock as u32);
@@ -101,7 +102,7 @@ fn capture_second(s: &mut [u8], cal: &[u8], meas: &[u8], k: usize)
     requires { ⌜ (length (now s) ≡ size) × (k < allOdts) ⌝ }
     ensures { λ _. ⌜ now (s .exit) ≡ stored (now (s .entry)) k (gathered (now (s .entry)) k (now (cal .entry)) (now (meas .entry)) entries) ⌝ }
 {
-    let at = layout::SAMPLE + layout::SAMPLE_SIZE * k;
+    let at = layout::sample_at(k);
     let n = lists::odt_bytes(s, k);
     s[at] = n;
     gather(s, at + 1, cal, meas, k);
@@ -112,8 +113,9 @@ fn capture(s: &mut [u8], cal: &[u8], meas: &[u8], l: usize, clock: u16)
     requires { ⌜ (length (now s) ≡ size) × (l < lists) ⌝ }
     ensures { λ _. ⌜ now (s .exit) ≡ captured (now (s .entry)) l clock (now (cal .entry)) (now (meas .entry)) ⌝ }
 {
-    capture_first(s, cal, meas, layout::ODTS * l, clock);
-    capture_second(s, cal, meas, layout::ODTS * l + 1);
+    let k = layout::first_odt(l);
+    capture_first(s, cal, meas, k, clock);
+    capture_second(s, cal, meas, k + 1);
 }
 
 // One list.
