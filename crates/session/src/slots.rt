@@ -19,11 +19,12 @@ fn packet_in(s: &[u8], l: usize) -> Turn
     if !lists::runs(s, l) {
         return Turn::Nobody;
     }
-    if 0 < lists::stored_length(s, layout::ODTS * l) {
-        return Turn::Packet(layout::ODTS * l);
+    let k = layout::first_odt(l);
+    if 0 < lists::stored_length(s, k) {
+        return Turn::Packet(k);
     }
-    if 0 < lists::stored_length(s, layout::ODTS * l + 1) {
-        return Turn::Packet(layout::ODTS * l + 1);
+    if 0 < lists::stored_length(s, k + 1) {
+        return Turn::Packet(k + 1);
     }
     Turn::Nobody
 }
@@ -103,7 +104,7 @@ fn send_packet(s: &mut [u8], out: &mut [u8], k: usize) -> Slotted
     requires { ⌜ (length (now s) ≡ size) × (k < allOdts) ⌝ }
     ensures { λ r. ⌜ Sends (sentBy (Turn.Packet k) (now (s .entry)) (now (out .entry))) r (now (s .exit)) (now (out .exit)) ⌝ }
 {
-    let at = layout::SAMPLE + layout::SAMPLE_SIZE * k;
+    let at = layout::sample_at(k);
     let n = lists::stored_length(s, k) as usize;
     let ctr = s[layout::CTR];
     s[at] = k as u8;
@@ -111,7 +112,7 @@ fn send_packet(s: &mut [u8], out: &mut [u8], k: usize) -> Slotted
     let written = line::write(&s[at..end], ctr, out);
     s[at] = 0;
     s[layout::CTR] = line::next_ctr(ctr);
-    s[layout::SERVED] = (k / layout::ODTS) as u8;
+    s[layout::SERVED] = layout::list_of(k) as u8;
     s[layout::LAST] = 0;
     slotted(written)
 }

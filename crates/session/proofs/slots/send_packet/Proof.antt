@@ -1,26 +1,18 @@
-use lib.ListN.{getD}
-use Prim.Native.Nat.{_/_}
+use Prim.Native.Nat.{ℕ, suc, _+_, _-_}
+use mathlib.Core.Path.{_≡_, _∙_, ap}
 use mathlib.Core.List.{List}
-use Prim.Native.Nat.{ℕ, suc, _+_, _-_, _*_}
-use lib.ListN.{take, drop, set}
+use native.Mathlib.Omega.{arith}
+use lib.ListN.{getD, take, drop, set, length-set}
 use lib.Seq.{set-set}
 use Rattle.line.specs.Writer.{writeOf}
-use Rattle.session.specs.Slot.{slottedAs}
+use Rattle.session.specs.Slot.{slottedAs, sentBy, packetSent, packetOf}
 use Rattle.session.proofs.Sending.{numbered}
-use mathlib.Core.Path.{_≡_, _∙_, ap}
-use Rattle.session.specs.Slot.{sentBy, packetSent, packetOf}
-use lib.ListN.{length-set}
-use native.Mathlib.Omega.{arith}
-use Rattle.session.specs.Slot.{sentBy}
 use borrow.Author.Needs.{needs}
 use Rattle.session.proofs.slots.send_packet.Statement.{statement}
 use Rattle.session.proofs.slots.send_packet.Tie as tie
 
-mul-at : tie.Need-mul-at
-mul-at c = search needs
-
-add-at : tie.Need-add-at
-add-at c = search needs
+sample-at-requires : tie.Need-sample-at-requires
+sample-at-requires c κs = search needs
 
 stored-length-requires : tie.Need-stored-length-requires
 stored-length-requires c κs = search needs
@@ -50,19 +42,22 @@ part-write-start : tie.Need-part-write-start
 part-write-start c = search needs
 
 part-write-end : tie.Need-part-write-end
-part-write-end c = simp length-set (omega arith)
+part-write-end c = simp length-set (omega (arith, c .before .before .before .before .sample-at .ensures, c .before .before .stored-length .ensures .1))
 
 write-requires : tie.Need-write-requires
 write-requires c κs = search needs
 
 slice-write-s-2 : tie.Need-slice-write-s-2
-slice-write-s-2 c = simp length-set (omega arith)
+slice-write-s-2 c = simp length-set (omega (arith, c .before .before .before .before .before .before .before .before .before .sample-at .ensures))
 
 next-ctr-requires : tie.Need-next-ctr-requires
 next-ctr-requires c κs = search needs
 
 slice-write-s-3 : tie.Need-slice-write-s-3
 slice-write-s-3 c = simp length-set (omega arith)
+
+list-of-requires : tie.Need-list-of-requires
+list-of-requires c κs = search needs
 
 cast-s-2 : tie.Need-cast-s-2
 cast-s-2 c = search needs
@@ -84,20 +79,20 @@ same-length-2 c = search needs
 
 returns : tie.Need-returns
 unfolding sentBy packetSent packetOf
-returns c = let at = 161 + 8 * c .before .before .before .before .before .before .before .before .before .before .before .before .before .args .k in
-    let e : take ((at + 1 + c .before .before .before .before .before .before .before .before .before .stored-length .result) - at) (drop at (set (c .before .before .before .before .before .before .before .before .before .before .before .before .before .args .s .now) at (c .before .before .before .before .before .before .before .before .before .before .before .before .before .args .k))) ≡ packetOf (c .before .before .before .before .before .before .before .before .before .before .before .before .before .args .s .now) (c .before .before .before .before .before .before .before .before .before .before .before .before .before .args .k) = let n : (at + 1 + c .before .before .before .before .before .before .before .before .before .stored-length .result) - at ≡ suc (c .before .before .before .before .before .before .before .before .before .stored-length .result) = omega arith in rw n (numbered (c .before .before .before .before .before .before .before .before .before .before .before .before .before .args .s .now) at (c .before .before .before .before .before .before .before .before .before .before .before .before .before .args .k) (c .before .before .before .before .before .before .before .before .before .stored-length .result) (omega arith) ∙ rw (c .before .before .before .before .before .before .before .before .before .stored-length .ensures .0)) in
+returns c = let at = c .before .before .before .before .before .before .before .before .before .before .before .before .sample-at .result in
+    let n : (at + 1 + c .before .before .before .before .before .before .before .before .before .before .stored-length .result) - at ≡ suc (c .before .before .before .before .before .before .before .before .before .before .stored-length .result) = omega arith in
+    let e : take ((at + 1 + c .before .before .before .before .before .before .before .before .before .before .stored-length .result) - at) (drop at (set (c .before .before .before .before .before .before .before .before .before .before .before .before .before .before .before .args .s .now) at (c .before .before .before .before .before .before .before .before .before .before .before .before .before .before .before .args .k))) ≡ packetOf (c .before .before .before .before .before .before .before .before .before .before .before .before .before .before .before .args .s .now) (c .before .before .before .before .before .before .before .before .before .before .before .before .before .before .before .args .k) = rw n (numbered (c .before .before .before .before .before .before .before .before .before .before .before .before .before .before .before .args .s .now) at (c .before .before .before .before .before .before .before .before .before .before .before .before .before .before .before .args .k) (c .before .before .before .before .before .before .before .before .before .before .stored-length .result) (omega (arith, c .before .before .before .before .before .before .before .before .before .before .before .before .sample-at .ensures)) ∙ rw (c .before .before .before .before .before .before .before .before .before .before .before .before .sample-at .ensures, c .before .before .before .before .before .before .before .before .before .before .stored-length .ensures .0)) in
     record {
-      result = c .slotted .ensures ∙ ap slottedAs (c .before .before .before .before .write .ensures .result) ∙ ap (λ (p : List ℕ). slottedAs (writeOf p (getD (c .before .before .before .before .before .before .before .before .before .before .before .before .before .args .s .now) 8 0) (c .before .before .before .before .before .before .before .before .before .before .before .before .before .args .out .now) .written)) e;
-      state = ap (λ (t : List ℕ). set (set (set t 8 (c .before .next-ctr .result)) 9 (c .before .before .before .before .before .before .before .before .before .before .before .before .before .args .k / 2)) 10 0) (set-set (c .before .before .before .before .before .before .before .before .before .before .before .before .before .args .s .now) at (c .before .before .before .before .before .before .before .before .before .before .before .before .before .args .k) 0) ∙ rw (c .before .next-ctr .ensures);
-      bytes = c .before .before .before .before .write .ensures .bytes ∙ ap (λ (p : List ℕ). writeOf p (getD (c .before .before .before .before .before .before .before .before .before .before .before .before .before .args .s .now) 8 0) (c .before .before .before .before .before .before .before .before .before .before .before .before .before .args .out .now) .out) e;
+      result = c .slotted .ensures ∙ ap slottedAs (c .before .before .before .before .before .write .ensures .result) ∙ ap (λ (p : List ℕ). slottedAs (writeOf p (getD (c .before .before .before .before .before .before .before .before .before .before .before .before .before .before .before .args .s .now) 8 0) (c .before .before .before .before .before .before .before .before .before .before .before .before .before .before .before .args .out .now) .written)) e;
+      state = ap (λ (t : List ℕ). set (set (set t 8 (c .before .before .next-ctr .result)) 9 (c .before .list-of .result)) 10 0) (set-set (c .before .before .before .before .before .before .before .before .before .before .before .before .before .before .before .args .s .now) at (c .before .before .before .before .before .before .before .before .before .before .before .before .before .before .before .args .k) 0) ∙ rw (c .before .before .next-ctr .ensures, c .before .list-of .ensures, c .before .before .before .before .before .before .before .before .before .before .before .before .sample-at .ensures);
+      bytes = c .before .before .before .before .before .write .ensures .bytes ∙ ap (λ (p : List ℕ). writeOf p (getD (c .before .before .before .before .before .before .before .before .before .before .before .before .before .before .before .args .s .now) 8 0) (c .before .before .before .before .before .before .before .before .before .before .before .before .before .before .before .args .out .now) .out) e;
     }
 
 pub send-packet-spec : {M : Type 1} → statement M
 send-packet-spec =
     tie.close
     (tie.spec
-    mul-at
-    add-at
+    sample-at-requires
     stored-length-requires
     cast-n
     slice-read-ctr
@@ -112,6 +107,7 @@ send-packet-spec =
     slice-write-s-2
     next-ctr-requires
     slice-write-s-3
+    list-of-requires
     cast-s-2
     slice-write-s-4
     slice-write-s-5
