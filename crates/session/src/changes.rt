@@ -16,9 +16,10 @@ fn switch(s: &mut [u8], l: usize, on: u8)
     requires { ⌜ (length (now s) ≡ size) × (l < lists) ⌝ }
     ensures { λ _. ⌜ now (s .exit) ≡ switched (now (s .entry)) l on ⌝ }
 {
+    let k = layout::first_odt(l);
     s[layout::RUNNING + layout::LIST_SIZE * l] = on;
-    s[layout::SAMPLE + layout::SAMPLE_SIZE * (layout::ODTS * l)] = 0;
-    s[layout::SAMPLE + layout::SAMPLE_SIZE * (layout::ODTS * l + 1)] = 0;
+    s[layout::sample_at(k)] = 0;
+    s[layout::sample_at(k + 1)] = 0;
 }
 
 pub fn stop(s: &mut [u8], l: usize)
@@ -48,11 +49,8 @@ pub fn clear_list(s: &mut [u8], l: usize)
     ensures { λ _. ⌜ now (s .exit) ≡ listCleared (now (s .entry)) l ⌝ }
 {
     clear(s, layout::MODE + layout::LIST_SIZE * l, layout::LIST_SIZE);
-    clear(
-        s,
-        layout::ENTRY + layout::ODT_SIZE * (layout::ODTS * l),
-        layout::LIST_ENTRIES_SIZE,
-    );
+    let at = layout::entries_at(layout::first_odt(l));
+    clear(s, at, layout::LIST_ENTRIES_SIZE);
 }
 
 pub fn set_mode(s: &mut [u8], l: usize, event: u8)
@@ -76,20 +74,16 @@ pub fn clear_entry(s: &mut [u8], k: usize, e: usize)
     requires { ⌜ (length (now s) ≡ size) × (k < allOdts) × (e < entries) ⌝ }
     ensures { λ _. ⌜ now (s .exit) ≡ entryCleared (now (s .entry)) (listOf k) k e ⌝ }
 {
-    s[layout::RUNNING + layout::LIST_SIZE * (k / layout::ODTS)] = 0;
-    clear(
-        s,
-        layout::ENTRY + layout::ODT_SIZE * k + layout::ENTRY_SIZE * e,
-        layout::ENTRY_SIZE,
-    );
+    s[layout::RUNNING + layout::LIST_SIZE * layout::list_of(k)] = 0;
+    clear(s, layout::entry_at(k, e), layout::ENTRY_SIZE);
 }
 
 pub fn set_entry(s: &mut [u8], k: usize, e: usize, n: u8, extension: Extension, address: u32)
     requires { ⌜ (length (now s) ≡ size) × (k < allOdts) × (e < entries) ⌝ }
     ensures { λ _. ⌜ now (s .exit) ≡ entrySet (now (s .entry)) (listOf k) k e n extension address ⌝ }
 {
-    let at = layout::ENTRY + layout::ODT_SIZE * k + layout::ENTRY_SIZE * e;
-    s[layout::RUNNING + layout::LIST_SIZE * (k / layout::ODTS)] = 0;
+    let at = layout::entry_at(k, e);
+    s[layout::RUNNING + layout::LIST_SIZE * layout::list_of(k)] = 0;
     s[at] = n;
     s[at + 1] = tag(extension);
     store16(s, at + 2, address);

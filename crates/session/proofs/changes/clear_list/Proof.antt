@@ -1,7 +1,4 @@
-use mathlib.Core.List.{List}
-use Prim.Native.Nat.{ℕ, _+_, _*_}
-use Rattle.session.specs.Bytes.{cleared}
-use mathlib.Core.Path.{_∙_, ap}
+use mathlib.Core.Path.{_∙_}
 use Rattle.session.specs.Lists.{listCleared}
 use borrow.Author.Needs.{needs}
 use Rattle.session.proofs.changes.clear_list.Statement.{statement}
@@ -16,14 +13,11 @@ add-clear c = search needs
 clear-requires : tie.Need-clear-requires
 clear-requires c κs = search needs
 
-mul-clear-2 : tie.Need-mul-clear-2
-mul-clear-2 c = search needs
+first-odt-requires : tie.Need-first-odt-requires
+first-odt-requires c κs = search needs
 
-mul-clear-3 : tie.Need-mul-clear-3
-mul-clear-3 c = search needs
-
-add-clear-2 : tie.Need-add-clear-2
-add-clear-2 c = search needs
+entries-at-requires : tie.Need-entries-at-requires
+entries-at-requires c κs = search needs
 
 clear-requires-2 : tie.Need-clear-requires-2
 clear-requires-2 c κs = search needs
@@ -33,7 +27,7 @@ same-length c = search needs
 
 returns : tie.Need-returns
 unfolding listCleared
-returns c = c .before .before .clear2 .ensures ∙ ap (λ (t : List ℕ). cleared t (33 + 16 * (2 * c .before .before .before .before .before .before .before .before .before .args .l)) 32) (c .before .before .before .before .before .before .clear .ensures)
+returns c = c .before .before .clear2 .ensures ∙ rw (c .before .before .before .before .before .before .before .before .clear .ensures, c .before .before .before .before .entries-at .ensures, c .before .before .before .before .before .first-odt .ensures)
 
 pub clear-list-spec : {M : Type 1} → statement M
 clear-list-spec =
@@ -42,9 +36,8 @@ clear-list-spec =
     mul-clear
     add-clear
     clear-requires
-    mul-clear-2
-    mul-clear-3
-    add-clear-2
+    first-odt-requires
+    entries-at-requires
     clear-requires-2
     same-length
     returns)

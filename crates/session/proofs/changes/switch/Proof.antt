@@ -1,10 +1,12 @@
-use mathlib.Core.Path.{refl}
-use lib.ListN.{length-set}
 use native.Mathlib.Omega.{arith}
+use lib.ListN.{length-set}
 use Rattle.session.specs.Lists.{switched}
 use borrow.Author.Needs.{needs}
 use Rattle.session.proofs.changes.switch.Statement.{statement}
 use Rattle.session.proofs.changes.switch.Tie as tie
+
+first-odt-requires : tie.Need-first-odt-requires
+first-odt-requires c κs = search needs
 
 mul-s : tie.Need-mul-s
 mul-s c = search needs
@@ -15,55 +17,40 @@ add-s c = search needs
 slice-write-s : tie.Need-slice-write-s
 slice-write-s c = search needs
 
-mul-s-2 : tie.Need-mul-s-2
-mul-s-2 c = search needs
-
-mul-s-3 : tie.Need-mul-s-3
-mul-s-3 c = search needs
-
-add-s-2 : tie.Need-add-s-2
-add-s-2 c = search needs
+sample-at-requires : tie.Need-sample-at-requires
+sample-at-requires c κs = search needs
 
 slice-write-s-2 : tie.Need-slice-write-s-2
-slice-write-s-2 c = simp length-set (omega arith)
+slice-write-s-2 c = simp length-set (omega (arith, c .sample-at .ensures, c .before .first-odt .ensures))
 
-mul-s-4 : tie.Need-mul-s-4
-mul-s-4 c = search needs
+add-sample-at : tie.Need-add-sample-at
+add-sample-at c = search needs
 
-add-s-3 : tie.Need-add-s-3
-add-s-3 c = search needs
-
-mul-s-5 : tie.Need-mul-s-5
-mul-s-5 c = search needs
-
-add-s-4 : tie.Need-add-s-4
-add-s-4 c = search needs
+sample-at-requires-2 : tie.Need-sample-at-requires-2
+sample-at-requires-2 c κs = search needs
 
 slice-write-s-3 : tie.Need-slice-write-s-3
-slice-write-s-3 c = simp length-set (omega arith)
+slice-write-s-3 c = simp length-set (omega (arith, c .sample-at2 .ensures, c .before .before .first-odt .ensures))
 
 same-length : tie.Need-same-length
 same-length c = search needs
 
 returns : tie.Need-returns
 unfolding switched
-returns c = refl
+returns c = simp (c .sample-at2 .ensures, c .before .sample-at .ensures, c .before .before .first-odt .ensures)
 
 pub switch-spec : {M : Type 1} → statement M
 switch-spec =
     tie.close
     (tie.spec
+    first-odt-requires
     mul-s
     add-s
     slice-write-s
-    mul-s-2
-    mul-s-3
-    add-s-2
+    sample-at-requires
     slice-write-s-2
-    mul-s-4
-    add-s-3
-    mul-s-5
-    add-s-4
+    add-sample-at
+    sample-at-requires-2
     slice-write-s-3
     same-length
     returns)
