@@ -1,11 +1,11 @@
 // The deeds of the lists: of each its effect, then its answer.
 ghost use mathlib.Core.Path.{_≡_};
-ghost use mathlib.Core.List.{[]};
+ghost use mathlib.Core.List.{[], _∷_};
 ghost use Prim.Native.Nat.{_<_};
 ghost use lib.ListN.{length};
-ghost use Rattle.session.specs.Layout.{lists, entries, allOdts, events, size};
+ghost use Rattle.session.specs.Layout.{lists, entries, allOdts, events, size, firstOdt};
 ghost use Rattle.session.specs.Perform.{nextEntry, after};
-ghost use Rattle.session.specs.State.{Pointed};
+ghost use Rattle.session.specs.State.{Pointed, answered};
 use crate::Deed;
 use crate::Extension;
 use crate::Pointer;
@@ -70,12 +70,20 @@ pub fn set_mode(s: &mut [u8], l: u8, event: u8)
     answer::ok(s);
 }
 
+// FF and the number of a list's first ODT.
+fn give_first_odt(s: &mut [u8], l: u8)
+    requires { ⌜ (length (now s) ≡ size) × (l < lists) ⌝ }
+    ensures { λ _. ⌜ now (s .exit) ≡ answered (now (s .entry)) (0xFF ∷ firstOdt l ∷ []) ⌝ }
+{
+    answer::two(s, 0xFF, layout::first_odt(l as usize) as u8);
+}
+
 pub fn stop(s: &mut [u8], l: u8)
     requires { ⌜ (length (now s) ≡ size) × (l < lists) ⌝ }
     ensures { λ _. ⌜ now (s .exit) ≡ after (Deed.Stop l) (now (s .entry)) [] [] ⌝ }
 {
     changes::stop(s, l as usize);
-    answer::two(s, 0xFF, layout::ODTS_U8 * l);
+    give_first_odt(s, l);
 }
 
 pub fn start(s: &mut [u8], l: u8)
@@ -83,7 +91,7 @@ pub fn start(s: &mut [u8], l: u8)
     ensures { λ _. ⌜ now (s .exit) ≡ after (Deed.Start l) (now (s .entry)) [] [] ⌝ }
 {
     changes::start(s, l as usize);
-    answer::two(s, 0xFF, layout::ODTS_U8 * l);
+    give_first_odt(s, l);
 }
 
 pub fn select(s: &mut [u8], l: u8)
@@ -91,7 +99,7 @@ pub fn select(s: &mut [u8], l: u8)
     ensures { λ _. ⌜ now (s .exit) ≡ after (Deed.Select l) (now (s .entry)) [] [] ⌝ }
 {
     changes::select(s, l as usize, 1);
-    answer::two(s, 0xFF, layout::ODTS_U8 * l);
+    give_first_odt(s, l);
 }
 
 pub fn stop_all(s: &mut [u8])

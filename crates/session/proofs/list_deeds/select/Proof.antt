@@ -7,18 +7,15 @@ use Rattle.session.proofs.list_deeds.select.Tie as tie
 select-requires : tie.Need-select-requires
 select-requires c κs = search needs
 
-mul-two : tie.Need-mul-two
-mul-two c = search needs
-
-two-requires : tie.Need-two-requires
-two-requires c κs = search needs
+give-first-odt-requires : tie.Need-give-first-odt-requires
+give-first-odt-requires c κs = search needs
 
 same-length : tie.Need-same-length
 same-length c = search needs
 
 returns : tie.Need-returns
 unfolding effect reply
-returns c = c .before .before .two .ensures ∙ rw (c .before .before .before .before .before .before .select .ensures)
+returns c = c .before .before .give-first-odt .ensures ∙ rw (c .before .before .before .before .before .before .select .ensures)
 
 pub select-spec : {M : Type 1} → statement M
-select-spec = tie.close (tie.spec select-requires mul-two two-requires same-length returns)
+select-spec = tie.close (tie.spec select-requires give-first-odt-requires same-length returns)

@@ -7,18 +7,15 @@ use Rattle.session.proofs.list_deeds.stop.Tie as tie
 stop-requires : tie.Need-stop-requires
 stop-requires c κs = search needs
 
-mul-two : tie.Need-mul-two
-mul-two c = search needs
-
-two-requires : tie.Need-two-requires
-two-requires c κs = search needs
+give-first-odt-requires : tie.Need-give-first-odt-requires
+give-first-odt-requires c κs = search needs
 
 same-length : tie.Need-same-length
 same-length c = search needs
 
 returns : tie.Need-returns
 unfolding effect reply
-returns c = c .before .before .two .ensures ∙ rw (c .before .before .before .before .before .before .stop .ensures)
+returns c = c .before .before .give-first-odt .ensures ∙ rw (c .before .before .before .before .before .before .stop .ensures)
 
 pub stop-spec : {M : Type 1} → statement M
-stop-spec = tie.close (tie.spec stop-requires mul-two two-requires same-length returns)
+stop-spec = tie.close (tie.spec stop-requires give-first-odt-requires same-length returns)
