@@ -65,11 +65,11 @@ module _ (s : List ℕ) (k : ℕ) (bs : List ℕ) (long : length s ≡ size) (od
 
 least-first : (l : ℕ) → leastOf (firstOdt l) ≡ 2
 unfolding leastOf
-least-first l = rw (eq-eqb (2 * l % 2) 0 (omega arith))
+least-first l = rw (eq-eqb (2 * (2 * l / 2)) (2 * l) (omega arith))
 
 least-second : (l : ℕ) → leastOf (firstOdt l + 1) ≡ 1
 unfolding leastOf
-least-second l = rw (ne-eqb ((2 * l + 1) % 2) 0 (omega arith))
+least-second l = rw (ne-eqb (2 * ((2 * l + 1) / 2)) (2 * l + 1) (omega arith))
 
 -- the second packet, which waits only if it has bytes
 second-stored : (s : List ℕ) (l : ℕ) (bs : List ℕ) → length s ≡ size → l < 4 → length bs ≤ 7 → packetAt (stored s (firstOdt l + 1) bs) (firstOdt l + 1) ≡ second (firstOdt l + 1) bs

@@ -1,10 +1,10 @@
 -- How the lists read: their modes, entries and waiting packets.
-use Prim.Native.Nat.{ℕ, zero, suc, _+_, _*_, _%_}
+use Prim.Native.Nat.{ℕ, zero, suc, _+_, _*_}
 use mathlib.Core.Bool.{Bool, true, false, cond}
 use mathlib.Core.List.{List}
 use lib.Dec.{eqb, ltb}
 use lib.ListN.{getD, set}
-use Rattle.session.specs.Layout.{odts, events, storedMost, clockSize, entryMost, odt0Most, odt1Most, listSize, modeAt, selectedAt, runningAt, entrySize, odtSize, entriesAt, entryAt, sampleAt, firstOdt, odtCount, entryCount}
+use Rattle.session.specs.Layout.{events, storedMost, clockSize, entryMost, odt0Most, odt1Most, listSize, modeAt, selectedAt, runningAt, entrySize, odtSize, entriesAt, entryAt, sampleAt, firstOdt, odtCount, listOf, entryCount}
 use Rattle.session.specs.Bytes.{u16At, put16, cleared}
 use Rattle.session.specs.State.{flagOf, openOf}
 use Rattle.session.specs.declared.Extension.{Extension}
@@ -63,7 +63,7 @@ allFit s (suc n) = cond (allFit s n) (mayStart s n) false
 -- ---- packets
 -- the shortest packet in store, without its number: the clock for an ODT 0, a byte for an ODT 1
 unfoldable pub leastOf : ℕ → ℕ
-leastOf k = cond (eqb (k % odts) 0) clockSize 1
+leastOf k = cond (eqb (firstOdt (listOf k)) k) clockSize 1
 
 -- the length of ODT k's packet in store, without its number; one that no packet can have reads as 0, no packet
 unfoldable pub storedLength : List ℕ → ℕ → ℕ

@@ -156,9 +156,10 @@ pub fn all_fit(s: &[u8]) -> bool
 // ---- packets
 
 fn least(k: usize) -> u8
+    requires { ⌜ k < allOdts ⌝ }
     ensures { λ r. ⌜ r ≡ leastOf k ⌝ }
 {
-    if k % layout::ODTS == 0 {
+    if layout::first_odt(layout::list_of(k)) == k {
         layout::CLOCK_SIZE
     } else {
         1
