@@ -1,17 +1,16 @@
 -- The wrong slaves are made of ours: with our own heeding in it, the frame that they hang in is ours. Assumes nothing.
 use Prim.Native.Nat.{ℕ}
-use mathlib.Core.Path.{_≡_, refl, ap, sym}
-use mathlib.Core.Bool.{true, cond}
+use mathlib.Core.Path.{_≡_, refl, sym}
 use mathlib.Core.List.{List}
 use Rattle.line.proofs.Laws.{cond-ind}
 use Rattle.line.specs.declared.Outcome.{Outcome}
 use Rattle.line.specs.declared.Outcome.the-variants.{Nothing, Good, BadLength, BadEscape, BadChecksum, CutOff, NoRoom}
 use Rattle.session.specs.State.{consistent, waits}
-use Rattle.session.specs.Receive.{Step, only, heeded, meant, fedOf, receivedBy, receiveOf}
-use Rattle.session.specs.declared.Received.the-variants.{NoState}
+use Rattle.session.specs.Receive.{Step, heeded, meant, fedOf, receiveOf}
 use Rattle.demands.specs.Slave.{ours}
 use Rattle.demands.specs.Heard.{packetBy, readBy}
 use Rattle.demands.specs.Wrong.{heardBy, heeding}
+use Rattle.demands.proofs.Received.{received-by}
 
 heard-ours : (o : Outcome) (m s cal meas : List ℕ) (b : ℕ) → meant o m (readBy s b) cal meas ≡ receiveOf s cal meas b → heardBy heeded (packetBy o m) s cal meas b ≡ receiveOf s cal meas b
 unfolding meant
@@ -23,11 +22,7 @@ heard-ours BadChecksum m s cal meas b e = refl
 heard-ours CutOff m s cal meas b e = refl
 heard-ours NoRoom m s cal meas b e = refl
 
-received-by : (s cal meas : List ℕ) (b : ℕ) → consistent s ≡ true → receivedBy (fedOf s b) s cal meas ≡ receiveOf s cal meas b
-unfolding receiveOf
-received-by s cal meas b c = ap (λ t. cond t (receivedBy (fedOf s b) s cal meas) (only NoState s cal)) (sym c)
-
 pub heeding-ours : (s cal meas : List ℕ) (b : ℕ) → heeding heeded .receive s cal meas b ≡ ours .receive s cal meas b
 heeding-ours s cal meas b =
     cond-ind (λ (x : Step). x ≡ receiveOf s cal meas b) (consistent s)
-    (λ c. heard-ours (fedOf s b .taken .outcome) (fedOf s b .message) s cal meas b (received-by s cal meas b c)) (λ _. refl)
+    (λ c. heard-ours (fedOf s b .taken .outcome) (fedOf s b .message) s cal meas b (sym (received-by s cal meas b c))) (λ _. refl)

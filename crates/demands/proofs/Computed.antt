@@ -13,7 +13,7 @@ use Rattle.session.specs.Receive.{goodConnect, heeded, meant, readOn, receiveOf
 use Rattle.session.specs.Event.{unsent, samplingOf, entryBytes, gathered, stored, captured, sampledState, tally, eventOf}
 use Rattle.session.specs.Slot.{packetIn, roundFrom, turnOf, packetOf, answerSent, packetSent, sentBy, slotOf}
 use Rattle.session.specs.PowerUp.{powered, powerUpOf}
-use Rattle.demands.specs.Heard.{heeds, keyFor, wrongKeyBy}
+use Rattle.demands.specs.Heard.{heeds, bringsKey as keyFor, wrongKeyBy}
 use Rattle.demands.specs.Waiting.{waitingOf, sampleOf}
 
 unfoldable pub computed : Unit {0}

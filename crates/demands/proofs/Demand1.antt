@@ -7,7 +7,7 @@ use mathlib.Core.Bool.{true, false}
 use mathlib.Core.Option.{Option}
 use mathlib.Core.List.{List}
 use native.Mathlib.Omega.{arith}
-use borrow.Author.Tests.{lt-ltb, le-ltb, ne-eqb}
+use borrow.Author.Tests.{lt-ltb, le-ltb, eq-eqb, ne-eqb}
 use lib.Dec.{eqb, ltb, lit≤}
 use lib.ListN.{length, getD, take, replicate}
 use Rattle.line.specs.Message.{most, room}
@@ -34,7 +34,7 @@ use Rattle.session.proofs.Consistent.{consistent-size}
 use Rattle.fields.proofs.Effects.{answering, after-answer}
 use Rattle.fields.proofs.Frames.{Only, only-then, only-wider, only-take, only-answered}
 use Rattle.fields.proofs.Readers.{Same}
-use Rattle.fields.proofs.Kept.{receive-kept, event-kept, slot-kept}
+use Rattle.fields.proofs.Kept.{receive-kept, event-kept, slot-kept, power-up-consistent}
 use Rattle.demands.specs.Slave.{ours}
 use Rattle.demands.specs.Heard.{readBy, Commands, wrongKeyBy, wrongKey, wrongKeyIn, wrongKeyAt}
 use Rattle.demands.specs.Waiting.{AllBut}
@@ -108,20 +108,33 @@ closes-front d s cal meas b w c =
     ∙ ap (take placeAt) (w .state t)
     ∙ closed-alike s t (read-only s b c .long) (only-take 225 (lit≤ tt) (read-only s b c))
 
-wrong-key-ends : (s t cal meas cal′ meas′ : List ℕ) (b c : ℕ) (p q : List ℕ) → consistent s ≡ true → consistent t ≡ true → take placeAt s ≡ take placeAt t
+wrong-step : (s cal meas : List ℕ) (b : ℕ) (p : List ℕ) → consistent s ≡ true → Commands s b p → wrongKey p s ≡ true
+    → receiveOf s cal meas b ≡ obeyed WrongKey p (readBy s b) cal meas
+wrong-step s cal meas b p u w wrong =
+    commanded s cal meas b p u w ∙ ap (λ (d : Deed). obeyed d p (readBy s b) cal meas) (wrong-judged p (readBy s b) (length cal) (length meas) (wrong-same s p b u ∙ wrong))
+
+-- but for the answer it is the closed session
+wrong-only : (t cal meas : List ℕ) → Only answerAt size (closed t) (after WrongKey t cal meas)
+unfolding effect
+wrong-only t cal meas = only-answered (closed t) (reply WrongKey t cal meas) (answering WrongKey t cal meas 0 tt .few)
+
+wrong-key-ends : (s cal meas : List ℕ) (b : ℕ) (p : List ℕ) → consistent s ≡ true → Commands s b p → wrongKey p s ≡ true
+    → AllBut answerAt size (closed (readBy s b)) (receiveOf s cal meas b .state) × (receiveOf s cal meas b .cal ≡ cal)
+wrong-key-ends s cal meas b p u w wrong =
+    let e : receiveOf s cal meas b ≡ obeyed WrongKey p (readBy s b) cal meas = wrong-step s cal meas b p u w wrong in
+    (rw e (all-but (wrong-only (readBy s b) cal meas)), ap (λ (o : Step). o .cal) e ∙ wrong-closes .memory p cal)
+
+as-disconnect : (s t cal meas cal′ meas′ : List ℕ) (b c : ℕ) (p q : List ℕ) → consistent s ≡ true → consistent t ≡ true → take placeAt s ≡ take placeAt t
     → Commands s b p → wrongKey p s ≡ true → Commands t c q → getD q 0 0 ≡ 0xFE
-    → (take placeAt (receiveOf s cal meas b .state) ≡ take placeAt (receiveOf t cal′ meas′ c .state)) × (receiveOf s cal meas b .cal ≡ cal)
-wrong-key-ends s t cal meas cal′ meas′ b c p q u v alike w wrong x code =
-    let left : receiveOf s cal meas b ≡ obeyed WrongKey p (readBy s b) cal meas =
-    commanded s cal meas b p u w ∙ ap (λ (d : Deed). obeyed d p (readBy s b) cal meas) (wrong-judged p (readBy s b) (length cal) (length meas) (wrong-same s p b u ∙ wrong)) in
+    → take placeAt (receiveOf s cal meas b .state) ≡ take placeAt (receiveOf t cal′ meas′ c .state)
+as-disconnect s t cal meas cal′ meas′ b c p q u v alike w wrong x code =
+    let left : receiveOf s cal meas b ≡ obeyed WrongKey p (readBy s b) cal meas = wrong-step s cal meas b p u w wrong in
     let right : receiveOf t cal′ meas′ c ≡ obeyed Disconnect q (readBy t c) cal′ meas′ =
     commanded t cal′ meas′ c q v x ∙ ap (λ (d : Deed). obeyed d q (readBy t c) cal′ meas′) (disconnect-judged q (readBy t c) (length cal′) (length meas′) code) in
-    let long : length s ≡ length t = consistent-size s u ∙ sym (consistent-size t v) in (
-      ap (λ (o : Step). take placeAt (o .state)) left ∙ closes-front WrongKey s cal meas b wrong-closes u
-          ∙ closed-alike t s long alike
-          ∙ sym (ap (λ (o : Step). take placeAt (o .state)) right ∙ closes-front Disconnect t cal′ meas′ c disconnect-closes v),
-      ap (λ (o : Step). o .cal) left ∙ wrong-closes .memory p cal,
-    )
+    let long : length s ≡ length t = consistent-size s u ∙ sym (consistent-size t v) in
+    ap (λ (o : Step). take placeAt (o .state)) left ∙ closes-front WrongKey s cal meas b wrong-closes u
+    ∙ closed-alike t s long alike
+    ∙ sym (ap (λ (o : Step). take placeAt (o .state)) right ∙ closes-front Disconnect t cal′ meas′ c disconnect-closes v)
 
 -- ---- a byte without an answer
 unanswered-by : {s cal meas : List ℕ} {b : ℕ} {o : Step} {x : Option Deed} → consistent s ≡ true → receivedNumber (o .received) ≢ 1
@@ -144,6 +157,10 @@ no-state s cal meas out b event clock n = (simp n, simp n, simp n, simp n, simp 
 no-size : (s : List ℕ) (start : ℕ) → length s ≢ size → (poweredUpNumber (powerUpOf s start .poweredUp) ≡ 10) × (powerUpOf s start .state ≡ s)
 unfolding powerUpOf
 no-size s start n = (simp (ne-eqb (length s) size n), simp (ne-eqb (length s) size n))
+
+powers-up : (s : List ℕ) (start : ℕ) → length s ≡ size → poweredUpNumber (powerUpOf s start .poweredUp) ≡ 0
+unfolding powerUpOf
+powers-up s start e = simp (eq-eqb (length s) size e)
 
 bad-event : (s cal meas : List ℕ) (event clock : ℕ) → consistent s ≡ true → 1 < event
     → (eventedNumber (eventOf s cal meas event clock .evented) ≡ 8) × (eventOf s cal meas event clock .state ≡ s)
@@ -184,11 +201,13 @@ demand1 = record {
       let w = refused-by c (r .answered) (r .begins) n (received s cal meas b c) in
       record { state = w .0; memory = w .1 };
   wrongKeyEnds = wrong-key-ends;
+  asDisconnect = as-disconnect;
   unanswered = λ s cal meas b c n.
       let w = unanswered-by c n (received s cal meas b c) in
       record { state = w .0; memory = w .1 };
   noState = no-state;
   noSize = no-size;
+  powersUp = λ s start e. (powers-up s start e, power-up-consistent s start e);
   badEvent = bad-event;
   noRoom = no-room;
   otherwise = λ s cal meas out b event clock c. (seven (received s cal meas b c), good-event s cal meas event clock c, good-slot s out c);

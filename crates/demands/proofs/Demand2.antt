@@ -1,18 +1,20 @@
 -- The second demand is met. Assumes nothing.
 use Rattle.demands.specs.Slave.{ours}
 use Rattle.demands.specs.Demand2.{Demand2}
-use Rattle.demands.proofs.Received.{heeds-right}
-use Rattle.demands.proofs.Numbering.{frames-numbered, frames-from-power-up}
-use Rattle.demands.proofs.Sends.{slot-reads-back, slot-past}
+use Rattle.demands.proofs.Received.{received-by}
+use Rattle.demands.proofs.Numbering.{power-up-is, frames-numbered, frames-from-power-up}
+use Rattle.demands.proofs.Sends.{slot-is, slot-reads-back, slot-past}
 use Rattle.demands.proofs.Locks.{locked-keeps, unlocks-own}
 use Rattle.demands.proofs.Cut.{cut, cutEvent}
 use Rattle.demands.proofs.Downloads.{gives-back}
-use Rattle.demands.proofs.Events.{counts, gains, others, storesOnly}
+use Rattle.demands.proofs.Events.{counts, samples, stores, others, storesOnly}
 
 pub demand2 : Demand2 ours
 demand2 =
     record {
-      heeds = heeds-right;
+      powersUp = power-up-is;
+      reads = received-by;
+      serves = slot-is;
       numbers = frames-numbered;
       fromPowerUp = frames-from-power-up;
       readsBack = slot-reads-back;
@@ -23,7 +25,8 @@ demand2 =
       givesBack = gives-back;
       unlocks = unlocks-own;
       counts = counts;
-      gains = gains;
+      samples = samples;
+      stores = stores;
       others = others;
       storesOnly = storesOnly;
     }

@@ -1,9 +1,9 @@
 -- An event takes the lists one after the other, and each one's step changes its own store alone. Assumes nothing.
-use Prim.Native.Nat.{ℕ, zero, suc, _+_, _-_, _≤_, _<_}
+use Prim.Native.Nat.{ℕ, zero, suc, _+_, _-_, _/_, _%_, _≤_, _<_}
 use mathlib.Core.Path.{_≡_, refl, sym, ap, subst, _∙_}
 use mathlib.Core.Logic.{_≢_}
 use mathlib.Core.Bool.{Bool, true, false, cond}
-use mathlib.Core.List.{List, []}
+use mathlib.Core.List.{List, [], _∷_}
 use native.Mathlib.Omega.{arith}
 use lib.Dec.{eqb, ltb, lit≤}
 use lib.ListN.{length}
@@ -11,7 +11,7 @@ use Rattle.line.proofs.Laws.{cond-ind}
 use Rattle.line.proofs.Stuffed.{false-true}
 use Rattle.session.specs.Layout.{size, entries, sampleAt, firstOdt}
 use Rattle.session.specs.Lists.{runsOf, modeOf, storedLength}
-use Rattle.session.specs.Event.{unsent, samplingOf, captured, sampledState, sampledBy, missedBy, tally}
+use Rattle.session.specs.Event.{unsent, samplingOf, gathered, stored, captured, sampledState, sampledBy, missedBy, tally}
 use Rattle.session.specs.declared.Sampling.{Sampling}
 use Rattle.session.specs.declared.Sampling.the-variants.{Idle, Sampled, Missed}
 use Rattle.session.proofs.Entries.{gathered-alike}
@@ -20,6 +20,7 @@ use Rattle.fields.proofs.Readers.{Same, before, behind, same-then, runs-reads}
 use Rattle.fields.proofs.Captures.{runs-fits, only-tally}
 use Rattle.demands.specs.Waiting.{waitingOf, sampleOf, isSampled, isMissed}
 use Rattle.demands.specs.Demand2.{howMany}
+use Rattle.demands.proofs.Unchanged.{same-sets}
 use Rattle.demands.proofs.Samples.{SameStore, sampling-reads, waiting-reads, captured-only, captured-waits}
 
 -- ---- one list
@@ -71,6 +72,11 @@ missed-one : (c : Sampling) → missedBy c ≡ cond (isMissed c) 1 0
 missed-one Idle = refl
 missed-one Sampled = refl
 missed-one Missed = refl
+
+-- the same packet stored in states that have the same bytes
+stored-same : {a b : ℕ} {s t : List ℕ} (k : ℕ) (bs : List ℕ) → Same a b s t → Same a b (stored s k bs) (stored t k bs)
+unfolding stored
+stored-same k bs w = same-sets (sampleAt k) (length bs ∷ bs) w
 
 -- ---- all of them
 module _ (s : List ℕ) (event clock : ℕ) (cal meas : List ℕ) (long : length s ≡ size) where
@@ -148,3 +154,18 @@ module _ (s : List ℕ) (event clock : ℕ) (cal meas : List ℕ) (long : length
       ∙ ap (λ (t : List ℕ). waitingOf t l) own
       ∙ captured-waits u l clock cal meas (upTo-long l (omega arith)) h (runs-fits u l r) r
       ∙ sample-before l h
+
+  -- captured when its turn came or at once, it has the same store
+  captured-before : (l : ℕ) → l < 4 → Same 0 161 s (upTo l) → SameStore l s (upTo l) → SameStore l (captured s l clock cal meas) (captured (upTo l) l clock cal meas)
+  unfolding captured
+  captured-before l h w o =
+      let first = gathered-alike (upTo l) s (λ j q. w .byte j (omega arith) q) (firstOdt l) (omega arith) cal meas entries (lit≤ tt) in
+      let second = gathered-alike (upTo l) s (λ j q. w .byte j (omega arith) q) (firstOdt l + 1) (omega arith) cal meas entries (lit≤ tt) in
+      rw (first, second)
+      (stored-same (firstOdt l + 1) (gathered s (firstOdt l + 1) cal meas entries) (stored-same (firstOdt l) (clock % 256 ∷ clock / 256 % 256 ∷ gathered s (firstOdt l) cal meas entries) o))
+
+  pub sampled-store : (l : ℕ) → l < 4 → samplingOf s l event ≡ Sampled → SameStore l (captured s l clock cal meas) (upTo 4)
+  unfolding tally sampledState
+  sampled-store l h e =
+      let own : upTo (suc l) ≡ captured (upTo l) l clock cal meas = rw (turn l h, e) refl in
+      same-then (subst (λ (t : List ℕ). SameStore l (captured s l clock cal meas) t) (sym own) (captured-before l h (front-before l h) (store-before l h))) (before (omega arith) (later l h))

@@ -12,7 +12,7 @@ use Rattle.line.proofs.Stuffed.{false-true}
 use Rattle.session.specs.Layout.{lists, entries, placeAt, sampleAt, firstOdt}
 use Rattle.session.specs.Bytes.{block}
 use Rattle.session.specs.State.{consistent, openOf, waits, answerOf}
-use Rattle.session.specs.Event.{samplingOf, gathered, tally, happened, eventOf}
+use Rattle.session.specs.Event.{samplingOf, gathered, captured, tally, happened, eventOf}
 use Rattle.session.specs.declared.Sampling.{Sampling}
 use Rattle.session.specs.declared.Sampling.the-variants.{Idle, Sampled, Missed}
 use Rattle.session.specs.declared.Evented.the-variants.{Done}
@@ -26,7 +26,7 @@ use Rattle.demands.specs.Waiting.{AllBut, waitingOf, second, sampleOf, i
 use Rattle.demands.specs.Demand2.{storeSize, howMany}
 use Rattle.demands.specs.Kept.{gains as gainsAt}
 use Rattle.demands.proofs.Samples.{SameStore, waiting-reads}
-use Rattle.demands.proofs.EventSteps.{sampled-empty, count-sampled, count-missed, unsampled-store, sampled-waits}
+use Rattle.demands.proofs.EventSteps.{sampled-empty, count-sampled, count-missed, unsampled-store, sampled-waits, sampled-store}
 
 -- ---- an event takes the lists, or is none
 taken : (s cal meas : List ℕ) (event clock : ℕ) → consistent s ≡ true → event ≤ 1 → eventOf s cal meas event clock ≡ happened (tally s event clock cal meas lists)
@@ -44,9 +44,15 @@ counts s cal meas event clock c h =
     let long = consistent-size s c in
     rw (taken s cal meas event clock c h, count-sampled s event clock cal meas long 4 (lit≤ tt), count-missed s event clock cal meas long 4 (lit≤ tt))
 
-pub gains : (s cal meas : List ℕ) (event clock l : ℕ) → consistent s ≡ true → event ≤ 1 → l < lists → samplingOf s l event ≡ Sampled
+pub samples : (s cal meas : List ℕ) (event clock l : ℕ) → consistent s ≡ true → event ≤ 1 → l < lists → samplingOf s l event ≡ Sampled
     → waitingOf (ours .event s cal meas event clock .state) l ≡ sampleOf s l clock cal meas
-gains s cal meas event clock l c h q e = rw (taken s cal meas event clock c h) (sampled-waits s event clock cal meas (consistent-size s c) l q e)
+samples s cal meas event clock l c h q e = rw (taken s cal meas event clock c h) (sampled-waits s event clock cal meas (consistent-size s c) l q e)
+
+-- as if it alone were captured
+pub stores : (s cal meas : List ℕ) (event clock l : ℕ) → consistent s ≡ true → event ≤ 1 → l < lists → samplingOf s l event ≡ Sampled
+    → block (ours .event s cal meas event clock .state) (sampleAt (firstOdt l)) storeSize ≡ block (captured s l clock cal meas) (sampleAt (firstOdt l)) storeSize
+stores s cal meas event clock l c h q e =
+    rw (taken s cal meas event clock c h) (same-block (sampleAt (firstOdt l)) storeSize (omega arith) (omega arith) (sampled-store s event clock cal meas (consistent-size s c) l q e))
 
 -- ---- what it leaves
 -- the store of a list that is not sampled
@@ -99,7 +105,7 @@ event-waiting s cal meas event clock l c q = go (ltb 1 event) (isSampled (sampli
   go true x e f = rw (refused s cal meas event clock c (ltb-true 1 event e)) (sym (append-nil (waitingOf s l)))
   go false true e f =
       let own = is-sampled (samplingOf s l event) f in
-      rw (sampled-empty s l event own) (gains s cal meas event clock l c (ltb-false 1 event e) q own)
+      rw (sampled-empty s l event own) (samples s cal meas event clock l c (ltb-false 1 event e) q own)
   go false false e f =
       waiting-reads l q (apart tt (only-event s cal meas event clock)) (kept-store s cal meas event clock l c q (not-sampled (samplingOf s l event) f))
       ∙ sym (append-nil (waitingOf s l))

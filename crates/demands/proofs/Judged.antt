@@ -30,13 +30,13 @@ use Rattle.session.specs.declared.Pointer.{Pointer}
 use Rattle.session.specs.declared.Pointer.the-variants.{Unset as NoEntry, At as Entry}
 use Rattle.session.specs.declared.Deed.{Deed}
 use Rattle.session.specs.declared.Deed.the-variants.{Refuse, RefuseSize, WrongKey, Connect, Disconnect, Status, Synch, NoSeed, GiveSeed, Unlock, SetMta, Upload, ShortUpload, Checksum, Download, ClearList, SetPointer, ClearEntry, WriteEntry, SetMode, Stop, Start, KeepRunning, Select, StopAll, StartSelected, StopSelected, ProcessorInfo, ResolutionInfo}
-use Rattle.demands.specs.Heard.{keyFor, keyMatches, wrongKeyBy, wrongKey}
+use Rattle.demands.specs.Heard.{bringsKey, keyMatches, wrongKeyBy, wrongKey}
 use Rattle.demands.proofs.Coded.{Coded, coded}
 
 -- UNLOCK with the right key, for the seed that is out
 pub record RightKey (r : Resource) (p s : List ℕ) : Type 0 where
   pub seed : seedOf s ≡ For r
-  pub key : keyFor p ≡ true
+  pub key : bringsKey p ≡ true
   pub right : keyMatches p r s ≡ true
 
 -- DOWNLOAD of n bytes to where the MTA is, with calibration unlocked
@@ -85,11 +85,11 @@ Found ProcessorInfo p s = Unit
 Found ResolutionInfo p s = Unit
 
 -- UNLOCK with four key bytes
-key-found : (p : List ℕ) → getD p 0 0 ≡ 0xF7 → eqb (getD p 1 0) 4 ≡ true → ltb (length p) 6 ≡ false → keyFor p ≡ true
-unfolding keyFor
+key-found : (p : List ℕ) → getD p 0 0 ≡ 0xF7 → eqb (getD p 1 0) 4 ≡ true → ltb (length p) 6 ≡ false → bringsKey p ≡ true
+unfolding bringsKey
 key-found p code four long = simp (code, four, long)
 
-wrong-found : (seed : Seed) (r : Resource) (p s : List ℕ) → seed ≡ For r → keyFor p ≡ true → keyMatches p r s ≡ false → wrongKeyBy seed p s ≡ true
+wrong-found : (seed : Seed) (r : Resource) (p s : List ℕ) → seed ≡ For r → bringsKey p ≡ true → keyMatches p r s ≡ false → wrongKeyBy seed p s ≡ true
 unfolding wrongKeyBy
 wrong-found seed r p s e key wrong = rw e (simp (key, wrong))
 

@@ -29,6 +29,8 @@ pub mod Downloads
 pub mod CutJudge
 pub mod Cut
 pub mod Demand2
+-- The first two leave no choice.
+pub mod NoChoice
 -- The third demand, and that nothing is lost.
 pub mod Ranking
 pub mod Carried

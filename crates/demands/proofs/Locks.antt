@@ -23,7 +23,7 @@ use Rattle.fields.proofs.Fields.{other, lock-same, lock-other}
 use Rattle.fields.proofs.Frames.{only-seed}
 use Rattle.fields.proofs.Readers.{Same, apart, same-part, lock-reads, answered-front}
 use Rattle.demands.specs.Slave.{ours}
-use Rattle.demands.specs.Heard.{readBy, Commands, deedOf, keyFor, keyMatches}
+use Rattle.demands.specs.Heard.{readBy, Commands, deedOf, bringsKey, keyMatches}
 use Rattle.demands.specs.Demand2.{shut, otherLock}
 use Rattle.demands.proofs.Judged.{Found}
 use Rattle.demands.proofs.ReadBy.{read-length, read-lock, read-seed, read-generator}
@@ -106,7 +106,7 @@ other-is Calibration = refl
 other-is Lists = refl
 
 pub unlocks-own : (s cal meas : List ℕ) (b : ℕ) (p : List ℕ) (r : Resource) → consistent s ≡ true
-    → Commands s b p → seedOf s ≡ For r → keyFor p ≡ true → keyMatches p r s ≡ true
+    → Commands s b p → seedOf s ≡ For r → bringsKey p ≡ true → keyMatches p r s ≡ true
     → (unlockedOf (ours .receive s cal meas b .state) r ≡ true)
     × (unlockedOf (ours .receive s cal meas b .state) (otherLock r) ≡ unlockedOf s (otherLock r))
 unlocks-own s cal meas b p r c w e k m =

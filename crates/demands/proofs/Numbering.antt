@@ -6,7 +6,7 @@ use mathlib.Core.List.{List, [], _∷_, _++_}
 use native.Mathlib.Omega.{arith}
 use native.Mathlib.Nat.{lt-of-not-le, mod-eq-of-lt, mod-add-mod}
 use native.Mathlib.Decide.{decLe}
-use borrow.Author.Tests.{lt-ltb, le-ltb}
+use borrow.Author.Tests.{lt-ltb, le-ltb, eq-eqb}
 use lib.Dec.{lit≤, lit<}
 use lib.ListN.{length, replicate}
 use lib.Seq.{getD-set-other}
@@ -18,7 +18,7 @@ use Rattle.session.specs.Generator.{startOf}
 use Rattle.session.specs.Receive.{receiveOf}
 use Rattle.session.specs.Event.{eventOf}
 use Rattle.session.specs.Slot.{turnOf, packetOf, slotOf}
-use Rattle.session.specs.PowerUp.{powered}
+use Rattle.session.specs.PowerUp.{powered, powerUpOf}
 use Rattle.session.specs.declared.Turn.{Turn}
 use Rattle.session.proofs.Consistent.{consistent-size}
 use Rattle.fields.proofs.Stores.{put32-out}
@@ -84,5 +84,10 @@ power-ctr start =
     let blank : List ℕ = put32 (replicate size 0) 0 mark in
     getD-set-other (put32 blank 4 (startOf start)) 9 8 3 0 (omega arith) ∙ put32-out blank 4 8 4 (startOf start) 8 (lit≤ tt) (lit≤ tt) tt ∙ blank-ctr
 
-pub frames-from-power-up : (start : ℕ) (cs : List Call) → frames ours (powered start) cs ≡ numbered 0 0 (due ours (powered start) cs)
-frames-from-power-up start cs = numbers-on 0 cs 0 (powered start) (power-consistent start) (power-ctr start)
+pub power-up-is : (s : List ℕ) (start : ℕ) → length s ≡ size → powerUpOf s start .state ≡ powered start
+unfolding powerUpOf
+power-up-is s start e = simp (eq-eqb (length s) size e)
+
+pub frames-from-power-up : (s : List ℕ) (start : ℕ) (cs : List Call) → length s ≡ size
+    → frames ours (powerUpOf s start .state) cs ≡ numbered 0 0 (due ours (powerUpOf s start .state) cs)
+frames-from-power-up s start cs e = rw (power-up-is s start e) (numbers-on 0 cs 0 (powered start) (power-consistent start) (power-ctr start))

@@ -16,7 +16,7 @@ use Rattle.session.specs.Bytes.{block}
 use Rattle.session.specs.State.{consistent, openOf, waits, answerOf}
 use Rattle.session.specs.Perform.{reply}
 use Rattle.session.specs.Doable.{Doable}
-use Rattle.session.specs.Receive.{Step, only, obeyed, goodConnect, heeded, meant, fedOf, receiveOf}
+use Rattle.session.specs.Receive.{Step, only, obeyed, goodConnect, heeded, meant, fedOf, receivedBy, receiveOf}
 use Rattle.session.specs.Number.{receivedNumber}
 use Rattle.session.specs.declared.Deed.{Deed}
 use Rattle.session.specs.declared.Deed.the-variants.{Connect}
@@ -131,9 +131,15 @@ heeded-by line.BadChecksum m t cal meas p e = absurd (some-none (sym e))
 heeded-by line.CutOff m t cal meas p e = absurd (some-none (sym e))
 heeded-by line.NoRoom m t cal meas p e = absurd (some-none (sym e))
 
-pub heeds-right : (s cal meas : List ℕ) (b : ℕ) (p : List ℕ) → consistent s ≡ true → packetEnded s b ≡ some p → receiveOf s cal meas b ≡ heeded p (readBy s b) cal meas
+pub received-by : (s cal meas : List ℕ) (b : ℕ) → consistent s ≡ true → receiveOf s cal meas b ≡ receivedBy (fedOf s b) s cal meas
 unfolding receiveOf
-heeds-right s cal meas b p c e = simp c (heeded-by (fedOf s b .taken .outcome) (fedOf s b .message) (readBy s b) cal meas p e)
+received-by s cal meas b c = rw c refl
+
+pub heeded-whole : (s cal meas : List ℕ) (b : ℕ) (p : List ℕ) → packetEnded s b ≡ some p → receivedBy (fedOf s b) s cal meas ≡ heeded p (readBy s b) cal meas
+heeded-whole s cal meas b p e = heeded-by (fedOf s b .taken .outcome) (fedOf s b .message) (readBy s b) cal meas p e
+
+pub heeds-right : (s cal meas : List ℕ) (b : ℕ) (p : List ℕ) → consistent s ≡ true → packetEnded s b ≡ some p → receiveOf s cal meas b ≡ heeded p (readBy s b) cal meas
+heeds-right s cal meas b p c e = received-by s cal meas b c ∙ heeded-whole s cal meas b p e
 
 -- a command is judged, and what it leads to is done
 pub commanded : (s cal meas : List ℕ) (b : ℕ) (p : List ℕ) → consistent s ≡ true → Commands s b p

@@ -19,7 +19,7 @@ use Rattle.session.specs.declared.Seed.{Seed}
 use Rattle.session.specs.declared.Seed.the-variants.{None, For}
 use Rattle.session.specs.declared.Deed.{Deed}
 use Rattle.session.specs.declared.Deed.the-variants.{Refuse, RefuseSize, WrongKey, Connect, Disconnect, Status, Synch, NoSeed, GiveSeed, Unlock, SetMta, Upload, ShortUpload, Checksum, Download, ClearList, SetPointer, ClearEntry, WriteEntry, SetMode, Stop, Start, KeepRunning, Select, StopAll, StartSelected, StopSelected, ProcessorInfo, ResolutionInfo}
-use Rattle.demands.specs.Heard.{keyFor, keyMatches, wrongKeyBy, wrongKey}
+use Rattle.demands.specs.Heard.{bringsKey, keyMatches, wrongKeyBy, wrongKey}
 
 -- ---- what is answered FE
 -- a deed that changes nothing but the answer
@@ -70,8 +70,8 @@ pub record Keyed (p : List ℕ) : Type 0 where
   pub four : getD p 1 0 ≡ 4
   pub long : 6 ≤ length p
 
-pub keyed : (p : List ℕ) → keyFor p ≡ true → Keyed p
-unfolding keyFor
+pub keyed : (p : List ℕ) → bringsKey p ≡ true → Keyed p
+unfolding bringsKey
 keyed p =
     let P : Bool → Type 0 = λ (t : Bool). t ≡ true → Keyed p in
     cond-ind P (eqb (getD p 0 0) 0xF7)
@@ -81,7 +81,7 @@ keyed p =
     (λ _ f. absurd (false-true f))
 
 -- with a key for the seed that is out, whether it matches is all that is left
-pub key-judged : (p s : List ℕ) (r : Resource) (nc nm : ℕ) → keyFor p ≡ true → seedOf s ≡ For r → judge p s nc nm ≡ cond (keyMatches p r s) (Unlock r) WrongKey
+pub key-judged : (p s : List ℕ) (r : Resource) (nc nm : ℕ) → bringsKey p ≡ true → seedOf s ≡ For r → judge p s nc nm ≡ cond (keyMatches p r s) (Unlock r) WrongKey
 unfolding judge judgeBy judgeThe commandOf lockedOf unlockBy
 key-judged p s r nc nm k e =
     let w : Keyed p = keyed p k in
@@ -92,14 +92,14 @@ key-judged p s r nc nm k e =
 pub record Wrong (p s : List ℕ) (seed : Seed) : Type 0 where
   pub resource : Resource
   pub out : seed ≡ For resource
-  pub key : keyFor p ≡ true
+  pub key : bringsKey p ≡ true
   pub wrong : keyMatches p resource s ≡ false
 
 wrong-by : (seed : Seed) (p s : List ℕ) → wrongKeyBy seed p s ≡ true → Wrong p s seed
 unfolding wrongKeyBy
 wrong-by None p s e = absurd (false-true e)
 wrong-by (For r) p s e =
-    cond-ind (λ (t : Bool). t ≡ true → Wrong p s (For r)) (keyFor p)
+    cond-ind (λ (t : Bool). t ≡ true → Wrong p s (For r)) (bringsKey p)
     (λ k n. record { resource = r; out = refl; key = k; wrong = not-true (keyMatches p r s) n })
     (λ _ f. absurd (false-true f)) e
 

@@ -1,5 +1,5 @@
 -- Each wrong slave fails the demand that is to shut it out: one run of it is computed. Assumes nothing.
-use Prim.Native.Nat.{ℕ}
+use Prim.Native.Nat.{ℕ, _+_}
 use mathlib.Core.Path.{_≡_, refl, ap, sym, _∙_, subst}
 use mathlib.Core.Bool.{Bool, true, false, cond}
 use mathlib.Core.Option.{Option, some}
@@ -9,7 +9,7 @@ use lib.Dec.{lit<, lit≤}
 use lib.ListN.{length, getD, replicate}
 use Rattle.line.specs.Message.{longest, room}
 use Rattle.line.specs.Number.{outcomeNumber}
-use Rattle.line.specs.Run.{run as reads}
+use Rattle.line.specs.Run as line
 use Rattle.line.specs.Wire.{heard}
 use Rattle.line.specs.declared.Place.the-variants.{Outside}
 use Rattle.line.specs.declared.Outcome.the-variants.{Nothing}
@@ -29,7 +29,7 @@ use Rattle.demands.specs.Waiting.{packetFor}
 use Rattle.demands.specs.Demand1.{Demand1}
 use Rattle.demands.specs.Demand2.{Demand2, ReadsBack}
 use Rattle.demands.specs.Demand3.{Demand3}
-use Rattle.demands.specs.Wrong.{refusesAlways, silent, alwaysFF, storesNothing, allAtOnce, upTo, sumsEscaped, neverSamples, inventsCounts, movesAfterRefusal, readsLate, rereadEach, opensBoth}
+use Rattle.demands.specs.Wrong.{refusesAlways, silent, alwaysFF, storesNothing, obeysDamaged, allAtOnce, upTo, sumsEscaped, neverSamples, inventsCounts, movesAfterRefusal, readsLate, rereadEach, opensBoth}
 use Rattle.demands.specs.Exchange.{slot, says, asks, askAll, begins, lastByte, reached, connect, synch, seedOfCalibration, keyOfCalibration, upload, uploadFirst, downloadOne, downloading, uploading, measuring}
 use Rattle.demands.proofs.Computed.{computed}
 
@@ -37,7 +37,7 @@ use Rattle.demands.proofs.Computed.{computed}
 pub refusesAlways-fails : Demand2 refusesAlways → ⊥
 unfolding computed
 refusesAlways-fails d =
-    let e : _≡_ {A = ℕ} 0xFE 0xFF = ap (λ o. getD (answerOf (o .state)) 0 0) (d .heeds (reached refusesAlways (begins [] [] connect)) [] [] (lastByte connect) connect refl refl)
+    let e : _≡_ {A = ℕ} 0xFE 0xFF = ap (λ o. getD (answerOf (o .state)) 0 0) (d .reads (reached refusesAlways (begins [] [] connect)) [] [] (lastByte connect) refl)
     in omega arith
 
 -- in a session, SYNCH is not answered
@@ -46,6 +46,12 @@ unfolding computed
 silent-fails d =
     let e : _≡_ {A = ℕ} 2 1 = ap receivedNumber (d .answered (reached ours (asks [] [] connect)) (begins [] [] synch) [] [] (lastByte synch) [] 0 synch refl (lit≤ tt) (lit≤ tt) refl refl refl .number)
     in omega arith
+
+-- CONNECT with a checksum one too high is answered
+pub obeysDamaged-fails : Demand2 obeysDamaged → ⊥
+unfolding computed
+obeysDamaged-fails d =
+    let e : _≡_ {A = ℕ} 1 5 = ap (λ o. receivedNumber (o .received)) (d .reads (reached obeysDamaged (begins [] [] connect)) [] [] (lastByte connect + 1) refl) in omega arith
 
 -- ---- UPLOAD after DOWNLOAD
 -- how a state stands at a byte, and what two commands come to, the second with the memory that the first left
@@ -112,8 +118,8 @@ allAtOnce-fails d =
     let e : _≡_ {A = ℕ} 19 7 = ap (λ fs. length (getD fs 0 [])) (d .numbers (reached ours (measuring (5 ∷ []))) (Event [] (5 ∷ []) 0 0 ∷ Slot (replicate 46 0) ∷ []) refl (lit< tt)) in omega arith
 
 -- a frame that reads back carries the packet whose turn it was
-read-back : (f s p : List ℕ) → packetFor (turnOf s) s ≡ p ∷ [] → ReadsBack (f ∷ []) s → reads Outside (replicate longest 0) f ≡ heard Outside (replicate longest 0) (ctrOf s) p
-read-back f s p e r = subst (λ q. reads Outside (replicate longest 0) f ≡ heard Outside (replicate longest 0) (ctrOf s) q) (ap (λ ps. getD ps 0 []) (sym (r .2) ∙ e)) (r .3 Outside (replicate longest 0) (lit≤ tt))
+read-back : (f s p : List ℕ) → packetFor (turnOf s) s ≡ p ∷ [] → ReadsBack (f ∷ []) s → line.run Outside (replicate longest 0) f ≡ heard Outside (replicate longest 0) (ctrOf s) p
+read-back f s p e r = subst (λ q. line.run Outside (replicate longest 0) f ≡ heard Outside (replicate longest 0) (ctrOf s) q) (ap (λ ps. getD ps 0 []) (sym (r .2) ∙ e)) (r .3 Outside (replicate longest 0) (lit≤ tt))
 
 -- the frame of FF 9A reads as one with a wrong checksum
 pub sumsEscaped-fails : Demand2 sumsEscaped → ⊥
@@ -127,7 +133,7 @@ sumsEscaped-fails d =
 pub neverSamples-fails : Demand2 neverSamples → ⊥
 unfolding computed
 neverSamples-fails d =
-    let e : _≡_ {A = ℕ} 0 2 = ap length (d .gains (reached ours (measuring (5 ∷ []))) [] (5 ∷ []) 0 0 0 refl (lit≤ tt) (lit< tt) refl) in omega arith
+    let e : _≡_ {A = ℕ} 0 2 = ap length (d .samples (reached ours (measuring (5 ∷ []))) [] (5 ∷ []) 0 0 0 refl (lit≤ tt) (lit< tt) refl) in omega arith
 
 -- no list runs, and one is said to be sampled
 pub inventsCounts-fails : Demand2 inventsCounts → ⊥

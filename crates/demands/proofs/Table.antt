@@ -18,6 +18,7 @@ use Rattle.demands.specs.Heard.{packetEnded, readBy, deedOf}
 use Rattle.demands.specs.Demand2.{Demand2}
 use Rattle.demands.specs.Exchange.{lastByte}
 use Rattle.demands.specs.Table.{Holds, table, download, sixBegunAt}
+use Rattle.demands.proofs.Received.{heeded-whole}
 use Rattle.demands.proofs.Computed.{computed}
 
 pub bench-sheet : Holds table
@@ -48,8 +49,9 @@ six : (v : Slave) (s cal meas : List ℕ) (b : ℕ) (d : Deed) → Demand2 v →
     → v .receive s cal meas b ≡ obeyed d (download 6) (readBy s b) cal meas
 unfolding standing ready
 six v s cal meas b d meets e long j =
-    meets .heeds s cal meas b (download 6) (ap (λ x. x .sound) e) (ap (λ x. x .ended) e)
-    ∙ (obeys (download 6) (readBy s b) cal meas (ap (λ x. x .waiting) e) (ap (λ x. x .opened) e)
+    meets .reads s cal meas b (ap (λ x. x .sound) e)
+    ∙ (heeded-whole s cal meas b (download 6) (ap (λ x. x .ended) e)
+    ∙ obeys (download 6) (readBy s b) cal meas (ap (λ x. x .waiting) e) (ap (λ x. x .opened) e)
     ∙ ap (λ x. obeyed x (download 6) (readBy s b) cal meas) (subst (λ n. judge (download 6) (readBy s b) n (length meas) ≡ d) (sym long) (j (length meas))))
 
 -- at 4,090 the answer is FF, and the six bytes are written

@@ -35,7 +35,7 @@ use Rattle.demands.proofs.After.{answer-last, answer-served, answer-wai
 use Rattle.demands.proofs.Carried.{carried-append, carries, carries-none, packet-own, packet-other, answer-of-none}
 use Rattle.demands.proofs.ByteKeeps.{byte-waiting, byte-round}
 use Rattle.demands.proofs.EventSteps.{sampled-empty}
-use Rattle.demands.proofs.Events.{gains as gained, sample-length, event-waiting, event-front}
+use Rattle.demands.proofs.Events.{samples as gained, sample-length, event-waiting, event-front}
 use Rattle.demands.proofs.Soon.{counted, uncounted}
 
 -- ---- what the round sees of list l in a state

@@ -8,10 +8,10 @@ use mathlib.Core.List.{List}
 use lib.ListN.{length, getD, take}
 use Rattle.line.specs.Message.{room}
 use Rattle.session.specs.Layout.{placeAt, answerAt, size}
-use Rattle.session.specs.State.{consistent, answerOf}
+use Rattle.session.specs.State.{consistent, closed, answerOf}
 use Rattle.session.specs.Number.{receivedNumber, eventedNumber, slottedNumber, poweredUpNumber}
 use Rattle.demands.specs.Slave.{Slave}
-use Rattle.demands.specs.Heard.{Commands, wrongKey, wrongKeyAt}
+use Rattle.demands.specs.Heard.{readBy, Commands, wrongKey, wrongKeyAt}
 use Rattle.demands.specs.Waiting.{AllBut}
 
 -- a received byte leaves the calibration memory, and of the state all but the bytes from lo up to hi
@@ -27,10 +27,13 @@ pub record Refused (v : Slave) (s cal meas : List ℕ) (b : ℕ) : Type 0 where
 pub record Demand1 (v : Slave) : Type 0 where
   -- a refused command, a wrong key apart, changes the reader's place and the answer alone
   pub refused : (s cal meas : List ℕ) (b : ℕ) → consistent s ≡ true → Refused v s cal meas b → wrongKeyAt s b ≡ false → Leaves placeAt size v s cal meas b
-  -- after a wrong key every byte of the session is as after DISCONNECT, and no memory byte has changed
-  pub wrongKeyEnds : (s t cal meas cal′ meas′ : List ℕ) (b c : ℕ) (p q : List ℕ) → consistent s ≡ true → consistent t ≡ true → take placeAt s ≡ take placeAt t
+  -- after a wrong key every state byte but the answer is DISCONNECT's, which closes the session; and no memory byte has changed
+  pub wrongKeyEnds : (s cal meas : List ℕ) (b : ℕ) (p : List ℕ) → consistent s ≡ true → Commands s b p → wrongKey p s ≡ true
+      → AllBut answerAt size (closed (readBy s b)) (v .receive s cal meas b .state) × (v .receive s cal meas b .cal ≡ cal)
+  -- so it leaves the session as DISCONNECT itself does; in the reader's place are the command's own bytes
+  pub asDisconnect : (s t cal meas cal′ meas′ : List ℕ) (b c : ℕ) (p q : List ℕ) → consistent s ≡ true → consistent t ≡ true → take placeAt s ≡ take placeAt t
       → Commands s b p → wrongKey p s ≡ true → Commands t c q → getD q 0 0 ≡ 0xFE
-      → (take placeAt (v .receive s cal meas b .state) ≡ take placeAt (v .receive t cal′ meas′ c .state)) × (v .receive s cal meas b .cal ≡ cal)
+      → take placeAt (v .receive s cal meas b .state) ≡ take placeAt (v .receive t cal′ meas′ c .state)
   -- the numbers 0 and 2 to 7 of a byte change the reader's place alone
   pub unanswered : (s cal meas : List ℕ) (b : ℕ) → consistent s ≡ true → receivedNumber (v .receive s cal meas b .received) ≢ 1 → Leaves placeAt answerAt v s cal meas b
   -- 10 is for a state that is not consistent, and changes nothing
@@ -38,8 +41,9 @@ pub record Demand1 (v : Slave) : Type 0 where
       → (receivedNumber (v .receive s cal meas b .received) ≡ 10) × (v .receive s cal meas b .state ≡ s) × (v .receive s cal meas b .cal ≡ cal)
       × (eventedNumber (v .event s cal meas event clock .evented) ≡ 10) × (v .event s cal meas event clock .state ≡ s)
       × (slottedNumber (v .slot s out .slotted) ≡ 10) × (v .slot s out .state ≡ s) × (v .slot s out .out ≡ out)
-  -- at power-up it is for a state of another size
+  -- at power-up it is for a state of another size; one of the right size gets 0 and is consistent then, whatever it held
   pub noSize : (s : List ℕ) (start : ℕ) → length s ≢ size → (poweredUpNumber (v .powerUp s start .poweredUp) ≡ 10) × (v .powerUp s start .state ≡ s)
+  pub powersUp : (s : List ℕ) (start : ℕ) → length s ≡ size → (poweredUpNumber (v .powerUp s start .poweredUp) ≡ 0) × (consistent (v .powerUp s start .state) ≡ true)
   -- 8 is for an event above 1, and changes nothing
   pub badEvent : (s cal meas : List ℕ) (event clock : ℕ) → consistent s ≡ true → 1 < event
       → (eventedNumber (v .event s cal meas event clock .evented) ≡ 8) × (v .event s cal meas event clock .state ≡ s)

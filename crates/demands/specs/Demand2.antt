@@ -1,23 +1,22 @@
--- What it does on the wire and in memory is what XCP and its SxI transport say, with the choices of document 01. What it sends reads back as the very
--- packet meant. While calibration is locked no calibration byte changes.
+-- What it does on the wire and in memory is what XCP and its SxI transport say, with our choices in document 01. Bytes are read by those rules, and
+-- what it sends reads back by the same rules as the very packet meant. While calibration is locked no calibration byte changes.
 use Prim.Native.Nat.{ℕ, zero, suc, _+_, _*_, _%_, _≤_, _<_}
 use mathlib.Core.Path.{_≡_}
 use mathlib.Core.Logic.{_≢_}
 use mathlib.Core.Bool.{Bool, true, false, cond}
-use mathlib.Core.Option.{some}
 use mathlib.Core.List.{List, [], _∷_, _++_}
 use lib.Dec.{ltb}
 use lib.ListN.{length, getD, take, drop}
 use Rattle.line.specs.Message.{longest, room, frame}
-use Rattle.line.specs.Run.{run as reads}
+use Rattle.line.specs.Run as line
 use Rattle.line.specs.Wire.{heard}
 use Rattle.line.specs.declared.Place.{Place}
-use Rattle.session.specs.Layout.{lists, odts, addressable, sampleSize, placeAt, sampleAt, firstOdt}
+use Rattle.session.specs.Layout.{lists, odts, addressable, sampleSize, placeAt, sampleAt, firstOdt, size}
 use Rattle.session.specs.Bytes.{block}
 use Rattle.session.specs.State.{consistent, ctrOf, openOf, unlockedOf, seedOf, mtaOf, answerOf}
-use Rattle.session.specs.Receive.{Step, heeded}
-use Rattle.session.specs.Event.{samplingOf}
-use Rattle.session.specs.Slot.{turnOf}
+use Rattle.session.specs.Receive.{Step, fedOf, receivedBy}
+use Rattle.session.specs.Event.{samplingOf, captured}
+use Rattle.session.specs.Slot.{turnOf, sentBy}
 use Rattle.session.specs.PowerUp.{powered}
 use Rattle.session.specs.Number.{slottedValue}
 use Rattle.session.specs.declared.Resource.{Resource}
@@ -29,7 +28,7 @@ use Rattle.session.specs.declared.Sampling.the-variants.{Sampled}
 use Rattle.session.specs.declared.Evented.the-variants.{Done}
 use Rattle.demands.specs.Slave.{Slave}
 use Rattle.demands.specs.Runs.{Call, Byte, Event, Slot, Elsewhere, sends, each, frames}
-use Rattle.demands.specs.Heard.{packetEnded, readBy, Commands, keyFor, keyMatches}
+use Rattle.demands.specs.Heard.{Commands, bringsKey, keyMatches}
 use Rattle.demands.specs.Waiting.{AllBut, waitingOf, packetFor, sampleOf, isSampled, isMissed}
 
 -- the packets that are to go, slot by slot: with room enough, that of whose turn it is
@@ -52,7 +51,7 @@ abbrev pub ReadsBack : List (List ℕ) → List ℕ → Type 0
 ReadsBack [] s = packetFor (turnOf s) s ≡ []
 ReadsBack (f ∷ fs) s =
     (fs ≡ []) × (p : List ℕ) × (packetFor (turnOf s) s ≡ p ∷ [])
-    × ((place : Place) (m : List ℕ) → longest ≤ length m → reads place m f ≡ heard place m (ctrOf s) p)
+    × ((place : Place) (m : List ℕ) → longest ≤ length m → line.run place m f ≡ heard place m (ctrOf s) p)
 
 -- the calibration resource is locked, or no session is open
 abbrev pub shut : List ℕ → Bool
@@ -90,11 +89,18 @@ howMany test zero = 0
 howMany test (suc n) = howMany test n + cond (test n) 1 0
 
 pub record Demand2 (v : Slave) : Type 0 where
-  -- bytes are read by the rules of the line, and a good message is heeded as document 01 says
-  pub heeds : (s cal meas : List ℕ) (b : ℕ) (p : List ℕ) → consistent s ≡ true → packetEnded s b ≡ some p → v .receive s cal meas b ≡ heeded p (readBy s b) cal meas
+  -- power-up leaves the one state that document 01 says
+  pub powersUp : (s : List ℕ) (start : ℕ) → length s ≡ size → v .powerUp s start .state ≡ powered start
+  -- every byte is read by the rules of the line, and a good message is heeded as document 01 says
+  pub reads : (s cal meas : List ℕ) (b : ℕ) → consistent s ≡ true → v .receive s cal meas b ≡ receivedBy (fedOf s b) s cal meas
+  -- a slot with room sends for the one whose turn it is; what was sent no longer waits, and nothing else changes
+  pub serves : (s out : List ℕ) → consistent s ≡ true → room ≤ length out → v .slot s out ≡ sentBy (turnOf s) s out
   -- every frame that goes is that of the packet whose turn it was, one frame a slot, and the CTR grows by one per frame
   pub numbers : (s : List ℕ) (cs : List Call) → consistent s ≡ true → ctrOf s < 256 → frames v s cs ≡ numbered (ctrOf s) 0 (due v s cs)
-  pub fromPowerUp : (start : ℕ) (cs : List Call) → frames v (powered start) cs ≡ numbered 0 0 (due v (powered start) cs)
+  -- from power-up on the first CTR is 0
+  pub fromPowerUp : (s : List ℕ) (start : ℕ) (cs : List Call) → length s ≡ size
+      → frames v (v .powerUp s start .state) cs ≡ numbered 0 0 (due v (v .powerUp s start .state) cs)
+  -- what a slot sends is one frame, and reads back as the very packet meant
   pub readsBack : (s out : List ℕ) → consistent s ≡ true → room ≤ length out → ReadsBack (sends v s (Slot out)) s
   -- bytes past the frame stay
   pub restStays : (s out : List ℕ) → AllBut 0 (slottedValue (v .slot s out .slotted)) out (v .slot s out .out)
@@ -109,15 +115,18 @@ pub record Demand2 (v : Slave) : Type 0 where
       → (answerOf (v .receive t (v .receive s cal meas b .cal) meas′ c .state) ≡ 0xFF ∷ block p 2 n) × AllBut a (a + n) cal (v .receive s cal meas b .cal)
   -- a right key unlocks its own resource alone
   pub unlocks : (s cal meas : List ℕ) (b : ℕ) (p : List ℕ) (r : Resource) → consistent s ≡ true
-      → Commands s b p → seedOf s ≡ For r → keyFor p ≡ true → keyMatches p r s ≡ true
+      → Commands s b p → seedOf s ≡ For r → bringsKey p ≡ true → keyMatches p r s ≡ true
       → (unlockedOf (v .receive s cal meas b .state) r ≡ true)
       × (unlockedOf (v .receive s cal meas b .state) (otherLock r) ≡ unlockedOf s (otherLock r))
   -- an event samples the lists that run on it and have no unsent packet, and misses those that have one; exactly these are counted
   pub counts : (s cal meas : List ℕ) (event clock : ℕ) → consistent s ≡ true → event ≤ 1
       → v .event s cal meas event clock .evented ≡ Done (howMany (λ l. isSampled (samplingOf s l event)) lists) (howMany (λ l. isMissed (samplingOf s l event)) lists)
   -- the lists that are sampled gain a sample, each byte as the memories lent to this event hold it
-  pub gains : (s cal meas : List ℕ) (event clock l : ℕ) → consistent s ≡ true → event ≤ 1 → l < lists → samplingOf s l event ≡ Sampled
+  pub samples : (s cal meas : List ℕ) (event clock l : ℕ) → consistent s ≡ true → event ≤ 1 → l < lists → samplingOf s l event ≡ Sampled
       → waitingOf (v .event s cal meas event clock .state) l ≡ sampleOf s l clock cal meas
+  -- which is stored as if that list alone were captured
+  pub stores : (s cal meas : List ℕ) (event clock l : ℕ) → consistent s ≡ true → event ≤ 1 → l < lists → samplingOf s l event ≡ Sampled
+      → block (v .event s cal meas event clock .state) (sampleAt (firstOdt l)) storeSize ≡ block (captured s l clock cal meas) (sampleAt (firstOdt l)) storeSize
   -- no other byte of the state changes
   pub others : (s cal meas : List ℕ) (event clock l : ℕ) → consistent s ≡ true → l < lists → samplingOf s l event ≢ Sampled
       → block (v .event s cal meas event clock .state) (sampleAt (firstOdt l)) storeSize ≡ block s (sampleAt (firstOdt l)) storeSize

@@ -60,15 +60,15 @@ abbrev pub doneAt : List ℕ → List ℕ → List ℕ → ℕ → Option Deed
 doneAt s cal meas b = heeds (packetEnded s b) (readBy s b) cal meas
 
 -- ---- keys: UNLOCK with four key bytes, for the seed that is out
-unfoldable pub keyFor : List ℕ → Bool
-keyFor p = cond (eqb (getD p 0 0) 0xF7) (cond (eqb (getD p 1 0) 4) (not (ltb (length p) 6)) false) false
+unfoldable pub bringsKey : List ℕ → Bool
+bringsKey p = cond (eqb (getD p 0 0) 0xF7) (cond (eqb (getD p 1 0) 4) (not (ltb (length p) 6)) false) false
 
 abbrev pub keyMatches : List ℕ → Resource → List ℕ → Bool
 keyMatches p r s = eqb (u32At p 2) (keyOf r (generatorOf s))
 
 unfoldable pub wrongKeyBy : Seed → List ℕ → List ℕ → Bool
 wrongKeyBy None p s = false
-wrongKeyBy (For r) p s = cond (keyFor p) (not (keyMatches p r s)) false
+wrongKeyBy (For r) p s = cond (bringsKey p) (not (keyMatches p r s)) false
 
 abbrev pub wrongKey : List ℕ → List ℕ → Bool
 wrongKey p s = wrongKeyBy (seedOf s) p s

@@ -8,10 +8,11 @@ use lib.ListN.{length, getD, set, take, drop}
 use Rattle.line.specs.Stuffing.{stuff, onWire}
 use Rattle.line.specs.Message.{sum}
 use Rattle.line.specs.Writer.{atFront}
+use Rattle.line.specs.Number.{outcomeNumber}
 use Rattle.session.specs.Layout.{lists, calibrationAt, listsAt, firstOdt, entryCount}
 use Rattle.session.specs.State.{consistent, ctrOf, maskOf, mtaOf, setMta, waits, answered}
 use Rattle.session.specs.Lists.{storedLength}
-use Rattle.session.specs.Receive.{Step, only, obeyed, heeded, receiveOf}
+use Rattle.session.specs.Receive.{Step, only, obeyed, heeded, fedOf, receiveOf}
 use Rattle.session.specs.Event.{Happened, gathered, stored, eventOf}
 use Rattle.session.specs.Slot.{Slot, turnOf, slotOf}
 use Rattle.session.specs.Number.{slottedValue}
@@ -27,7 +28,7 @@ use Rattle.session.specs.declared.Slotted.{Slotted}
 use Rattle.session.specs.declared.Slotted.the-variants.{Idle, Sent, NoRoom, NoState as SlotNoState}
 use Rattle.demands.specs.Slave.{Slave}
 use Rattle.demands.specs.Heard.{packetEnded, readBy}
-use Rattle.demands.specs.Waiting.{packetFor}
+use Rattle.demands.specs.Waiting.{packetFor, packetInside}
 
 -- ---- ours, but for one call
 abbrev pub receiving : (List ℕ → List ℕ → List ℕ → ℕ → Step) → Slave
@@ -71,6 +72,14 @@ unstored o cal = record { received = o .received; state = o .state; cal = cal }
 
 abbrev pub storesNothing : Slave
 storesNothing = heeding (λ p s cal meas. unstored (heeded p s cal meas) cal)
+
+-- the packet of a message that has just ended, with a right checksum or not
+abbrev pub packetAnyway : List ℕ → ℕ → Option (List ℕ)
+packetAnyway s b = cond (eqb (outcomeNumber (fedOf s b .taken .outcome)) 5) (some (packetInside (fedOf s b .message))) (packetEnded s b)
+
+-- a message whose checksum is wrong is obeyed too
+abbrev pub obeysDamaged : Slave
+obeysDamaged = receiving (λ s cal meas b. cond (consistent s) (heardBy heeded (packetAnyway s b) s cal meas b) (receiveOf s cal meas b))
 
 -- ---- slots
 -- a frame is followed at once by what `rest` sends into the bytes after it
