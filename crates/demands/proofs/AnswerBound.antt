@@ -11,7 +11,7 @@ use Rattle.demands.specs.Slave.{Slave, ours}
 use Rattle.demands.specs.Runs.{Call, Byte, Event, Slot, Elsewhere, run, frames, sends}
 use Rattle.demands.specs.Waiting.{answersIn}
 use Rattle.demands.specs.Demand3.{LeavesWithin, AnsweredBy}
-use Rattle.demands.specs.Exchange.{slot, begins, lastByte, reached, synch, measuring}
+use Rattle.demands.specs.Exchange.{slot, begun, lastByte, reached, synch, measuring}
 use Rattle.demands.proofs.Computed.{computed}
 
 -- ---- in a run that is one slot, that slot is the one
@@ -36,7 +36,7 @@ in-the-first n v s a out w =
 
 -- ---- the run: list 0 runs and the last frame was an answer; an event samples the list, and SYNCH comes
 abbrev calls : List Call
-calls = Event [] (5 ∷ []) 0 0 ∷ begins [] [] synch
+calls = Event [] (5 ∷ []) 0 0 ∷ begun [] [] synch
 
 abbrev started : List ℕ
 started = reached ours (measuring (5 ∷ []) ++ slot ∷ [])

@@ -20,7 +20,7 @@ use Rattle.demands.specs.Slave.{ours}
 use Rattle.demands.specs.Runs.{Call, Byte, Event, Slot, Elsewhere, after, run, sends, each, frames}
 use Rattle.demands.specs.Heard.{stopsAt}
 use Rattle.demands.specs.Waiting.{waitingAnswer, waitingOf, packetFor, isAnswer, isOf, carried, answersIn}
-use Rattle.demands.specs.Kept.{accepts, gains, loses, NothingLost}
+use Rattle.demands.specs.Kept.{accepts, gains, goes as goesOf, NothingLost}
 use Rattle.demands.proofs.Reached.{after-kept}
 use Rattle.demands.proofs.Turns.{Fair, nobody, answer, list, fair}
 use Rattle.demands.proofs.Sends.{turned, framesOf, slot-state, slot-stays, slot-sends, slot-silent}
@@ -90,7 +90,7 @@ stopped-or-kept : (t : Bool) (w : List (List ℕ)) → cond t w [] ++ cond t [] 
 stopped-or-kept true w = refl
 stopped-or-kept false w = sym (append-nil w)
 
-packets-step : (l : ℕ) → l < lists → (s : List ℕ) (c : Call) → consistent s ≡ true → loses ours l s c ++ waitingOf (after ours s c) l ≡ waitingOf s l ++ gains ours l s c
+packets-step : (l : ℕ) → l < lists → (s : List ℕ) (c : Call) → consistent s ≡ true → goesOf ours l s c ++ waitingOf (after ours s c) l ≡ waitingOf s l ++ gains l s c
 packets-step l q s (Byte cal meas b) h = rw (byte-waiting s cal meas b h l q) (stopped-or-kept (stopsAt l s cal meas b) (waitingOf s l))
 packets-step l q s (Event cal meas event clock) h = event-waiting s cal meas event clock l h q
 packets-step l q s (Slot out) h = slot-balanced (isOf l) (λ (t : List ℕ). waitingOf t l) s out h (λ t f. packet-turn s l t (consistent-size s h) q f)
@@ -100,5 +100,5 @@ pub nothing-lost : NothingLost ours
 nothing-lost =
     record {
       answers = λ s cs h. rw (answers-each s cs) (balanced waitingAnswer (λ (t : List ℕ) (c : Call). answersIn (sends ours t c)) (accepts ours) answers-step s cs h);
-      packets = λ s l cs h q. balanced (λ (t : List ℕ). waitingOf t l) (loses ours l) (gains ours l) (packets-step l q) s cs h;
+      packets = λ s l cs h q. balanced (λ (t : List ℕ). waitingOf t l) (goesOf ours l) (gains l) (packets-step l q) s cs h;
     }

@@ -207,7 +207,7 @@ demand1 = record {
       record { state = w .0; memory = w .1 };
   noState = no-state;
   noSize = no-size;
-  powersUp = λ s start e. (powers-up s start e, power-up-consistent s start e);
+  rightSize = λ s start e. (powers-up s start e, power-up-consistent s start e);
   badEvent = bad-event;
   noRoom = no-room;
   otherwise = λ s cal meas out b event clock c. (seven (received s cal meas b c), good-event s cal meas event clock c, good-slot s out c);

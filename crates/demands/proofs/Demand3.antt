@@ -15,7 +15,7 @@ use Rattle.fields.proofs.Kept.{receive-kept}
 use Rattle.demands.specs.Slave.{ours}
 use Rattle.demands.specs.Runs.{Call, run}
 use Rattle.demands.specs.Heard.{packetEnded, readBy, Commands, deedOf, answerTo}
-use Rattle.demands.specs.Demand1.{Leaves}
+use Rattle.demands.specs.Demand1.{ChangesOnly}
 use Rattle.demands.specs.Demand3.{LeavesWithin, AnsweredSoon, AnsweredBy, Demand3}
 use Rattle.demands.proofs.ReadBy.{read-only, read-length, read-waits}
 use Rattle.demands.proofs.Unchanged.{all-but}
@@ -52,7 +52,7 @@ answered-soon s before cal meas b later ctr p c one few e o f =
 
 -- ---- good messages while an answer waits
 unread : (s cal meas : List ℕ) (b : ℕ) (p : List ℕ) → consistent s ≡ true → waits s ≡ true → packetEnded s b ≡ some p
-    → (receiveOf s cal meas b .received ≡ Unread) × Leaves placeAt answerAt ours s cal meas b
+    → (receiveOf s cal meas b .received ≡ Unread) × ChangesOnly placeAt answerAt ours s cal meas b
 unfolding heeded
 unread s cal meas b p c w e =
     let q : heeded p (readBy s b) cal meas ≡ only Unread (readBy s b) cal = simp (read-waits s b c ∙ w) in

@@ -24,7 +24,7 @@ use Rattle.demands.specs.Slave.{ours}
 use Rattle.demands.specs.Runs.{Event}
 use Rattle.demands.specs.Waiting.{AllBut, waitingOf, second, sampleOf, isSampled, isMissed}
 use Rattle.demands.specs.Demand2.{storeSize, howMany}
-use Rattle.demands.specs.Kept.{gains as gainsAt}
+use Rattle.demands.specs.Kept.{gains}
 use Rattle.demands.proofs.Samples.{SameStore, waiting-reads}
 use Rattle.demands.proofs.EventSteps.{sampled-empty, count-sampled, count-missed, unsampled-store, sampled-waits, sampled-store}
 
@@ -98,7 +98,7 @@ is-sampled Sampled e = refl
 is-sampled Missed e = absurd (false-true e)
 
 pub event-waiting : (s cal meas : List ℕ) (event clock l : ℕ) → consistent s ≡ true → l < lists
-    → waitingOf (eventOf s cal meas event clock .state) l ≡ waitingOf s l ++ gainsAt ours l s (Event cal meas event clock)
+    → waitingOf (eventOf s cal meas event clock .state) l ≡ waitingOf s l ++ gains l s (Event cal meas event clock)
 event-waiting s cal meas event clock l c q = go (ltb 1 event) (isSampled (samplingOf s l event)) refl refl where
   go : (t x : Bool) → ltb 1 event ≡ t → isSampled (samplingOf s l event) ≡ x
       → waitingOf (eventOf s cal meas event clock .state) l ≡ waitingOf s l ++ cond t [] (cond x (sampleOf s l clock cal meas) [])

@@ -99,7 +99,7 @@ module _ (v w : Slave) (v1 : Demand1 v) (v2 : Demand2 v) (w1 : Demand1 w) (w2 : 
   power-up-same : (s : List ℕ) (start : ℕ) → v .powerUp s start ≡ w .powerUp s start
   power-up-same s start = elim (ℕ-discrete (length s) size) [ yes e ↦ right e | no e ↦ wrong e ] where
     right : length s ≡ size → v .powerUp s start ≡ w .powerUp s start
-    right e = same-power (powered-up-told _ _ (v1 .powersUp s start e .0 ∙ sym (w1 .powersUp s start e .0))) (v2 .powersUp s start e ∙ sym (w2 .powersUp s start e))
+    right e = same-power (powered-up-told _ _ (v1 .rightSize s start e .0 ∙ sym (w1 .rightSize s start e .0))) (v2 .powersUp s start e ∙ sym (w2 .powersUp s start e))
 
     wrong : length s ≢ size → v .powerUp s start ≡ w .powerUp s start
     wrong e = same-power (powered-up-told _ _ (v1 .noSize s start e .0 ∙ sym (w1 .noSize s start e .0))) (v1 .noSize s start e .1 ∙ sym (w1 .noSize s start e .1))

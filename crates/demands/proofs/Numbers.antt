@@ -15,6 +15,7 @@ use Rattle.session.specs.declared.PoweredUp.{PoweredUp}
 use Rattle.session.specs.declared.PoweredUp.the-variants as power
 use Rattle.session.specs.declared.Reason.{Reason}
 use Rattle.session.specs.declared.Reason.the-variants.{Unknown, TooShort, Locked, Sequence, OutOfRange, DataMissing, ListRuns, ReadOnly, NotInside, CannotStart, WrongKey}
+use Rattle.demands.specs.Numbers.{eventSort, slotSort, reasonSort}
 
 -- what can be told from its number is the same where the numbers are
 told : {A : Type 0} (number : A → ℕ) (sort : A → A) (tell : ℕ → A) → ((a : A) → tell (number a) ≡ sort a) → (a b : A) → number a ≡ number b → sort a ≡ sort b
@@ -48,11 +49,6 @@ pub received-told : (r r′ : Received) → receivedNumber r ≡ receivedNumber 
 received-told = told receivedNumber (λ r. r) heardAs heard-back
 
 -- ---- an event: done, whatever its counts, is 0
-abbrev eventSort : Evented → Evented
-eventSort (event.Done sampled missed) = event.Done 0 0
-eventSort event.BadEvent = event.BadEvent
-eventSort event.NoState = event.NoState
-
 eventAs : ℕ → Evented
 eventAs n = cond (eqb n 8) event.BadEvent (cond (eqb n 10) event.NoState (event.Done 0 0))
 
@@ -66,12 +62,6 @@ pub evented-told : (r r′ : Evented) → eventedNumber r ≡ eventedNumber r′
 evented-told = told eventedNumber eventSort eventAs event-back
 
 -- ---- a slot: with a frame or without, it is 0; the size tells which
-abbrev slotSort : Slotted → Slotted
-slotSort slot.Idle = slot.Idle
-slotSort (slot.Sent n) = slot.Idle
-slotSort slot.NoRoom = slot.NoRoom
-slotSort slot.NoState = slot.NoState
-
 slotAs : ℕ → Slotted
 slotAs n = cond (eqb n 9) slot.NoRoom (cond (eqb n 10) slot.NoState slot.Idle)
 
@@ -98,19 +88,6 @@ pub powered-up-told : (r r′ : PoweredUp) → poweredUpNumber r ≡ poweredUpNu
 powered-up-told = told poweredUpNumber (λ r. r) powerAs power-back
 
 -- ---- the reasons of a refusal: a packet too short and bytes missing in it share 0x21, a lock and a wrong key share 0x25
-abbrev reasonSort : Reason → Reason
-reasonSort Unknown = Unknown
-reasonSort TooShort = TooShort
-reasonSort Locked = Locked
-reasonSort Sequence = Sequence
-reasonSort OutOfRange = OutOfRange
-reasonSort DataMissing = TooShort
-reasonSort ListRuns = ListRuns
-reasonSort ReadOnly = ReadOnly
-reasonSort NotInside = NotInside
-reasonSort CannotStart = CannotStart
-reasonSort WrongKey = Locked
-
 reasonAs : ℕ → Reason
 reasonAs n =
     cond (eqb n 0x20) Unknown

@@ -1,23 +1,12 @@
 -- Of L lists, whatever each has: p packets of one list leave by the counted slot 2 L p. Assumes nothing.
-use Prim.Native.Nat.{ℕ, suc, _+_, _*_, _≤_, _<_}
+use Prim.Native.Nat.{ℕ, suc, _+_, _*_, _≤_}
 use mathlib.Core.Path.{refl, ap}
 use mathlib.Core.Bool.{Bool, true, false}
 use mathlib.Core.List.{List, [], _∷_}
 use native.Mathlib.Omega.{arith}
 use lib.ListN.{length}
 use Rattle.demands.specs.Demand3.{Begins}
-
--- how a run of n counted slots goes for one of L lists, by the packets of it that wait, how many lists on its turn is (1 to L), and whether the
--- last frame was an answer; and which of its packets the run sends. An answer goes after none; or its own next packet goes; or another list's,
--- and its turn is nearer. What comes after its last packet, or after the last slot, does not matter.
-pub data Goes (L : ℕ) : List (List ℕ) → ℕ → Bool → ℕ → List (List ℕ) → Type 0 where
-  all-gone : {far n : ℕ} {last : Bool} {sent : List (List ℕ)} → Goes L [] far last n sent
-  at-end : {q : List (List ℕ)} {far : ℕ} {last : Bool} {sent : List (List ℕ)} → Goes L q far last 0 sent
-  answer-first : {q : List (List ℕ)} {far n : ℕ} {sent : List (List ℕ)} → Goes L q far true n sent → Goes L q far false (suc n) sent
-  own-packet : {p : List ℕ} {q : List (List ℕ)} {far n : ℕ} {last : Bool} {sent : List (List ℕ)} → Goes L q L false n sent
-      → Goes L (p ∷ q) far last (suc n) (p ∷ sent)
-  other-list : {q : List (List ℕ)} {far n : ℕ} {last : Bool} {sent : List (List ℕ)} (nearer : ℕ) → 1 ≤ nearer → nearer < far → Goes L q nearer false n sent
-      → Goes L q far last (suc n) sent
+use Rattle.demands.specs.Ranking.{Proceeds, at-end, answer-first, own-packet, other-list}
 
 abbrev bit : Bool → ℕ
 bit true = 1
@@ -28,7 +17,7 @@ bit-most true = omega arith
 bit-most false = omega arith
 
 -- after the first packet come the others, L lists on each
-leaves-on : (L : ℕ) (p : List ℕ) (q : List (List ℕ)) (far n : ℕ) (last : Bool) (sent : List (List ℕ)) → Goes L (p ∷ q) far last n sent → 1 ≤ far → far ≤ L
+leaves-on : (L : ℕ) (p : List ℕ) (q : List (List ℕ)) (far n : ℕ) (last : Bool) (sent : List (List ℕ)) → Proceeds L (p ∷ q) far last n sent → 1 ≤ far → far ≤ L
     → 2 * (length q * L + far) ≤ n + bit last → Begins (p ∷ q) sent
 leaves-on L p q far n last sent at-end h k e = absurd (omega (arith, bit-most last))
 leaves-on L p q far (suc n) false sent (answer-first g) h k e = leaves-on L p q far n true sent g h k (omega arith)
@@ -38,7 +27,7 @@ leaves-on L p (p′ ∷ q) far (suc n) last (_ ∷ sent) (own-packet g) h k e =
     (r .0, ap (λ xs. p ∷ xs) (r .1))
 leaves-on L p q far (suc n) last sent (other-list nearer a b g) h k e = leaves-on L p q nearer n false sent g a (omega arith) (omega (arith, bit-most last))
 
-pub leaves-whole : (L : ℕ) (q : List (List ℕ)) (far n : ℕ) (last : Bool) (sent : List (List ℕ)) → Goes L q far last n sent → 1 ≤ far → far ≤ L
+pub leaves-whole : (L : ℕ) (q : List (List ℕ)) (far n : ℕ) (last : Bool) (sent : List (List ℕ)) → Proceeds L q far last n sent → 1 ≤ far → far ≤ L
     → 2 * (L * length q) ≤ n → Begins q sent
 leaves-whole L [] far n last sent g h k e = (sent, refl)
 leaves-whole L (p ∷ q) far n last sent g h k e = leaves-on L p q far n last sent g h k (enough (length q) e) where

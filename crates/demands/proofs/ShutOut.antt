@@ -30,28 +30,28 @@ use Rattle.demands.specs.Demand1.{Demand1}
 use Rattle.demands.specs.Demand2.{Demand2, ReadsBack}
 use Rattle.demands.specs.Demand3.{Demand3}
 use Rattle.demands.specs.Wrong.{refusesAlways, silent, alwaysFF, storesNothing, obeysDamaged, allAtOnce, upTo, sumsEscaped, neverSamples, inventsCounts, movesAfterRefusal, readsLate, rereadEach, opensBoth}
-use Rattle.demands.specs.Exchange.{slot, says, asks, askAll, begins, lastByte, reached, connect, synch, seedOfCalibration, keyOfCalibration, upload, uploadFirst, downloadOne, downloading, uploading, measuring}
+use Rattle.demands.specs.Exchange.{slot, says, asks, askAll, begun, lastByte, reached, connect, synch, seedOfCalibration, keyOfCalibration, upload, uploadFirst, downloadOne, downloading, uploading, measuring}
 use Rattle.demands.proofs.Computed.{computed}
 
 -- CONNECT is answered FE
 pub refusesAlways-fails : Demand2 refusesAlways → ⊥
 unfolding computed
 refusesAlways-fails d =
-    let e : _≡_ {A = ℕ} 0xFE 0xFF = ap (λ o. getD (answerOf (o .state)) 0 0) (d .reads (reached refusesAlways (begins [] [] connect)) [] [] (lastByte connect) refl)
+    let e : _≡_ {A = ℕ} 0xFE 0xFF = ap (λ o. getD (answerOf (o .state)) 0 0) (d .reads (reached refusesAlways (begun [] [] connect)) [] [] (lastByte connect) refl)
     in omega arith
 
 -- in a session, SYNCH is not answered
 pub silent-fails : Demand3 silent → ⊥
 unfolding computed
 silent-fails d =
-    let e : _≡_ {A = ℕ} 2 1 = ap receivedNumber (d .answered (reached ours (asks [] [] connect)) (begins [] [] synch) [] [] (lastByte synch) [] 0 synch refl (lit≤ tt) (lit≤ tt) refl refl refl .number)
+    let e : _≡_ {A = ℕ} 2 1 = ap receivedNumber (d .answered (reached ours (asks [] [] connect)) (begun [] [] synch) [] [] (lastByte synch) [] 0 synch refl (lit≤ tt) (lit≤ tt) refl refl refl .number)
     in omega arith
 
 -- CONNECT with a checksum one too high is answered
 pub obeysDamaged-fails : Demand2 obeysDamaged → ⊥
 unfolding computed
 obeysDamaged-fails d =
-    let e : _≡_ {A = ℕ} 1 5 = ap (λ o. receivedNumber (o .received)) (d .reads (reached obeysDamaged (begins [] [] connect)) [] [] (lastByte connect + 1) refl) in omega arith
+    let e : _≡_ {A = ℕ} 1 5 = ap (λ o. receivedNumber (o .received)) (d .reads (reached obeysDamaged (begun [] [] connect)) [] [] (lastByte connect + 1) refl) in omega arith
 
 -- ---- UPLOAD after DOWNLOAD
 -- how a state stands at a byte, and what two commands come to, the second with the memory that the first left
@@ -159,5 +159,5 @@ readsLate-fails d =
 pub opensBoth-fails : Demand2 opensBoth → ⊥
 unfolding computed
 opensBoth-fails d =
-    let e : _≡_ {A = ℕ} 1 0 = ap (λ t. cond t 1 0) (d .unlocks (reached opensBoth (askAll [] [] (connect ∷ seedOfCalibration ∷ []) ++ begins [] [] keyOfCalibration)) [] [] (lastByte keyOfCalibration) keyOfCalibration Calibration refl (record { ends = refl; opened = refl; free = refl }) refl refl refl .1)
+    let e : _≡_ {A = ℕ} 1 0 = ap (λ t. cond t 1 0) (d .unlocks (reached opensBoth (askAll [] [] (connect ∷ seedOfCalibration ∷ []) ++ begun [] [] keyOfCalibration)) [] [] (lastByte keyOfCalibration) keyOfCalibration Calibration refl (record { ends = refl; opened = refl; free = refl }) refl refl refl .1)
     in omega arith

@@ -87,11 +87,11 @@ goes-on c s a cs m n g h e =
       out = g .out;
       later = g .later;
       split = ap (λ l. c ∷ l) (g .split);
-      counts = g .counts;
+      roomy = g .roomy;
       early = omega (arith, slots-cons c (g .before), g .early);
-      silent = carried-append isAnswer (sends ours s c) (frames ours (after ours s c) (g .before)) ∙ rw (e, g .silent);
+      noneBefore = carried-append isAnswer (sends ours s c) (frames ours (after ours s c) (g .before)) ∙ rw (e, g .noneBefore);
       sent = g .sent;
-      gone = g .gone;
+      noneAfter = g .noneAfter;
     }
 
 -- ---- a slot with room
@@ -115,11 +115,11 @@ slot-by cs a last s out w r h later _ e now =
       out = out;
       later = cs;
       split = refl;
-      counts = r;
+      roomy = r;
       early = need-some last;
-      silent = refl;
+      noneBefore = refl;
       sent = slot-sends s out c r ∙ ap (λ t. framesOf (ctrOf s) (packetFor t s)) e ∙ ap (λ x. frame (ctrOf s) x ∷ []) (w .answer);
-      gone = ap waits (slot-state s out c r ∙ ap (λ t. turned t s) e) ∙ answerSent-waits s (consistent-size s c);
+      noneAfter = ap waits (slot-state s out c r ∙ ap (λ t. turned t s) e) ∙ answerSent-waits s (consistent-size s c);
     }
 slot-by cs a last s out w r h later _ e (next j k n f) =
     let c : consistent s ≡ true = w .fit in
@@ -183,11 +183,11 @@ within-two h g =
       out = g .out;
       later = g .later;
       split = g .split;
-      counts = g .counts;
+      roomy = g .roomy;
       early = omega (arith, g .early);
-      silent = g .silent;
+      noneBefore = g .noneBefore;
       sent = g .sent;
-      gone = g .gone;
+      noneAfter = g .noneAfter;
     }
 
 pub answer-leaves : (s : List ℕ) (cs : List Call) → consistent s ≡ true → waits s ≡ true → 2 ≤ slots cs → LeavesWithin 2 ours s (answerOf s) cs

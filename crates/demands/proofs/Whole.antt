@@ -27,7 +27,8 @@ use Rattle.demands.specs.Runs.{Call, Byte, Event, Slot, Elsewhere, sends
 use Rattle.demands.specs.Waiting.{waitingOf, packetFor, sampleOf, isSampled, isOf, packetsIn}
 use Rattle.demands.specs.Demand3.{Undisturbed, Begins}
 use Rattle.demands.specs.Kept.{gains}
-use Rattle.demands.proofs.Ranking.{Goes, all-gone, at-end, answer-first, own-packet, other-list, leaves-whole}
+use Rattle.demands.specs.Ranking.{Proceeds, all-gone, at-end, answer-first, own-packet, other-list}
+use Rattle.demands.proofs.Ranking.{leaves-whole}
 use Rattle.demands.proofs.Round.{Far, far-of}
 use Rattle.demands.proofs.Turns.{Next, Moves, by-answer, by-own, by-other, moves}
 use Rattle.demands.proofs.Sends.{turned, framesOf, slot-state, slot-stays, slot-sends, slot-silent}
@@ -35,7 +36,7 @@ use Rattle.demands.proofs.After.{answer-last, answer-served, answer-wai
 use Rattle.demands.proofs.Carried.{carried-append, carries, carries-none, packet-own, packet-other, answer-of-none}
 use Rattle.demands.proofs.ByteKeeps.{byte-waiting, byte-round}
 use Rattle.demands.proofs.EventSteps.{sampled-empty}
-use Rattle.demands.proofs.Events.{samples as gained, sample-length, event-waiting, event-front}
+use Rattle.demands.proofs.Events.{samples, sample-length, event-waiting, event-front}
 use Rattle.demands.proofs.Soon.{counted, uncounted}
 
 -- ---- what the round sees of list l in a state
@@ -47,7 +48,7 @@ record Seen (l far : ℕ) (last : Bool) (q : List (List ℕ)) (s : List ℕ) : T
 
 abbrev Later : ℕ → List Call → Type 0
 Later l cs = (far : ℕ) (last : Bool) (q : List (List ℕ)) (s : List ℕ) → Seen l far last q s → 1 ≤ far → far ≤ lists → Undisturbed ours l s cs
-    → Goes lists q far last (slots cs) (packetsIn l (frames ours s cs))
+    → Proceeds lists q far last (slots cs) (packetsIn l (frames ours s cs))
 
 -- a call that leaves the round and the list's packets
 seen-on : {l far : ℕ} {last : Bool} {q : List (List ℕ)} {s t : List ℕ} → consistent t ≡ true → Same 8 11 s t → waitingOf t l ≡ waitingOf s l → Seen l far last q s → Seen l far last q t
@@ -60,7 +61,7 @@ seen-on {far = far} {s = s} {t = t} c r w x =
     }
 
 -- ---- a list with packets waiting gains none
-no-gain : (s cal meas : List ℕ) (event clock l : ℕ) (p : List ℕ) (ps : List (List ℕ)) → waitingOf s l ≡ p ∷ ps → gains ours l s (Event cal meas event clock) ≡ []
+no-gain : (s cal meas : List ℕ) (event clock l : ℕ) (p : List ℕ) (ps : List (List ℕ)) → waitingOf s l ≡ p ∷ ps → gains l s (Event cal meas event clock) ≡ []
 no-gain s cal meas event clock l p ps e =
     cond-ind (λ (x : List (List ℕ)). x ≡ []) (ltb 1 event) (λ _. refl) (λ _. go (samplingOf s l event) refl) where
       empty : [] ≡ p ∷ ps → ⊥
@@ -89,7 +90,7 @@ sent-on l s out cs t xs c r e x =
 module _ (l : ℕ) (inside : l < lists) (cs : List Call) (later : Later l cs) (s out : List ℕ) (r : room ≤ length out) (k : Undisturbed ours l (slotOf s out .state) cs) where
   -- an answer went
   by-the-answer : (far : ℕ) (q : List (List ℕ)) → Seen l far false q s → 1 ≤ far → far ≤ lists → turnOf s ≡ Answer → isOf l (answerOf s) ≡ false
-      → Goes lists q far false (suc (slots cs)) (packetsIn l (frames ours s (Slot out ∷ cs)))
+      → Proceeds lists q far false (suc (slots cs)) (packetsIn l (frames ours s (Slot out ∷ cs)))
   by-the-answer far q x a b e n =
       let c : consistent s ≡ true = x .fit in
       let st : slotOf s out .state ≡ answerSent s = slot-state s out c r ∙ ap (λ t. turned t s) e in
@@ -100,7 +101,7 @@ module _ (l : ℕ) (inside : l < lists) (cs : List Call) (later : Later l cs) (s
         flag = rw st (answer-last s (consistent-size s c));
         turn = rw (st, answer-served s) (x .turn);
       } in
-      subst (λ (z : List (List ℕ)). Goes lists q far false (suc (slots cs)) z) (sym (sent-on l s out cs Answer [] c r e (carries-none (isOf l) (ctrOf s) (answerOf s) n)))
+      subst (λ (z : List (List ℕ)). Proceeds lists q far false (suc (slots cs)) z) (sym (sent-on l s out cs Answer [] c r e (carries-none (isOf l) (ctrOf s) (answerOf s) n)))
       (answer-first (later far true q (slotOf s out .state) y a b k))
 
   -- a packet of list j went, and then list l is `near` lists on
@@ -117,7 +118,7 @@ module _ (l : ℕ) (inside : l < lists) (cs : List Call) (later : Later l cs) (s
       }
 
   by-its-own : (far : ℕ) (last : Bool) (m : ℕ) → Next s l m → consistent s ≡ true → turnOf s ≡ Packet m
-      → Goes lists (waitingOf s l) far last (suc (slots cs)) (packetsIn l (frames ours s (Slot out ∷ cs)))
+      → Proceeds lists (waitingOf s l) far last (suc (slots cs)) (packetsIn l (frames ours s (Slot out ∷ cs)))
   by-its-own far last m n c e =
       let w : (l + lists) % lists ≡ l = omega arith in
       let y = seen-packet l m lists (n .rest) n c e (n .left) w in
@@ -125,16 +126,16 @@ module _ (l : ℕ) (inside : l < lists) (cs : List Call) (later : Later l cs) (s
       (own-packet (later lists false (n .rest) (slotOf s out .state) y (lit≤ tt) (omega arith) k))
 
   by-another : (far : ℕ) (last : Bool) (q : List (List ℕ)) (j m near : ℕ) → Seen l far last q s → Next s j m → (l ≡ j → ⊥) → 1 ≤ near → near < far → far ≤ lists → (j + near) % lists ≡ l
-      → turnOf s ≡ Packet m → Goes lists q far last (suc (slots cs)) (packetsIn l (frames ours s (Slot out ∷ cs)))
+      → turnOf s ≡ Packet m → Proceeds lists q far last (suc (slots cs)) (packetsIn l (frames ours s (Slot out ∷ cs)))
   by-another far last q j m near x n ne a b d t e =
       let c : consistent s ≡ true = x .fit in
       let y = seen-packet j m near q n c e (n .others l inside ne ∙ x .waiting) t in
-      subst (λ (z : List (List ℕ)). Goes lists q far last (suc (slots cs)) z)
+      subst (λ (z : List (List ℕ)). Proceeds lists q far last (suc (slots cs)) z)
       (sym (sent-on l s out cs (Packet m) [] c r e (carries-none (isOf l) (ctrOf s) (packetOf s m) (packet-other s l j m (n .odt) (n .list) ne))))
       (other-list near a b (later near false q (slotOf s out .state) y a (omega arith) k))
 
   by-turn : (far : ℕ) (last : Bool) (q : List (List ℕ)) (t : Turn) → Seen l far last q s → 1 ≤ far → far ≤ lists → turnOf s ≡ t → Moves s l far t
-      → Goes lists q far last (suc (slots cs)) (packetsIn l (frames ours s (Slot out ∷ cs)))
+      → Proceeds lists q far last (suc (slots cs)) (packetsIn l (frames ours s (Slot out ∷ cs)))
   by-turn far last q _ x a b e (by-answer w f) =
       let n = answer-of-none l (answerOf s) (answer-answers s (consistent-size s (x .fit)) w) in
       let g : last ≡ false = sym (x .flag) ∙ f in
@@ -154,17 +155,17 @@ goes-so l h (Event cal meas event clock ∷ cs) far last (p ∷ ps) s x u v k =
     goes-so l h cs far last (p ∷ ps) (eventOf s cal meas event clock .state) (event-seen s cal meas event clock l far last p ps h x) u v k
 goes-so l h (Slot out ∷ cs) far last [] s x u v k = all-gone
 goes-so l h (Slot out ∷ cs) far last (p ∷ ps) s x u v k = elim (decLe room (length out)) [ yes r ↦ with-room r (goes-so l h cs) | no r ↦ without (lt-of-not-le r) (goes-so l h cs) ] where
-  with-room : room ≤ length out → Later l cs → Goes lists (p ∷ ps) far last (slots (Slot out ∷ cs)) (packetsIn l (frames ours s (Slot out ∷ cs)))
+  with-room : room ≤ length out → Later l cs → Proceeds lists (p ∷ ps) far last (slots (Slot out ∷ cs)) (packetsIn l (frames ours s (Slot out ∷ cs)))
   with-room r later =
       rw (counted out (slots cs) r)
       (by-turn l h cs later s out r k far last (p ∷ ps) (turnOf s) x u v refl
       (moves s l p ps (consistent-size s (x .fit)) h (x .waiting) (record { far = far; some = u; most = v; turn = x .turn })))
 
-  without : length out < room → Later l cs → Goes lists (p ∷ ps) far last (slots (Slot out ∷ cs)) (packetsIn l (frames ours s (Slot out ∷ cs)))
+  without : length out < room → Later l cs → Proceeds lists (p ∷ ps) far last (slots (Slot out ∷ cs)) (packetsIn l (frames ours s (Slot out ∷ cs)))
   without r later =
       let st : slotOf s out .state ≡ s = slot-stays s out (x .fit) r in
       rw (uncounted out (slots cs) r, slot-silent s out (x .fit) r)
-      (subst (λ (t : List ℕ). Goes lists (p ∷ ps) far last (slots cs) (packetsIn l (frames ours t cs))) (sym st)
+      (subst (λ (t : List ℕ). Proceeds lists (p ∷ ps) far last (slots cs) (packetsIn l (frames ours t cs))) (sym st)
       (later far last (p ∷ ps) s x u v (subst (λ (t : List ℕ). Undisturbed ours l t cs) st k)))
 goes-so l h (Elsewhere ∷ cs) far last q s x u v k = goes-so l h cs far last q s x u v k
 
@@ -181,7 +182,7 @@ pub sample-leaves : (s cal meas : List ℕ) (event clock l : ℕ) (cs : List Cal
     → Undisturbed ours l (eventOf s cal meas event clock .state) cs → 16 ≤ slots cs
     → Begins (sampleOf s l clock cal meas) (packetsIn l (frames ours (eventOf s cal meas event clock .state) cs))
 sample-leaves s cal meas event clock l cs c one h x k e =
-    let g : waitingOf (eventOf s cal meas event clock .state) l ≡ sampleOf s l clock cal meas = gained s cal meas event clock l c one h x in
+    let g : waitingOf (eventOf s cal meas event clock .state) l ≡ sampleOf s l clock cal meas = samples s cal meas event clock l c one h x in
     let n : length (sampleOf s l clock cal meas) ≤ 2 = sample-length s l clock cal meas in
     let m : length (waitingOf (eventOf s cal meas event clock .state) l) ≤ 2 = rw g n in
     rw g at (leaves-all (eventOf s cal meas event clock .state) l cs (event-kept s cal meas event clock c) h k (omega arith))

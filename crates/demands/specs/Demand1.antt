@@ -14,8 +14,8 @@ use Rattle.demands.specs.Slave.{Slave}
 use Rattle.demands.specs.Heard.{readBy, Commands, wrongKey, wrongKeyAt}
 use Rattle.demands.specs.Waiting.{AllBut}
 
--- a received byte leaves the calibration memory, and of the state all but the bytes from lo up to hi
-pub record Leaves (lo hi : ℕ) (v : Slave) (s cal meas : List ℕ) (b : ℕ) : Type 0 where
+-- a received byte changes only the state's bytes from lo up to hi, and no calibration byte
+pub record ChangesOnly (lo hi : ℕ) (v : Slave) (s cal meas : List ℕ) (b : ℕ) : Type 0 where
   pub state : AllBut lo hi s (v .receive s cal meas b .state)
   pub memory : v .receive s cal meas b .cal ≡ cal
 
@@ -26,7 +26,7 @@ pub record Refused (v : Slave) (s cal meas : List ℕ) (b : ℕ) : Type 0 where
 
 pub record Demand1 (v : Slave) : Type 0 where
   -- a refused command, a wrong key apart, changes the reader's place and the answer alone
-  pub refused : (s cal meas : List ℕ) (b : ℕ) → consistent s ≡ true → Refused v s cal meas b → wrongKeyAt s b ≡ false → Leaves placeAt size v s cal meas b
+  pub refused : (s cal meas : List ℕ) (b : ℕ) → consistent s ≡ true → Refused v s cal meas b → wrongKeyAt s b ≡ false → ChangesOnly placeAt size v s cal meas b
   -- after a wrong key every state byte but the answer is DISCONNECT's, which closes the session; and no memory byte has changed
   pub wrongKeyEnds : (s cal meas : List ℕ) (b : ℕ) (p : List ℕ) → consistent s ≡ true → Commands s b p → wrongKey p s ≡ true
       → AllBut answerAt size (closed (readBy s b)) (v .receive s cal meas b .state) × (v .receive s cal meas b .cal ≡ cal)
@@ -35,7 +35,7 @@ pub record Demand1 (v : Slave) : Type 0 where
       → Commands s b p → wrongKey p s ≡ true → Commands t c q → getD q 0 0 ≡ 0xFE
       → take placeAt (v .receive s cal meas b .state) ≡ take placeAt (v .receive t cal′ meas′ c .state)
   -- the numbers 0 and 2 to 7 of a byte change the reader's place alone
-  pub unanswered : (s cal meas : List ℕ) (b : ℕ) → consistent s ≡ true → receivedNumber (v .receive s cal meas b .received) ≢ 1 → Leaves placeAt answerAt v s cal meas b
+  pub unanswered : (s cal meas : List ℕ) (b : ℕ) → consistent s ≡ true → receivedNumber (v .receive s cal meas b .received) ≢ 1 → ChangesOnly placeAt answerAt v s cal meas b
   -- 10 is for a state that is not consistent, and changes nothing
   pub noState : (s cal meas out : List ℕ) (b event clock : ℕ) → consistent s ≡ false
       → (receivedNumber (v .receive s cal meas b .received) ≡ 10) × (v .receive s cal meas b .state ≡ s) × (v .receive s cal meas b .cal ≡ cal)
@@ -43,7 +43,7 @@ pub record Demand1 (v : Slave) : Type 0 where
       × (slottedNumber (v .slot s out .slotted) ≡ 10) × (v .slot s out .state ≡ s) × (v .slot s out .out ≡ out)
   -- at power-up it is for a state of another size; one of the right size gets 0 and is consistent then, whatever it held
   pub noSize : (s : List ℕ) (start : ℕ) → length s ≢ size → (poweredUpNumber (v .powerUp s start .poweredUp) ≡ 10) × (v .powerUp s start .state ≡ s)
-  pub powersUp : (s : List ℕ) (start : ℕ) → length s ≡ size → (poweredUpNumber (v .powerUp s start .poweredUp) ≡ 0) × (consistent (v .powerUp s start .state) ≡ true)
+  pub rightSize : (s : List ℕ) (start : ℕ) → length s ≡ size → (poweredUpNumber (v .powerUp s start .poweredUp) ≡ 0) × (consistent (v .powerUp s start .state) ≡ true)
   -- 8 is for an event above 1, and changes nothing
   pub badEvent : (s cal meas : List ℕ) (event clock : ℕ) → consistent s ≡ true → 1 < event
       → (eventedNumber (v .event s cal meas event clock .evented) ≡ 8) × (v .event s cal meas event clock .state ≡ s)

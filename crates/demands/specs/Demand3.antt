@@ -15,7 +15,7 @@ use Rattle.demands.specs.Slave.{Slave}
 use Rattle.demands.specs.Runs.{Call, Byte, Event, Slot, Elsewhere, after, run, frames, sends, slots, received}
 use Rattle.demands.specs.Heard.{packetEnded, readBy, answerTo, stopsAt}
 use Rattle.demands.specs.Waiting.{waitingOf, sampleOf, answersIn, packetsIn}
-use Rattle.demands.specs.Demand1.{Leaves}
+use Rattle.demands.specs.Demand1.{ChangesOnly}
 
 -- the answer a leaves in one of the first n counted slots of cs: before it no answer does, and after it none waits
 pub record LeavesWithin (n : ℕ) (v : Slave) (s : List ℕ) (a : List ℕ) (cs : List Call) : Type 0 where
@@ -23,11 +23,11 @@ pub record LeavesWithin (n : ℕ) (v : Slave) (s : List ℕ) (a : List ℕ) (cs 
   pub out : List ℕ
   pub later : List Call
   pub split : cs ≡ before ++ Slot out ∷ later
-  pub counts : room ≤ length out
+  pub roomy : room ≤ length out
   pub early : slots before < n
-  pub silent : answersIn (frames v s before) ≡ []
+  pub noneBefore : answersIn (frames v s before) ≡ []
   pub sent : sends v (run v s before) (Slot out) ≡ frame (ctrOf (run v s before)) a ∷ []
-  pub gone : waits (after v (run v s before) (Slot out)) ≡ false
+  pub noneAfter : waits (after v (run v s before) (Slot out)) ≡ false
 
 -- byte b ends command p in state s: it is answered, and the answer that the definitions give leaves in one of the first n counted slots after
 pub record AnsweredSoon (n : ℕ) (v : Slave) (s cal meas : List ℕ) (b : ℕ) (p : List ℕ) (later : List Call) : Type 0 where
@@ -79,7 +79,7 @@ pub record Demand3 (v : Slave) : Type 0 where
   pub leaves : (s : List ℕ) (cs : List Call) → consistent s ≡ true → waits s ≡ true → 2 ≤ slots cs → LeavesWithin 2 v s (answerOf s) cs
   -- good messages meanwhile are number 6 and change the reader's place alone
   pub meanwhile : (s cal meas : List ℕ) (b : ℕ) (p : List ℕ) → consistent s ≡ true → waits s ≡ true → packetEnded s b ≡ some p
-      → (v .receive s cal meas b .received ≡ Unread) × Leaves placeAt answerAt v s cal meas b
+      → (v .receive s cal meas b .received ≡ Unread) × ChangesOnly placeAt answerAt v s cal meas b
   -- p packets of a list leave by the counted slot 2 L p, and so a sample by the sixteenth
   pub whole : WholeBy (λ p. 2 * (lists * p)) v
   pub sampled : SampledBy 16 v

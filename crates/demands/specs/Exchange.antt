@@ -28,8 +28,8 @@ askAll cal meas [] = []
 askAll cal meas (p ∷ ps) = asks cal meas p ++ askAll cal meas ps
 
 -- command p but for its last byte; that byte
-abbrev pub begins : List ℕ → List ℕ → List ℕ → List Call
-begins cal meas p = bytes cal meas (take (length (frame 0 p) - 1) (frame 0 p))
+abbrev pub begun : List ℕ → List ℕ → List ℕ → List Call
+begun cal meas p = bytes cal meas (take (length (frame 0 p) - 1) (frame 0 p))
 
 abbrev pub lastByte : List ℕ → ℕ
 lastByte p = getD (frame 0 p) (length (frame 0 p) - 1) 0
@@ -81,10 +81,10 @@ listable = askAll [] [] (connect ∷ seedOfLists ∷ keyOfLists ∷ [])
 
 -- a session up to DOWNLOAD of one byte to the first place, but for its last byte; one up to UPLOAD from there likewise
 abbrev pub downloading : ℕ → List ℕ → List Call
-downloading b cal = writable ++ (asks cal [] (mtaTo 0 0) ++ begins cal [] (downloadOne b))
+downloading b cal = writable ++ (asks cal [] (mtaTo 0 0) ++ begun cal [] (downloadOne b))
 
 abbrev pub uploading : List ℕ → ℕ → List Call
-uploading cal n = askAll cal [] (connect ∷ mtaTo 0 0 ∷ []) ++ begins cal [] (upload n)
+uploading cal n = askAll cal [] (connect ∷ mtaTo 0 0 ∷ []) ++ begun cal [] (upload n)
 
 -- ---- lists: the pointer; an entry of n bytes, the first of the measured values; event 0; a start
 abbrev pub pointTo : ℕ → ℕ → ℕ → List ℕ

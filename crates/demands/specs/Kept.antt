@@ -36,25 +36,27 @@ abbrev pub accepted : Slave → List ℕ → List Call → List (List ℕ)
 accepted v s cs = each (accepts v) v s cs
 
 -- list l gains a sample at an event alone
-abbrev pub gains : Slave → ℕ → List ℕ → Call → List (List ℕ)
-gains v l s (Byte cal meas b) = []
-gains v l s (Event cal meas event clock) = cond (ltb 1 event) [] (cond (isSampled (samplingOf s l event)) (sampleOf s l clock cal meas) [])
-gains v l s (Slot out) = []
-gains v l s Elsewhere = []
+abbrev pub gains : ℕ → List ℕ → Call → List (List ℕ)
+gains l s (Byte cal meas b) = []
+gains l s (Event cal meas event clock) = cond (ltb 1 event) [] (cond (isSampled (samplingOf s l event)) (sampleOf s l clock cal meas) [])
+gains l s (Slot out) = []
+gains l s Elsewhere = []
 
 abbrev pub gained : Slave → ℕ → List ℕ → List Call → List (List ℕ)
-gained v l s cs = each (gains v l) v s cs
+gained v l s cs = each (gains l) v s cs
 
 -- its packets go when a slot sends them, or when it is stopped or its session ends or is renewed, and then all at once
-abbrev pub loses : Slave → ℕ → List ℕ → Call → List (List ℕ)
-loses v l s (Byte cal meas b) = cond (stopsAt l s cal meas b) (waitingOf s l) []
-loses v l s (Event cal meas event clock) = []
-loses v l s (Slot out) = packetsIn l (sends v s (Slot out))
-loses v l s Elsewhere = []
+abbrev pub goes : Slave → ℕ → List ℕ → Call → List (List ℕ)
+goes v l s (Byte cal meas b) = cond (stopsAt l s cal meas b) (waitingOf s l) []
+goes v l s (Event cal meas event clock) = []
+goes v l s (Slot out) = packetsIn l (sends v s (Slot out))
+goes v l s Elsewhere = []
 
-abbrev pub lost : Slave → ℕ → List ℕ → List Call → List (List ℕ)
-lost v l s cs = each (loses v l) v s cs
+abbrev pub gone : Slave → ℕ → List ℕ → List Call → List (List ℕ)
+gone v l s cs = each (goes v l) v s cs
 
 pub record NothingLost (v : Slave) : Type 0 where
+  -- the answers sent and the one that waits are the one that waited and those accepted since
   pub answers : (s : List ℕ) (cs : List Call) → consistent s ≡ true → answersIn (frames v s cs) ++ waitingAnswer (run v s cs) ≡ waitingAnswer s ++ accepted v s cs
-  pub packets : (s : List ℕ) (l : ℕ) (cs : List Call) → consistent s ≡ true → l < lists → lost v l s cs ++ waitingOf (run v s cs) l ≡ waitingOf s l ++ gained v l s cs
+  -- of each list the packets gone and those that wait are those that waited and those gained since
+  pub packets : (s : List ℕ) (l : ℕ) (cs : List Call) → consistent s ≡ true → l < lists → gone v l s cs ++ waitingOf (run v s cs) l ≡ waitingOf s l ++ gained v l s cs

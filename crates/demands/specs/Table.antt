@@ -14,15 +14,15 @@ use Rattle.session.specs.declared.Resource.the-variants.{Calibration, Lists}
 use Rattle.demands.specs.Slave.{ours}
 use Rattle.demands.specs.Runs.{Call, Event, run, frames}
 use Rattle.demands.specs.Waiting.{packetRead}
-use Rattle.demands.specs.Exchange.{slot, bytes, asks, askAll, begins, reached, connect, synch, seedOfCalibration, seedOfLists, keyOfCalibration, keyOfLists, mtaTo, uploadFirst, writable, listable, pointTo, entryOf, onEvent0, start}
+use Rattle.demands.specs.Exchange.{slot, bytes, asks, askAll, begun, reached, connect, synch, seedOfCalibration, seedOfLists, keyOfCalibration, keyOfLists, mtaTo, uploadFirst, writable, listable, pointTo, entryOf, onEvent0, start}
 
 pub record Row : Type 0 where
   pub number : ℕ
   pub comesTo : List ℕ
-  pub says : List ℕ
+  pub sheet : List ℕ
 
 abbrev pub row : ℕ → List ℕ → List ℕ → Row
-row n got told = record { number = n; comesTo = got; says = told }
+row n got told = record { number = n; comesTo = got; sheet = told }
 
 -- the last frame that ours sends in a run from state s; the answer in it
 abbrev pub lastIn : List (List ℕ) → List ℕ
@@ -49,7 +49,7 @@ writableAt a b = reached ours (writable ++ asks [] [] (mtaTo a b))
 
 -- the same, with DOWNLOAD of 6 but for its last byte
 abbrev pub sixBegunAt : ℕ → ℕ → List ℕ
-sixBegunAt a b = run ours (writableAt a b) (begins [] [] (download 6))
+sixBegunAt a b = run ours (writableAt a b) (begun [] [] (download 6))
 
 -- the answer to DOWNLOAD of 6 with 4,096 bytes lent
 abbrev pub sixAt : ℕ → ℕ → List ℕ
@@ -97,4 +97,4 @@ table =
 -- every row comes to what the sheet says
 abbrev pub Holds : List Row → Type 0
 Holds [] = Unit {0}
-Holds (r ∷ rs) = (r .comesTo ≡ r .says) × Holds rs
+Holds (r ∷ rs) = (r .comesTo ≡ r .sheet) × Holds rs

@@ -126,13 +126,13 @@ abbrev pub neverSamples : Slave
 neverSamples = happening (λ s cal meas event clock. record { evented = eventOf s cal meas event clock .evented; state = s })
 
 -- samples are ours; a done event counts one sampled list more
-abbrev pub oneMore : Evented → Evented
-oneMore (Done sampled missed) = Done (suc sampled) missed
-oneMore BadEvent = BadEvent
-oneMore EventNoState = EventNoState
+abbrev pub oneSampledMore : Evented → Evented
+oneSampledMore (Done sampled missed) = Done (suc sampled) missed
+oneSampledMore BadEvent = BadEvent
+oneSampledMore EventNoState = EventNoState
 
 abbrev pub inventsCounts : Slave
-inventsCounts = happening (λ s cal meas event clock. record { evented = oneMore (eventOf s cal meas event clock .evented); state = eventOf s cal meas event clock .state })
+inventsCounts = happening (λ s cal meas event clock. record { evented = oneSampledMore (eventOf s cal meas event clock .evented); state = eventOf s cal meas event clock .state })
 
 -- ---- slips
 -- the MTA moves on by n bytes
