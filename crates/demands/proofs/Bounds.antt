@@ -1,11 +1,11 @@
 -- Runs of ours in which every premise of demand 3 is met, and its bounds are tight: a smaller one fails. Assumes nothing.
-use Prim.Native.Nat.{ℕ, zero, suc, _*_, _-_, _≤_}
+use Prim.Native.Nat.{ℕ, suc, _*_, _-_, _≤_}
 use mathlib.Core.Path.{_≡_, refl, ap, sym, _∙_, subst}
 use mathlib.Core.Bool.{Bool, true, false, cond}
 use mathlib.Core.List.{List, [], _∷_, _++_}
 use native.Mathlib.Omega.{arith}
 use lib.Dec.{lit<, lit≤}
-use lib.ListN.{length, replicate}
+use lib.ListN.{length}
 use Rattle.line.proofs.Laws.{cond-ind}
 use Rattle.line.proofs.Stuffed.{false-true}
 use Rattle.session.specs.Layout.{lists}
@@ -14,11 +14,11 @@ use Rattle.session.specs.Event.{samplingOf}
 use Rattle.session.specs.declared.Sampling.{Sampling}
 use Rattle.session.specs.declared.Sampling.the-variants.{Sampled}
 use Rattle.demands.specs.Slave.{Slave, ours}
-use Rattle.demands.specs.Runs.{Call, Byte, Event, Slot, Elsewhere, after, frames}
+use Rattle.demands.specs.Runs.{Call, Byte, Event, Slot, Elsewhere, after, frames, slots}
 use Rattle.demands.specs.Heard.{stopsAt}
 use Rattle.demands.specs.Waiting.{waitingOf, sampleOf, packetsIn}
 use Rattle.demands.specs.Demand3.{Undisturbed, Begins, WholeBy, SampledBy}
-use Rattle.demands.specs.Exchange.{slot, says, askAll, reached, synch, listable, pointTo, entryOf, onEvent0, start}
+use Rattle.demands.specs.Exchange.{reached, four, sampledAgain, fifteen, sixteen}
 use Rattle.demands.proofs.Computed.{computed}
 
 -- ---- whether a run is undisturbed can be computed
@@ -39,25 +39,6 @@ told v l s (Slot out ∷ cs) e = told v l (after v s (Slot out)) cs e
 told v l s (Elsewhere ∷ cs) e = told v l s cs e
 
 -- ---- the run
-abbrev listed : ℕ → List Call
-listed l = askAll [] (5 ∷ []) (pointTo l 1 0 ∷ entryOf 1 ∷ onEvent0 l ∷ start l ∷ [])
-
--- four lists run, each with one byte in its second ODT; a sample of each has gone, that of list 3 last
-abbrev four : List Call
-four = listable ++ (listed 0 ++ (listed 1 ++ (listed 2 ++ (listed 3 ++ Event [] (5 ∷ []) 0 0 ∷ replicate 8 slot))))
-
--- a command and two slots, n times
-abbrev turns : ℕ → List Call
-turns zero = []
-turns (suc n) = says [] [] synch ++ slot ∷ slot ∷ turns n
-
--- fifteen slots, and sixteen
-abbrev fifteen : List Call
-fifteen = turns 7 ++ (says [] [] synch ++ slot ∷ [])
-
-abbrev sixteen : List Call
-sixteen = turns 8
-
 -- a sample of each list is captured again: what there is to know of it
 record Known : Type 0 where
   sound : Bool
@@ -66,11 +47,9 @@ record Known : Type 0 where
   next : Bool
   waiting : List (List ℕ)
   calm : Bool
+  still : Bool
   early : List (List ℕ)
   late : List (List ℕ)
-
-abbrev sampledAgain : List ℕ → List ℕ
-sampledAgain s = ours .event s [] (6 ∷ []) 0 1 .state
 
 known : List ℕ → Known
 known s =
@@ -81,6 +60,7 @@ known s =
       next = consistent (sampledAgain s);
       waiting = waitingOf (sampledAgain s) 3;
       calm = undisturbed ours 3 (sampledAgain s) fifteen;
+      still = undisturbed ours 3 (sampledAgain s) sixteen;
       early = packetsIn 3 (frames ours (sampledAgain s) fifteen);
       late = packetsIn 3 (frames ours (sampledAgain s) sixteen);
     }
@@ -101,6 +81,7 @@ expected =
       next = true;
       waiting = first ∷ second ∷ [];
       calm = true;
+      still = true;
       early = first ∷ [];
       late = first ∷ second ∷ [];
     }
@@ -131,13 +112,27 @@ not-whole s k d =
     not-both (waitingOf (sampledAgain s) 3) (packetsIn 3 (frames ours (sampledAgain s) fifteen)) (ap (λ x. x .waiting) k) (ap (λ x. x .early) k)
     (d (sampledAgain s) 3 fifteen (ap (λ x. x .next) k) (lit< tt) (calm-known s k) (subst (λ n. 2 * (lists * n) - 1 ≤ 15) (sym two) (lit≤ tt)))
 
--- fifteen slots are not enough for a sample, nor for what waits of a list; sixteen are
+-- fifteen slots are not enough for a sample, nor for what waits of a list
 pub fifteen-are-not-enough : SampledBy 15 ours → ⊥
 fifteen-are-not-enough = not-sampled (reached ours four) computes
 
 pub one-fewer-is-not-enough : WholeBy (λ p. 2 * (lists * p) - 1) ours → ⊥
 one-fewer-is-not-enough = not-whole (reached ours four) computes
 
-pub sixteen-are : packetsIn 3 (frames ours (sampledAgain (reached ours four)) sixteen) ≡ sampleOf (reached ours four) 3 1 [] (6 ∷ [])
+-- sixteen are: all that is asked of such a run holds of this one, and it sends the whole sample
+sixteen-known : (s : List ℕ) → known s ≡ expected
+    → (consistent s ≡ true) × (samplingOf s 3 0 ≡ Sampled) × Undisturbed ours 3 (sampledAgain s) sixteen × (slots sixteen ≡ 16)
+    × (packetsIn 3 (frames ours (sampledAgain s) sixteen) ≡ sampleOf s 3 1 [] (6 ∷ []))
 unfolding known expected
-sixteen-are = ap (λ x. x .late) computes ∙ sym (ap (λ x. x .sample) computes)
+sixteen-known s k = (
+  ap (λ x. x .sound) k,
+  ap (λ x. x .sampling) k,
+  told ours 3 (sampledAgain s) sixteen (ap (λ x. x .still) k),
+  refl,
+  ap (λ x. x .late) k ∙ sym (ap (λ x. x .sample) k),
+)
+
+pub sixteen-are : (consistent (reached ours four) ≡ true) × (samplingOf (reached ours four) 3 0 ≡ Sampled)
+    × Undisturbed ours 3 (sampledAgain (reached ours four)) sixteen × (slots sixteen ≡ 16)
+    × (packetsIn 3 (frames ours (sampledAgain (reached ours four)) sixteen) ≡ sampleOf (reached ours four) 3 1 [] (6 ∷ []))
+sixteen-are = sixteen-known (reached ours four) computes

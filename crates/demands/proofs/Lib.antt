@@ -49,3 +49,4 @@ pub mod Table
 -- Each premise is met, and each bound is tight.
 pub mod Bounds
 pub mod AnswerBound
+pub mod Premises

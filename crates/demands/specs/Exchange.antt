@@ -1,11 +1,11 @@
 -- Exchanges on the bench: commands that a slave hears from power-up with start number 1, and the slots that take its answers.
-use Prim.Native.Nat.{ℕ, _-_}
+use Prim.Native.Nat.{ℕ, zero, suc, _-_}
 use mathlib.Core.List.{List, [], _∷_, _++_, map}
 use lib.ListN.{length, getD, take, replicate}
 use Rattle.line.specs.Message.{room, frame}
 use Rattle.session.specs.PowerUp.{powered}
-use Rattle.demands.specs.Slave.{Slave}
-use Rattle.demands.specs.Runs.{Call, Byte, Slot, run}
+use Rattle.demands.specs.Slave.{Slave, ours}
+use Rattle.demands.specs.Runs.{Call, Byte, Event, Slot, run}
 
 -- a slot with just the room
 abbrev pub slot : Call
@@ -41,6 +41,9 @@ reached v cs = run v (powered 1) cs
 -- ---- commands
 abbrev pub connect : List ℕ
 connect = 0xFF ∷ 0 ∷ []
+
+abbrev pub disconnect : List ℕ
+disconnect = 0xFE ∷ []
 
 abbrev pub synch : List ℕ
 synch = 0xFC ∷ []
@@ -102,3 +105,27 @@ start l = 0xDE ∷ 1 ∷ l ∷ 0 ∷ []
 -- list 0 has one byte, in its second ODT, and runs on event 0; the answer to its start waits
 abbrev pub measuring : List ℕ → List Call
 measuring meas = listable ++ (askAll [] meas (pointTo 0 1 0 ∷ entryOf 1 ∷ onEvent0 0 ∷ []) ++ says [] meas (start 0))
+
+-- so has list l; the answer has gone
+abbrev pub listed : ℕ → List Call
+listed l = askAll [] (5 ∷ []) (pointTo l 1 0 ∷ entryOf 1 ∷ onEvent0 l ∷ start l ∷ [])
+
+-- four lists run, each with one byte in its second ODT; a sample of each has gone, that of list 3 last
+abbrev pub four : List Call
+four = listable ++ (listed 0 ++ (listed 1 ++ (listed 2 ++ (listed 3 ++ Event [] (5 ∷ []) 0 0 ∷ replicate 8 slot))))
+
+-- a command and two slots, n times
+abbrev pub turns : ℕ → List Call
+turns zero = []
+turns (suc n) = says [] [] synch ++ slot ∷ slot ∷ turns n
+
+-- fifteen slots, and sixteen
+abbrev pub fifteen : List Call
+fifteen = turns 7 ++ (says [] [] synch ++ slot ∷ [])
+
+abbrev pub sixteen : List Call
+sixteen = turns 8
+
+-- the event comes again, with another byte and clock 1
+abbrev pub sampledAgain : List ℕ → List ℕ
+sampledAgain s = ours .event s [] (6 ∷ []) 0 1 .state
