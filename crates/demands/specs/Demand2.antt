@@ -93,7 +93,7 @@ pub record Demand2 (v : Slave) : Type 0 where
   pub powersUp : (s : List ℕ) (start : ℕ) → length s ≡ size → v .powerUp s start .state ≡ powered start
   -- every byte is read by the rules of the line, and a good message is heeded as document 01 says
   pub reads : (s cal meas : List ℕ) (b : ℕ) → consistent s ≡ true → v .receive s cal meas b ≡ receivedBy (fedOf s b) s cal meas
-  -- a slot with room sends for the one whose turn it is; what was sent no longer waits, and nothing else changes
+  -- a slot with room sends one frame, of whose turn it is, and what was sent no longer waits
   pub serves : (s out : List ℕ) → consistent s ≡ true → room ≤ length out → v .slot s out ≡ sentBy (turnOf s) s out
   -- every frame that goes is that of the packet whose turn it was, one frame a slot, and the CTR grows by one per frame
   pub numbers : (s : List ℕ) (cs : List Call) → consistent s ≡ true → ctrOf s < 256 → frames v s cs ≡ numbered (ctrOf s) 0 (due v s cs)
