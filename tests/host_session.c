@@ -108,6 +108,7 @@ static const struct {
     const char *command;
 } endings[] = {
     {__LINE__, busy, "FF 00"},
+    {__LINE__, key_wanted, "FF 00"},
     {__LINE__, busy, "FE"},
     {__LINE__, key_wanted, "FE"},
     {__LINE__, key_wanted, "F7 04 00 00 00 00"},
@@ -150,7 +151,7 @@ static void ends(void)
         check_numbers("its answer leaves at once", 1, slot(&r, packet) > 0 && packet[0] >= 0xFE);
         check_numbers("and no sample after it", 0, (uint32_t)slot(&r, packet));
         check_numbers("an event finds nothing", 0, event(&r, 0, 7) + event(&r, 1, 7));
-        if (i > 0)
+        if (strcmp(endings[i].command, "FF 00") != 0)
             ask(&r, CONNECTED, "FF 00");
         probe_open(&r, &after);
         check_bytes("a fresh session", fresh.bytes, fresh.len, after.bytes, after.len);
@@ -223,6 +224,29 @@ static void keys(void)
         ASK(&r, "FF 00", "F8 00 %02X", one); /* open already: the other's seed stays good */
         ASK(&r, "FF 00", "F7 04 %02X %02X %02X %02X", LE32(key_of(r.seed, other)));
         ASK(&r, "FF 00", "F8 00 %02X", other);
+        rig_end(&r);
+    }
+}
+
+/* The key's addition is modulo 2^32: this start number's first seed is FFFFFFFF. */
+static void keys_wrap(void)
+{
+    static const struct {
+        int line;
+        uint8_t resource;
+        const char *unlock, *answer;
+    } cases[] = {
+        {__LINE__, CALIBRATION, "F7 04 00 5D D0 00", "FF 04"},
+        {__LINE__, LISTS, "F7 04 00 FF D9 00", "FF 01"},
+    };
+    for (size_t i = 0; i < COUNT(cases); i++) {
+        struct rig r;
+        ROW(&cases[i]);
+        rig_start(&r, 16, 16, 0x5E6CFCE7);
+        ask(&r, CONNECTED, "FF 00");
+        get_seed(&r, cases[i].resource);
+        check_numbers("seed", 0xFFFFFFFF, r.seed);
+        ask(&r, cases[i].answer, "%s", cases[i].unlock);
         rig_end(&r);
     }
 }
@@ -308,6 +332,7 @@ void test_session(void)
     refused_connect();
     seeds();
     keys();
+    keys_wrap();
     stale_keys();
     key_bits();
     power_up_again();

@@ -53,14 +53,18 @@ static void step(struct rig *r, struct seen *seen, const char *command)
     drain_into(r, seen);
 }
 
-/* Exchanges that show one thing each: status and MTA; what the pointer points at; the lists as
- * they run; the selections, started and stopped; which lists can start; the seed; the generator. */
+/* Exchanges that show one thing each: status and MTA; what the pointer points at, and all entries;
+ * the modes; the lists as they run; the selections, started and stopped; which lists can start; the
+ * seed; the generator. */
 static const char *const exchanges[][12] = {
     {"FD", "F5 07", "F5 01", NULL},
     {"F0 01 EE", "F4 07 00 00 00 00 00 00", NULL},
     {"E1 FF 01 01 05 00 00 00", "DD 00", "E0 10 00 00 00 00 01 00", "E0 10 01 00 00 00 01 00",
      "E0 10 02 00 00 00 01 00", "E0 10 03 00 00 00 01 00", "DE 01 00 00", "DE 01 01 00",
      "DE 01 02 00", "DE 01 03 00", "EV", NULL},
+    {"DD 00", "E2 00 00 00 00 00", "E1 FF 01 01 05 00 00 00", "E2 00 01 00 00 00",
+     "E1 FF 01 01 05 00 00 00", "DE 01 00 00", "DE 01 01 00", "DE 01 02 00", "DE 01 03 00", "EV",
+     NULL},
     {"EV", "FD", NULL},
     {"DD 01", "FD", "EV", NULL},
     {"DD 02", "FD", "EV", NULL},
