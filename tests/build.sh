@@ -25,7 +25,7 @@ build_and_run() {
     "$HOST_CC" -std=c99 -Wall -Wextra -Werror -O1 -Iinclude -o "build/$name" "$@" "$archive" \
         "${libraries[@]}" >"$log" 2>&1 || give_up "build/$name was not built" "$log"
     # A program that breaks without a count still ends in one.
-    run_x86 "build/$name" | tee "$log"
+    tools/x86 "build/$name" | tee "$log"
     local status=${PIPESTATUS[0]}
     if ! tail -n 1 "$log" | grep -qE '^[0-9]+ passed, [0-9]+ failed$'; then
         give_up "build/$name ended with status $status and no count" /dev/null
