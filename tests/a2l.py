@@ -14,6 +14,13 @@ CODES = {
     "GET_DAQ_RESOLUTION_INFO": 0xD9,
 }
 SIZES = {"SIZE_BYTE": 1, "SIZE_WORD": 2, "SIZE_DWORD": 4}
+TYPES = {"UBYTE": 1, "UWORD": 2, "ULONG": 4}
+# How examples/host.c says where what lies: name, place, memory, size, meaning.
+PLACE = r"\b([A-Z]+) = (0x[0-9A-Fa-f]+),?\s*/\* (\w+): (one|two|four) bytes?, (.*?) \*/"
+WORDS = {"one": 1, "two": 2, "four": 4}
+# What GET_DAQ_PROCESSOR_INFO says of the lists, a bit each, and the word that describes it.
+ABILITIES = {0x02: "PRESCALER_SUPPORTED", 0x04: "RESUME_SUPPORTED", 0x08: "STIM", 0x20: "PID_OFF_SUPPORTED"}
+OVERLOAD = ["NO_OVERLOAD_INDICATION", "OVERLOAD_INDICATION_PID", "OVERLOAD_INDICATION_EVENT"]
 
 
 class Block:
@@ -89,14 +96,16 @@ class Checks:
             print(f"{what}: docs/controller.a2l has {described!r}, and {told!r} is right")
 
 
-def protocol(c, xcp):
+def protocol(c, module):
+    xcp = module.one("IF_DATA")
     words = xcp.one("PROTOCOL_LAYER").values()
     (_, resources, mode, cto, dto, dto_high, layer, transport), = asked("FF 00")
     c.same("version of the protocol layer", words[0] >> 8, layer)
     c.same("version of the transport", xcp.one("XCP_ON_SxI").values()[0] >> 8, transport)
     c.same("MAX_CTO", words[8], cto)
     c.same("MAX_DTO", words[9], dto + 256 * dto_high)
-    c.same("byte order", words[10], ["BYTE_ORDER_MSB_LAST", "BYTE_ORDER_MSB_FIRST"][mode & 1])
+    order = ["MSB_LAST", "MSB_FIRST"][mode & 1]
+    c.same("byte order", [words[10], module.one("MOD_COMMON").after("BYTE_ORDER")], [f"BYTE_ORDER_{order}", order])
     c.same("granularity", words[11], ["ADDRESS_GRANULARITY_BYTE", "ADDRESS_GRANULARITY_WORD"][mode >> 1 & 3])
     c.same("calibration and lists, each with a key", "SEED_AND_KEY_EXTERNAL_FUNCTION" in words, resources == 0x05)
     listed = {CODES[words[i + 1]] for i, word in enumerate(words) if word == "OPTIONAL_CMD"}
@@ -120,6 +129,9 @@ def lists(c, daq):
     _, granularity, size, _, _, stamp, ticks, _ = resolution
     c.same("granularity of an entry", words[7] == "GRANULARITY_ODT_ENTRY_SIZE_DAQ_BYTE", granularity == 1)
     c.same("MAX_ODT_ENTRY_SIZE_DAQ", words[8], size)
+    c.same("overload indication", words[9], OVERLOAD[properties >> 6])
+    told = {word for bit, word in ABILITIES.items() if properties & bit}
+    c.same("what lists can do besides", {*words[10:], *daq.blocks} - {"TIMESTAMP_SUPPORTED", "DAQ_LIST", "EVENT"}, told)
     described = daq.one("TIMESTAMP_SUPPORTED").values()
     c.same("timestamps", bool(described), bool(properties & 0x10))
     c.same("tick", described[0], ticks)
@@ -129,6 +141,21 @@ def lists(c, daq):
     c.same("lists described", [one.values()[0] for one in daq.all("DAQ_LIST")], list(range(lists_low)))
     for one in daq.all("DAQ_LIST"):
         each_list(c, one)
+    for one in daq.all("EVENT"):
+        each_event(c, one)
+
+
+def direction(answers):
+    """Of SET_DAQ_LIST_MODE, asked for samples and for stimulation."""
+    return {(True, False): "DAQ", (False, True): "STIM", (True, True): "DAQ_STIM"}[tuple(a == b"\xff" for a in answers)]
+
+
+def each_event(c, one):
+    _, _, number, described, lists, *_ = one.values()
+    c.same(f"direction of event {number}", described,
+           direction(asked(f"E0 10 00 00 {number:02X} 00 01 00", f"E0 12 00 00 {number:02X} 00 01 00")))
+    modes = asked(*(f"E0 10 {which:02X} 00 {number:02X} 00 01 00" for which in range(255)))
+    c.same(f"lists of event {number}", lists, modes.count(b"\xff"))
 
 
 def each_list(c, one):
@@ -137,6 +164,8 @@ def each_list(c, one):
     pointed = (f"E2 00 {number:02X} 00 {odt:02X} {entry:02X}" for odt, entry, _ in places)
     selected, *answers = asked(f"DE 02 {number:02X} 00", *pointed)
     c.same(f"FIRST_PID of list {number}", value(one.after("FIRST_PID")), selected[1])
+    c.same(f"direction of list {number}", one.after("DAQ_LIST_TYPE"),
+           direction(asked(f"E0 10 {number:02X} 00 00 00 01 00", f"E0 12 {number:02X} 00 00 00 01 00")))
     for (odt, entry, there), answer in zip(places, answers):
         c.same(f"entry {entry} of ODT {odt} of list {number}", there, answer == b"\xff")
 
@@ -148,12 +177,56 @@ def checksum(c, segment):
     c.same("MAX_BLOCK_SIZE", described[2], int.from_bytes(refused[4:], "little"))
 
 
+def placed(module, one):
+    """Address, extension, bytes and conversion of a CHARACTERISTIC or MEASUREMENT."""
+    if "ECU_ADDRESS" in one.words:
+        kind, conversion, address = one.words[2], one.words[3], one.after("ECU_ADDRESS")
+    else:
+        layout, = (each for each in module.all("RECORD_LAYOUT") if each.words[0] == one.words[4])
+        kind, conversion, address = layout.words[3], one.words[6], one.words[3]
+    return value(address), value(one.after("ECU_ADDRESS_EXTENSION")), TYPES[kind], conversion
+
+
+def meant(c, module, name, conversion, meaning):
+    """A number in tenths, a number as it is, or words for its values."""
+    method, = (one for one in module.all("COMPU_METHOD") if one.words[0] == conversion)
+    if "COEFFS" in method.words:
+        described = [value(word) for word in method.words[method.words.index("COEFFS") + 1:]]
+        c.same(f"reckoning of {name}", described, [0, 10 if "tenths" in meaning else 1, 0, 0, 0, 1])
+    else:
+        table, = (one for one in module.all("COMPU_VTAB") if one.words[0] == method.after("COMPU_TAB_REF"))
+        c.same(f"words of {name}", [word.strip('"') for word in table.words[4:]], re.findall(r"\w+", meaning))
+
+
+def places(c, module, host):
+    """What lies where, against examples/host.c; gives the memories' sizes by extension."""
+    memories = re.findall(r"static uint8_t (\w+)\[(\d+)\];\s*/\* extension (\d)", host)
+    extensions = {name: int(extension) for name, _, extension in memories}
+    told = {name: (int(at, 0), extensions[memory], WORDS[size], meaning)
+            for name, at, memory, size, meaning in re.findall(PLACE, host)}
+    described = {one.words[0]: one for one in module.all("CHARACTERISTIC") + module.all("MEASUREMENT")}
+    c.same("names", sorted(described), sorted(told))
+    for name, (*place, meaning) in told.items():
+        *at, conversion = placed(module, described[name])
+        c.same(f"address, extension and bytes of {name}", at, place)
+        meant(c, module, name, conversion, meaning)
+    for memory, name, size in re.findall(r"put\((\w+) \+ ([A-Z]+), .*, (\d)\);", host):
+        c.same(f"memory and bytes of {name}, in the host's own code", (extensions[memory], int(size)), told[name][1:3])
+    return {int(extension): int(size) for _, size, extension in memories}
+
+
 def example(c, module):
     host, board = open("examples/host.c").read(), open("examples/board.c").read()
-    places = {name: int(at, 0) for name, at in re.findall(r"\b([A-Z]+) = (0x[0-9A-Fa-f]+)", host)}
-    described = {one.words[0]: value(one.words[3]) for one in module.all("CHARACTERISTIC")}
-    described.update({one.words[0]: value(one.after("ECU_ADDRESS")) for one in module.all("MEASUREMENT")})
-    c.same("places of examples/host.c", described, places)
+    sizes = places(c, module, host)
+    segment = module.one("MOD_PAR", "MEMORY_SEGMENT")
+    extension = segment.one("IF_DATA", "SEGMENT").values()[2]
+    c.same("the segment's extension, first address and size", (extension, *segment.values()[5:7]), (0, 0, sizes[0]))
+    raised = int(re.search(r"xcp_event\([^;]*, (\d+),\s*clock_milliseconds", host).group(1))
+    for one in module.all("MEASUREMENT"):
+        c.same(f"event of {one.words[0]}", value(one.one("IF_DATA", "DAQ_EVENT").after("EVENT")), raised)
+    event, = (e.values() for e in module.one("IF_DATA", "DAQ").all("EVENT") if e.values()[2] == raised)
+    cycle = int(re.search(r"WEIGHING = (\d+) /\* microseconds", board).group(1)) // 1000
+    c.same("cycle of the event, in milliseconds", event[5:7], [cycle, 6])
     sxi = module.one("IF_DATA", "XCP_ON_SxI")
     c.same("baud rate", sxi.values()[1], int(re.search(r"BAUD = (\d+)", board).group(1)))
     c.same("SYNC and ESC", sxi.one("FRAMING").values(), [SYNC, ESC])
@@ -162,9 +235,8 @@ def example(c, module):
 def main():
     c = Checks()
     module = parsed(open("docs/controller.a2l").read()).one("PROJECT", "MODULE")
-    xcp = module.one("IF_DATA")
-    protocol(c, xcp)
-    lists(c, xcp.one("DAQ"))
+    protocol(c, module)
+    lists(c, module.one("IF_DATA", "DAQ"))
     checksum(c, module.one("MOD_PAR", "MEMORY_SEGMENT", "IF_DATA", "SEGMENT"))
     example(c, module)
     print(f"{c.passed} passed, {c.failed} failed")
