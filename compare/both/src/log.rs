@@ -5,8 +5,10 @@ use crate::reference::expected;
 use crate::step::{Call, Step};
 use crate::wire::hex;
 
-/// What the replay program lends.
+/// What the replay program lends: to each memory, and to a slot.
 const REPLAYED: usize = 4096;
+const ROOM: usize = 23;
+/// The longest body of a record.
 const MOST: usize = 64;
 
 /// The words of the first difference, and how many steps lead to it.
@@ -43,17 +45,33 @@ fn shorten(proved: &mut dyn Proved, mut steps: Vec<Step>) -> Vec<Step> {
 
 /// Lends what the replay program lends wherever the difference comes all the same.
 fn plainly_lent(proved: &mut dyn Proved, mut steps: Vec<Step>) -> Vec<Step> {
-    for at in 0..steps.len() {
-        let mut plainer = steps.clone();
-        plainer[at].cal = REPLAYED;
-        plainer[at].meas = REPLAYED;
-        if let Some((end, _)) = first_difference(proved, &plainer) {
-            plainer.truncate(end);
-            steps = plainer;
-            if at + 1 >= end {
+    let mut at = 0;
+    while at < steps.len() {
+        for plain in plainer(&steps[at]) {
+            let mut tried = steps.clone();
+            tried[at] = plain;
+            if let Some((end, _)) = first_difference(proved, &tried) {
+                tried.truncate(end);
+                steps = tried;
                 break;
             }
         }
+        at += 1;
+    }
+    steps
+}
+
+/// The step as the replay program makes it; then with its memories, but a room of its own.
+fn plainer(step: &Step) -> Vec<Step> {
+    let mut steps = vec![Step {
+        cal: REPLAYED,
+        meas: REPLAYED,
+        ..step.clone()
+    }];
+    if let Call::Slot(_) = step.call {
+        let mut roomy = steps[0].clone();
+        roomy.call = Call::Slot(ROOM);
+        steps.insert(0, roomy);
     }
     steps
 }
@@ -92,7 +110,7 @@ fn print_steps(steps: &[Step]) {
         }
         match &step.call {
             Call::Byte(byte) => wire.push(*byte),
-            other => println!("{}", line(other)),
+            other => println!("{}", words(other)),
         }
     }
     flush(&mut wire);
@@ -106,7 +124,8 @@ fn flush(wire: &mut Vec<u8>) {
     }
 }
 
-fn line(call: &Call) -> String {
+/// A call as a record, or as several where one cannot hold it.
+fn words(call: &Call) -> String {
     match call {
         Call::PowerUp(1) => "# power-up".to_string(),
         Call::PowerUp(start) => format!("# power-up with start number {:08X}", start),
@@ -116,12 +135,13 @@ fn line(call: &Call) -> String {
             record(2, &[*event as u8, clock[0], clock[1]])
         }
         Call::Event(event, clock) => format!("# event {} with clock {:04X}", event, clock),
-        Call::Slot(room) if *room >= 23 => record(3, &[]),
+        Call::Slot(ROOM) => record(3, &[]),
         Call::Slot(room) => format!("# slot with room {}", room),
         Call::Measure(at, bytes) if usize::from(*at) + bytes.len() <= REPLAYED => {
-            let mut body = at.to_le_bytes().to_vec();
-            body.extend_from_slice(bytes);
-            record(4, &body)
+            let parts = bytes.chunks(MOST - 2).zip((*at..).step_by(MOST - 2));
+            let records =
+                parts.map(|(part, at)| record(4, &[&at.to_le_bytes()[..], part].concat()));
+            records.collect::<Vec<String>>().join("\n")
         }
         Call::Measure(at, bytes) => format!("# measured bytes at {}: {}", at, hex(bytes)),
     }
