@@ -41,22 +41,8 @@ fn turn(rig: &mut Rig) {
         }
         17..=19 => list(rig),
         20..=22 => event(rig),
-        23..=25 => {
-            // Close together, so that lists miss some and wait for their turns.
-            for _ in 0..rig.dice.below(16) {
-                if rig.dice.once_in(2) {
-                    event(rig);
-                } else {
-                    rig.slot(23);
-                }
-            }
-        }
-        26..=31 => {
-            for _ in 0..rig.dice.below(6) {
-                let room = rig.dice.one_of(&[0, 1, 22, 23, 23, 24, 30, 30]);
-                rig.slot(room);
-            }
-        }
+        23..=25 => crowd(rig),
+        26..=31 => slots(rig),
         32 => {
             let room = rig.dice.below(31);
             rig.slot(room);
@@ -66,12 +52,29 @@ fn turn(rig: &mut Rig) {
         35 => open(rig),
         36 | 37 => measure(rig),
         38 => rig.wrong_size(),
-        _ => {
-            if rig.dice.once_in(40) {
-                let start = rig.dice.number();
-                rig.power_up(start);
-            }
+        _ if rig.dice.once_in(40) => {
+            let start = rig.dice.number();
+            rig.power_up(start);
         }
+        _ => {}
+    }
+}
+
+/// Events and slots close together, so that lists miss some and wait for their turns.
+fn crowd(rig: &mut Rig) {
+    for _ in 0..rig.dice.below(16) {
+        if rig.dice.once_in(2) {
+            event(rig);
+        } else {
+            rig.slot(23);
+        }
+    }
+}
+
+fn slots(rig: &mut Rig) {
+    for _ in 0..rig.dice.below(6) {
+        let room = rig.dice.one_of(&[0, 1, 22, 23, 23, 24, 30, 30]);
+        rig.slot(room);
     }
 }
 

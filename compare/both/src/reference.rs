@@ -22,6 +22,11 @@ impl Reference {
         }
     }
 
+    /// Calibration and measured bytes as they are now, so many of each.
+    pub fn lent(&self, cal: usize, meas: usize) -> [&[u8]; 2] {
+        [&self.cal.now[..cal], &self.meas.now[..meas]]
+    }
+
     pub fn make(&mut self, step: &Step) -> Effect {
         if let Call::Measure(at, bytes) = &step.call {
             self.meas.put(*at, bytes);

@@ -1,4 +1,4 @@
-//! Makes calls to the pair, keeps the log of them, and notes what they covered.
+//! Makes calls to the pair and keeps the log of them.
 
 use crate::dice::Dice;
 use crate::effect::Effect;
@@ -31,8 +31,7 @@ pub struct Rig {
     vary: bool,
     cal: usize,
     meas: usize,
-    /// The code of the command whose answer waits, where it is known.
-    asked: Option<u8>,
+    /// Of the next frame.
     ctr: u8,
 }
 
@@ -52,7 +51,6 @@ impl Rig {
             vary: false,
             cal: 4096,
             meas: 4096,
-            asked: None,
             ctr: 0,
         }
     }
@@ -111,7 +109,7 @@ impl Rig {
             meas,
         };
         let effect = self.reference.make(&step);
-        self.note(&step, &effect);
+        self.seen.call(&step, &effect);
         self.calls += is_call(&step);
         self.steps.push(step);
         self.expected.push(effect.clone());
@@ -137,55 +135,13 @@ impl Rig {
         self.broken = None;
     }
 
-    /// Counts what the call covered.
-    fn note(&mut self, step: &Step, effect: &Effect) {
-        let number = (effect.result >> 16) as usize;
-        let seen = &mut self.seen;
-        match &step.call {
-            Call::Measure(..) => return,
-            Call::PowerUp(_) => seen.power_up[number] += 1,
-            Call::Byte(_) => seen.byte[number] += 1,
-            Call::Event(..) => {
-                seen.event[number] += 1;
-                if number == 0 {
-                    let counts = effect.result as usize;
-                    seen.sampled[counts / 256][counts % 256] += 1;
-                }
-            }
-            Call::Slot(room) => {
-                seen.slot[number] += 1;
-                seen.room[*room] += 1;
-            }
-        }
-        if number == 10 {
-            match WRONG_SIZES.iter().position(|size| *size == step.state) {
-                Some(at) => seen.wrong_size[at] += 1,
-                None => seen.never_powered += 1,
-            }
-        } else if matches!(step.call, Call::Byte(_) | Call::Event(..)) {
-            let place = |length| LENGTHS.iter().position(|l| *l == length);
-            place(step.cal)
-                .into_iter()
-                .for_each(|i| seen.cal_length[i] += 1);
-            place(step.meas)
-                .into_iter()
-                .for_each(|i| seen.meas_length[i] += 1);
-        }
-    }
-
     pub fn power_up(&mut self, start: u32) {
         self.call(Call::PowerUp(start));
-        self.asked = None;
         self.ctr = 0;
     }
 
     pub fn byte(&mut self, byte: u8) -> u32 {
-        let number = self.call(Call::Byte(byte)).result >> 16;
-        if number == 1 {
-            // Which command that was is known only where a whole packet was sent.
-            self.asked = None;
-        }
-        number
+        self.call(Call::Byte(byte)).result >> 16
     }
 
     /// All bytes; the number of the last.
@@ -198,7 +154,8 @@ impl Rig {
         let ctr = self.dice.byte();
         let number = self.wire(&wire::frame(ctr, packet));
         if number == 1 {
-            self.asked = Some(packet[0]);
+            let lent = self.reference.lent(self.cal, self.meas);
+            self.seen.taken(packet, lent);
         }
         number
     }
@@ -216,13 +173,12 @@ impl Rig {
         let effect = self.call(Call::Slot(room));
         let frame = effect.frame();
         if frame.is_empty() {
-            let idle = room >= AMPLE && !self.over();
-            self.seen.no_frame += u64::from(idle);
             return None;
         }
         match wire::unframe(&frame) {
             Some((ctr, packet)) if ctr == self.ctr => {
-                self.sent(&frame, &packet);
+                self.seen.sent(ctr, &frame, &packet);
+                self.ctr = ctr.wrapping_add(1);
                 Some(packet)
             }
             _ => {
@@ -230,30 +186,6 @@ impl Rig {
                 None
             }
         }
-    }
-
-    fn sent(&mut self, frame: &[u8], packet: &[u8]) {
-        let seen = &mut self.seen;
-        match packet[0] {
-            number @ 0..=7 => seen.list_frame[number as usize] += 1,
-            _ => {
-                seen.answer_frame += 1;
-                if let Some(code) = self.asked.take() {
-                    seen.answer(code, packet);
-                }
-            }
-        }
-        let special = |byte: u8| matches!(byte, wire::SYNC | wire::ESC);
-        let escapes = frame.iter().filter(|b| **b == wire::ESC).count();
-        let (ctr, inside) = (
-            usize::from(special(self.ctr)),
-            packet.iter().filter(|b| special(**b)).count(),
-        );
-        seen.escaped[0] += ctr as u64;
-        seen.escaped[1] += u64::from(inside > 0);
-        seen.escaped[2] += (escapes - ctr - inside) as u64;
-        seen.wrapped += u64::from(self.ctr == 255);
-        self.ctr = self.ctr.wrapping_add(1);
     }
 
     /// Sends a command and has slots until its answer comes.

@@ -1,4 +1,4 @@
-//! Every command in every situation, cut to every length, each byte at its edges.
+//! Every command in every situation, cut to every length, each byte at its edges, two bytes wrong at once.
 
 use crate::rig::Rig;
 use crate::tool::{CALIBRATION, LISTS};
@@ -30,6 +30,9 @@ const EDGES: [u8; 17] = [
     0, 1, 2, 3, 4, 5, 6, 7, 8, 9, 0x0F, 0x10, 0x11, 0x7F, 0x80, 0x9A, 0xFF,
 ];
 
+/// Two bytes wrong at once show which is judged first.
+const PAIRS: [(u8, u8); 4] = [(0, 2), (1, 0xFF), (0xFF, 1), (0xFF, 0xFF)];
+
 #[derive(Clone, Copy)]
 enum Situation {
     Locked,
@@ -53,6 +56,7 @@ pub fn run(rig: &mut Rig) {
             rig.begin(1, false);
             prepare(rig, situation);
             one_command(rig, situation, good);
+            two_wrong(rig, situation, good);
         }
         other_codes(rig, situation);
     }
@@ -113,6 +117,19 @@ fn one_command(rig: &mut Rig, situation: Situation, good: &[u8]) {
             let mut packet = good.to_vec();
             packet[at] = value;
             attempt(rig, situation, &packet);
+        }
+    }
+}
+
+fn two_wrong(rig: &mut Rig, situation: Situation, good: &[u8]) {
+    for second in 2..good.len() {
+        for first in 1..second {
+            for (one, other) in PAIRS {
+                let mut packet = good.to_vec();
+                packet[first] = one;
+                packet[second] = other;
+                attempt(rig, situation, &packet);
+            }
         }
     }
 }

@@ -9,6 +9,7 @@ pub fn run(rig: &mut Rig) {
     }
     counts(rig);
     selections(rig);
+    selected_first(rig);
     turns(rig);
     shrunk(rig);
     endings(rig);
@@ -31,6 +32,8 @@ fn sizes(rig: &mut Rig, list: u8) {
             rig.slot(23);
             rig.turn(1, list);
             rig.ask(&[0xE3, 0, list, 0]);
+            // The pointer stays where it was.
+            rig.write_entry(1, 1, 0);
             rig.drain();
             rig.turn(0, list);
         }
@@ -91,6 +94,22 @@ fn selections(rig: &mut Rig) {
                 rig.ask(&[0xDD, 0]);
             }
         }
+    }
+}
+
+/// A list that is selected before it is stopped and set up stays so.
+fn selected_first(rig: &mut Rig) {
+    rig.begin(1, false);
+    rig.open();
+    for list in 0..4 {
+        rig.turn(2, list);
+        rig.turn(0, list);
+        rig.point(list, 0, 0);
+        rig.write_entry(1, 1, 0);
+        rig.set_mode(list, 1);
+        rig.ask(&[0xDD, 1]);
+        rig.event(1, 7);
+        rig.drain();
     }
 }
 

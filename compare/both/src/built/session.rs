@@ -3,12 +3,32 @@
 use crate::rig::Rig;
 use crate::tool::{key, unlock_packet, CALIBRATION, LISTS};
 
+/// Among these are the default's own number, and three whose first seeds, FFFFFFFF, FFFF2FA2 and
+/// FFFF2600, are the last and the first for which a key's addition wraps.
+const STARTS: [u32; 9] = [
+    0,
+    1,
+    0x2545_F491,
+    0x7FFF_FFFF,
+    0x8000_0000,
+    0xFFFF_FFFF,
+    0x5E6C_FCE7,
+    0xDA7C_7948,
+    0x77BB_C1C1,
+];
+
 pub fn run(rig: &mut Rig) {
-    // Among these are the default's own number, and starts whose keys wrap.
-    for start in [0, 1, 0x2545_F491, 0x7FFF_FFFF, 0x8000_0000, 0xFFFF_FFFF] {
+    for start in STARTS {
         right_keys(rig, start);
         wrong_keys(rig, start);
     }
+    for resource in [CALIBRATION, LISTS] {
+        other_open(rig, resource);
+        long_key(rig, resource);
+        renewed_seed(rig, resource);
+    }
+    renewed_lists(rig);
+    anew(rig);
     without_session(rig);
     counter(rig);
 }
@@ -70,6 +90,81 @@ fn wrong_keys(rig: &mut Rig, start: u32) {
     }
 }
 
+/// Asking for a seed of an open resource leaves the other's seed good.
+fn other_open(rig: &mut Rig, resource: u8) {
+    rig.begin(1, false);
+    rig.connect();
+    rig.unlock(CALIBRATION + LISTS - resource);
+    let seed = rig.seed(resource).unwrap_or(0);
+    rig.ask(&[0xF8, 0, CALIBRATION + LISTS - resource]);
+    rig.ask(&unlock_packet(key(resource, seed)));
+    status(rig);
+}
+
+/// A key is the four bytes after its length, whatever follows them.
+fn long_key(rig: &mut Rig, resource: u8) {
+    for length in [7, 8] {
+        rig.begin(1, false);
+        rig.connect();
+        let seed = rig.seed(resource).unwrap_or(0);
+        let mut packet = unlock_packet(key(resource, seed));
+        packet.resize(length, 0x5A);
+        rig.ask(&packet);
+        status(rig);
+    }
+}
+
+/// A renewal forgets the seed that is out.
+fn renewed_seed(rig: &mut Rig, resource: u8) {
+    rig.begin(1, false);
+    rig.connect();
+    let seed = rig.seed(resource).unwrap_or(0);
+    rig.connect();
+    rig.ask(&unlock_packet(key(resource, seed)));
+    status(rig);
+}
+
+/// A renewal forgets mode and entries: a list that gets one of them again lacks the other.
+fn renewed_lists(rig: &mut Rig) {
+    for mode_alone in [true, false] {
+        rig.begin(1, false);
+        for list in 0..4 {
+            rig.open();
+            rig.fill(list, [2, 3], 1, 0);
+            rig.set_mode(list, 1);
+            rig.open();
+            if mode_alone {
+                rig.set_mode(list, 1);
+            } else {
+                rig.point(list, 0, 0);
+                rig.write_entry(1, 1, 0);
+            }
+            rig.turn(1, list);
+            rig.event(1, 7);
+            rig.drain();
+        }
+    }
+}
+
+/// However a session ends, the next has no address, no pointer and no selection.
+fn anew(rig: &mut Rig) {
+    let ends: [&[u8]; 3] = [&[0xFF, 0], &[0xFE], &[0xF7, 4, 0, 0, 0, 0]];
+    for end in ends {
+        rig.begin(1, false);
+        rig.connect();
+        rig.unlock(LISTS);
+        rig.seed(CALIBRATION);
+        rig.turn(2, 1);
+        rig.point(1, 0, 0);
+        rig.set_mta(0, 0);
+        rig.ask(end);
+        rig.open();
+        rig.ask(&[0xF5, 1]);
+        rig.write_entry(1, 1, 0);
+        rig.ask(&[0xDD, 1]);
+    }
+}
+
 /// Without a session only a good CONNECT is heard.
 fn without_session(rig: &mut Rig) {
     rig.begin(1, false);
@@ -85,7 +180,9 @@ fn without_session(rig: &mut Rig) {
     }
     rig.drain();
     rig.send(&[0xFE]);
-    rig.send(&[0xFF, 0]);
+    for packet in [&[0xFD][..], &[0xFF, 0]] {
+        rig.send(packet);
+    }
     rig.drain();
     rig.send(&[0xFF, 0, 1, 2, 3, 4, 5, 6]);
     rig.drain();

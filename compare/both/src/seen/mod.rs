@@ -1,0 +1,255 @@
+//! What was covered: each number of each call, each kind of frame, each command with each answer.
+
+mod answers;
+mod past;
+
+use crate::effect::Effect;
+use crate::step::{Call, Step};
+use crate::wire;
+use answers::Answers;
+use past::{Asked, Past};
+
+pub const LENGTHS: [usize; 5] = [0, 1, 4095, 4096, 5000];
+pub const ROOMS: usize = 31;
+pub const WRONG_SIZES: [usize; 5] = [0, 3, 4, 246, 248];
+
+/// What a memory's length can do to a call.
+const USES: [&str; 3] = ["inside", "not inside", "sampled"];
+const INSIDE: usize = 0;
+const NOT_INSIDE: usize = 1;
+const SAMPLED: usize = 2;
+
+#[derive(Default)]
+pub struct Seen {
+    answers: Answers,
+    past: Past,
+    /// The command whose answer waits, where it is known.
+    asked: Option<Asked>,
+    byte: [u64; 11],
+    /// By the lists that sampled, then those that missed.
+    sampled: [[u64; 5]; 5],
+    event: [u64; 11],
+    slot: [u64; 11],
+    power_up: [u64; 11],
+    no_frame: u64,
+    answer_frame: u64,
+    list_frame: [u64; 8],
+    /// A frame sent with an escaped CTR, packet byte, checksum.
+    escaped: [u64; 3],
+    /// A CTR of 0 after one of 255.
+    wrapped: u64,
+    room: [u64; ROOMS],
+    /// Of calibration, then of measured bytes: by the length lent, then by its use.
+    lent: [[[u64; USES.len()]; LENGTHS.len()]; 2],
+    wrong_size: [u64; WRONG_SIZES.len()],
+    never_powered: u64,
+}
+
+impl Seen {
+    pub fn call(&mut self, step: &Step, effect: &Effect) {
+        let number = (effect.result >> 16) as usize;
+        match &step.call {
+            Call::Measure(..) => return,
+            Call::PowerUp(_) => self.power_up[number] += 1,
+            Call::Byte(_) => self.byte[number] += 1,
+            Call::Event(..) => self.event[number] += 1,
+            Call::Slot(room) => {
+                self.slot[number] += 1;
+                self.room[*room] += 1;
+            }
+        }
+        match (&step.call, number) {
+            (_, 10) => match WRONG_SIZES.iter().position(|size| *size == step.state) {
+                Some(at) => self.wrong_size[at] += 1,
+                None => self.never_powered += 1,
+            },
+            (Call::PowerUp(_), _) => {
+                self.asked = None;
+                self.past.forget();
+            }
+            // Which command that was is known only where a whole packet was sent.
+            (Call::Byte(_), 1) => self.asked = None,
+            (Call::Event(..), 0) => self.sample(step, effect.result as usize),
+            (Call::Slot(_), 0) => self.no_frame += u64::from(effect.result == 0),
+            _ => {}
+        }
+    }
+
+    fn sample(&mut self, step: &Step, counts: usize) {
+        self.sampled[counts / 256][counts % 256] += 1;
+        if counts / 256 > 0 {
+            self.memory(0, step.cal, SAMPLED);
+            self.memory(1, step.meas, SAMPLED);
+        }
+    }
+
+    fn memory(&mut self, extension: usize, length: usize, what: usize) {
+        if let Some(at) = LENGTHS.iter().position(|l| *l == length) {
+            self.lent[extension][at][what] += 1;
+        }
+    }
+
+    /// A command was taken that is known, with these memories lent.
+    pub fn taken(&mut self, packet: &[u8], lent: [&[u8]; 2]) {
+        self.asked = Some(Asked {
+            packet: packet.to_vec(),
+            lent: [lent[0].len(), lent[1].len()],
+            sum: self.past.sum(packet, lent),
+        });
+    }
+
+    /// A slot has sent this frame, which has this packet.
+    pub fn sent(&mut self, ctr: u8, frame: &[u8], packet: &[u8]) {
+        match packet[0] {
+            number @ 0..=7 => self.list_frame[number as usize] += 1,
+            _ => {
+                self.answer_frame += 1;
+                match self.asked.take() {
+                    Some(asked) => self.answered(&asked, packet),
+                    None => self.past.forget(),
+                }
+            }
+        }
+        let special = |byte: u8| matches!(byte, wire::SYNC | wire::ESC);
+        let escapes = frame.iter().filter(|b| **b == wire::ESC).count();
+        let inside = packet.iter().filter(|b| special(**b)).count();
+        let outside = usize::from(special(ctr));
+        self.escaped[0] += outside as u64;
+        self.escaped[1] += u64::from(inside > 0);
+        self.escaped[2] += (escapes - outside - inside) as u64;
+        self.wrapped += u64::from(ctr == 255);
+    }
+
+    fn answered(&mut self, asked: &Asked, answer: &[u8]) {
+        self.answers.count(&asked.packet, answer);
+        let what = match answer {
+            [0xFF, ..] => Some(INSIDE),
+            [0xFE, 0x24] => Some(NOT_INSIDE),
+            _ => None,
+        };
+        let extension = match asked.packet.as_slice() {
+            // An entry of no bytes is inside anything.
+            [0xE1, _, 0, ..] => None,
+            [0xF4 | 0xE1, _, _, extension, ..] => Some(*extension),
+            [0xF5 | 0xF3 | 0xF0, ..] => self.past.extension(),
+            _ => None,
+        };
+        if let (Some(what), Some(extension)) = (what, extension) {
+            let extension = usize::from(extension);
+            self.memory(extension, asked.lent[extension], what);
+        }
+        self.past.answered(asked, answer);
+    }
+
+    /// Prints all of it and returns how much is wrong: not covered, or not in the paper.
+    pub fn print(&self) -> usize {
+        self.answers.print();
+        let mut missing = self.answers.missing();
+        for (name, cells) in self.groups() {
+            println!("\n{}", name);
+            for line in lines(&cells) {
+                println!("    {}", line);
+            }
+            let uncovered = cells.iter().filter(|(_, count)| *count == 0);
+            missing.extend(uncovered.map(|(cell, _)| format!("{}, {}", name, cell)));
+        }
+        println!();
+        for words in &missing {
+            println!("NOT COVERED: {}", words);
+        }
+        for words in &self.answers.beyond {
+            println!("NOT IN THE PAPER: {}", words);
+        }
+        missing.len() + self.answers.beyond.len()
+    }
+
+    /// Every count of lists that sampled and that missed.
+    fn samples(&self) -> Vec<(String, u64)> {
+        let mut samples = Vec::new();
+        for (sampled, row) in self.sampled.iter().enumerate() {
+            for (missed, count) in row.iter().enumerate().take(5 - sampled) {
+                samples.push((format!("{} and {}", sampled, missed), *count));
+            }
+        }
+        samples
+    }
+
+    fn frames(&self) -> Vec<(String, u64)> {
+        let mut frames = vec![
+            ("none".to_string(), self.no_frame),
+            ("answer".to_string(), self.answer_frame),
+        ];
+        for (number, count) in self.list_frame.iter().enumerate() {
+            frames.push((format!("packet {:02X}", number), *count));
+        }
+        frames
+    }
+
+    /// What a frame may have that most have not.
+    fn oddities(&self) -> Vec<(String, u64)> {
+        let mut oddities: Vec<(String, u64)> = ["CTR escaped", "packet escaped", "sum escaped"]
+            .iter()
+            .map(|name| name.to_string())
+            .zip(self.escaped)
+            .collect();
+        oddities.push(("CTR from 255 to 0".to_string(), self.wrapped));
+        oddities
+    }
+
+    /// Each length with each of its uses; nothing is inside a memory of no bytes.
+    fn blocks(&self, extension: usize) -> Vec<(String, u64)> {
+        let mut blocks = Vec::new();
+        for (length, counts) in LENGTHS.iter().zip(self.lent[extension]) {
+            for (what, count) in USES.iter().zip(counts) {
+                if *length > 0 || *what != USES[INSIDE] {
+                    blocks.push((format!("{} {}", length, what), count));
+                }
+            }
+        }
+        blocks
+    }
+
+    /// Everything else that must be covered, by name.
+    fn groups(&self) -> Vec<(&'static str, Vec<(String, u64)>)> {
+        let numbers = |all: &[u64; 11], which: &[usize]| -> Vec<(String, u64)> {
+            which.iter().map(|n| (n.to_string(), all[*n])).collect()
+        };
+        let each = |names: &[usize], counts: &[u64]| -> Vec<(String, u64)> {
+            let names = names.iter().map(usize::to_string);
+            names.zip(counts.iter().copied()).collect()
+        };
+        let rooms: Vec<usize> = (0..ROOMS).collect();
+        vec![
+            (
+                "Numbers of a received byte",
+                numbers(&self.byte, &[0, 1, 2, 3, 4, 5, 6, 7, 10]),
+            ),
+            ("Numbers of an event", numbers(&self.event, &[0, 8, 10])),
+            ("Lists that sampled and that missed", self.samples()),
+            ("Numbers of a slot", numbers(&self.slot, &[0, 9, 10])),
+            ("Frames of a slot", self.frames()),
+            ("Frames with", self.oddities()),
+            ("Numbers of a power-up", numbers(&self.power_up, &[0, 10])),
+            ("Room lent to a slot", each(&rooms, &self.room)),
+            ("Calibration bytes lent, and a block", self.blocks(0)),
+            ("Measured bytes lent, and a block", self.blocks(1)),
+            ("Sessions with", self.past.cells()),
+            (
+                "Wrong sizes of the state",
+                each(&WRONG_SIZES, &self.wrong_size),
+            ),
+            (
+                "Calls before any power-up",
+                vec![("refused".to_string(), self.never_powered)],
+            ),
+        ]
+    }
+}
+
+/// Few cells to a line keep the lines short.
+fn lines(cells: &[(String, u64)]) -> Vec<String> {
+    let long = cells.iter().any(|(name, _)| name.len() > 20);
+    let words: Vec<String> = cells.iter().map(|(n, c)| format!("{}: {}", n, c)).collect();
+    let lines = words.chunks(if long { 1 } else { 6 });
+    lines.map(|line| line.join(", ")).collect()
+}

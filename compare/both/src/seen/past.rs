@@ -1,0 +1,180 @@
+//! What a command covers by what came before it: a key that wraps, what a renewal has to forget.
+
+/// A command that was taken, and what it met.
+pub struct Asked {
+    pub packet: Vec<u8>,
+    /// The calibration and measured bytes lent.
+    pub lent: [usize; 2],
+    /// Of the block that a BUILD_CHECKSUM sums, not modulo anything.
+    pub sum: u64,
+}
+
+/// The cases, in the order of their names.
+enum Case {
+    SumWraps,
+    CalibrationKeyWraps,
+    ListKeyWraps,
+    LongKey,
+    KeyAfterOpen,
+    OldKey,
+    ModeAlone,
+    EntriesAlone,
+}
+
+const NAMES: [&str; 8] = [
+    "a sum above 65,535",
+    "a calibration key that wraps",
+    "a list key that wraps",
+    "a key with bytes after it",
+    "a key whose seed outlived a GET_SEED of no bytes",
+    "a key to a seed that a renewal forgot",
+    "a start of a list that a renewal cleared, its mode set again",
+    "a start of a list that a renewal cleared, its entries written again",
+];
+
+/// What done commands have set up since the session began.
+#[derive(Clone, Copy, Default)]
+struct Session {
+    /// The resource of the seed that is out.
+    seed: Option<u8>,
+    /// A seed of no bytes was given since.
+    outlived: bool,
+    mta: Option<(u8, u32)>,
+    pointer: usize,
+    has_mode: [bool; 4],
+    has_entries: [bool; 4],
+}
+
+#[derive(Default)]
+pub struct Past {
+    now: Session,
+    /// What the last CONNECT found, if that renewed a session.
+    renewed: Session,
+    counts: [u64; NAMES.len()],
+}
+
+impl Past {
+    /// A power-up, or a command that nobody knows: all may be otherwise now.
+    pub fn forget(&mut self) {
+        self.now = Session::default();
+        self.renewed = Session::default();
+    }
+
+    /// The extension that SET_MTA has set.
+    pub fn extension(&self) -> Option<u8> {
+        self.now.mta.map(|mta| mta.0)
+    }
+
+    /// The sum of the block that this BUILD_CHECKSUM asks for.
+    pub fn sum(&self, packet: &[u8], lent: [&[u8]; 2]) -> u64 {
+        match (packet, self.now.mta) {
+            ([0xF3, _, _, _, ..], Some((extension, address))) if packet.len() == 8 => {
+                let (from, size) = (address as usize, number(packet) as usize);
+                let block = lent[usize::from(extension)].get(from..from.saturating_add(size));
+                block.map_or(0, |bytes| bytes.iter().map(|b| u64::from(*b)).sum())
+            }
+            _ => 0,
+        }
+    }
+
+    pub fn answered(&mut self, asked: &Asked, answer: &[u8]) {
+        let packet = asked.packet.as_slice();
+        match (packet[0], answer) {
+            (_, [0xFF, ..]) => self.done(asked, answer),
+            // A wrong key, which ends the session.
+            (0xF7, [0xFE, 0x25]) => self.forget(),
+            (0xF7, [0xFE, 0x29]) if self.renewed.seed.is_some() => self.count(Case::OldKey),
+            (0xDE, [0xFE, 0x2A]) => self.unfit(usize::from(packet[2])),
+            _ => {}
+        }
+    }
+
+    pub fn cells(&self) -> Vec<(String, u64)> {
+        let names = NAMES.iter().map(|name| name.to_string());
+        names.zip(self.counts).collect()
+    }
+
+    fn count(&mut self, case: Case) {
+        self.counts[case as usize] += 1;
+    }
+
+    fn done(&mut self, asked: &Asked, answer: &[u8]) {
+        let packet = asked.packet.as_slice();
+        match packet[0] {
+            0xFF => {
+                self.renewed = self.now;
+                self.now = Session::default();
+            }
+            0xFE => self.forget(),
+            0xF8 if answer[1] == 0 => self.now.outlived = self.now.seed.is_some(),
+            0xF8 => {
+                self.now.seed = Some(packet[2]);
+                self.now.outlived = false;
+                self.renewed.seed = None;
+            }
+            0xF7 => self.unlocked(packet),
+            0xF6 => self.now.mta = Some((packet[3], number(packet))),
+            0xF5 | 0xF0 => self.move_on(u32::from(packet[1])),
+            0xF3 => {
+                self.move_on(number(packet));
+                if asked.sum > 65_535 {
+                    self.count(Case::SumWraps);
+                }
+            }
+            _ => self.set_up(packet),
+        }
+    }
+
+    fn move_on(&mut self, by: u32) {
+        self.now.mta = self.now.mta.map(|(e, at)| (e, at.wrapping_add(by)));
+    }
+
+    fn unlocked(&mut self, packet: &[u8]) {
+        let sum = u32::from_le_bytes([packet[2], packet[3], packet[4], packet[5]]).rotate_right(8);
+        match self.now.seed {
+            Some(1) if sum < 0xD05E => self.count(Case::CalibrationKeyWraps),
+            Some(4) if sum < 0xDA00 => self.count(Case::ListKeyWraps),
+            _ => {}
+        }
+        if packet.len() == 8 && packet[4..] != packet[2..6] {
+            self.count(Case::LongKey);
+        }
+        if self.now.outlived {
+            self.count(Case::KeyAfterOpen);
+        }
+        self.now.seed = None;
+        self.now.outlived = false;
+    }
+
+    fn set_up(&mut self, packet: &[u8]) {
+        let list = packet.get(2).map_or(0, |b| usize::from(*b));
+        match packet[0] {
+            0xE3 => {
+                for session in [&mut self.now, &mut self.renewed] {
+                    session.has_mode[list] = false;
+                    session.has_entries[list] = false;
+                }
+            }
+            0xE2 => self.now.pointer = list,
+            0xE1 => self.now.has_entries[self.now.pointer] |= packet[2] > 0,
+            0xE0 => self.now.has_mode[list] = true,
+            _ => {}
+        }
+    }
+
+    /// A list was too unfit to start.
+    fn unfit(&mut self, list: usize) {
+        if self.renewed.has_mode[list] && self.renewed.has_entries[list] {
+            match (self.now.has_mode[list], self.now.has_entries[list]) {
+                (true, false) => self.count(Case::ModeAlone),
+                (false, true) => self.count(Case::EntriesAlone),
+                _ => {}
+            }
+        }
+    }
+}
+
+/// The number at byte 4.
+fn number(packet: &[u8]) -> u32 {
+    u32::from_le_bytes([packet[4], packet[5], packet[6], packet[7]])
+}
