@@ -68,7 +68,7 @@ impl Past {
     /// The sum of the block that this BUILD_CHECKSUM asks for.
     pub fn sum(&self, packet: &[u8], lent: [&[u8]; 2]) -> u64 {
         match (packet, self.now.mta) {
-            ([0xF3, _, _, _, ..], Some((extension, address))) if packet.len() == 8 => {
+            ([0xF3, ..], Some((extension, address))) if packet.len() == 8 => {
                 let (from, size) = (address as usize, number(packet) as usize);
                 let block = lent[usize::from(extension)].get(from..from.saturating_add(size));
                 block.map_or(0, |bytes| bytes.iter().map(|b| u64::from(*b)).sum())

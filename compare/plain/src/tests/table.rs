@@ -491,13 +491,18 @@ fn de_start_stop_daq_list() {
     assert_eq!(bench.ask("DE 00 00 00"), "FF 00");
 }
 
+/// A digit for each list.
+fn running(bench: &Bench) -> String {
+    let lists = bench.slave.session.lists.iter();
+    lists.map(|l| if l.runs() { '1' } else { '0' }).collect()
+}
+
+fn any_selected(bench: &Bench) -> bool {
+    bench.slave.session.lists.iter().any(|l| l.selected)
+}
+
 #[test]
 fn dd_start_stop_synch() {
-    let running = |bench: &Bench| -> String {
-        let lists = bench.slave.session.lists.iter();
-        lists.map(|l| if l.runs() { '1' } else { '0' }).collect()
-    };
-    let selected = |bench: &Bench| bench.slave.session.lists.iter().any(|l| l.selected);
     let mut bench = Bench::open();
     bench.refused("DD", "FE 21");
     bench.refused("DD 03", "FE 22");
@@ -520,18 +525,25 @@ fn dd_start_stop_synch() {
     assert_eq!(bench.packet(), "00 07 00 00");
     assert_eq!(bench.packet(), "FF");
     assert_eq!(running(&bench), "1110");
-    assert!(!selected(&bench));
+    assert!(!any_selected(&bench));
+}
 
+#[test]
+fn dd_stops_the_selected_or_all() {
+    let mut bench = Bench::open();
+    for list in 0..3 {
+        bench.run(list, 0, &[1], &[]);
+    }
     bench.ask("DE 02 01 00");
     bench.ask("DE 02 03 00");
     bench.good("DD 02");
     assert_eq!(running(&bench), "1010");
-    assert!(!selected(&bench));
+    assert!(!any_selected(&bench));
 
     bench.ask("DE 02 03 00");
     bench.good("DD 00 55");
     assert_eq!(running(&bench), "0000");
-    assert!(!selected(&bench));
+    assert!(!any_selected(&bench));
 }
 
 #[test]
