@@ -7,6 +7,8 @@ pub fn run(rig: &mut Rig) {
     for list in 0..4 {
         sizes(rig, list);
     }
+    pointer(rig);
+    cleared(rig);
     counts(rig);
     selections(rig);
     selected_first(rig);
@@ -36,6 +38,37 @@ fn sizes(rig: &mut Rig, list: u8) {
             rig.write_entry(1, 1, 0);
             rig.drain();
             rig.turn(0, list);
+        }
+    }
+}
+
+/// The pointer steps to the end of its ODT and not beyond.
+fn pointer(rig: &mut Rig) {
+    rig.begin(1, false);
+    rig.open();
+    for list in 0..4 {
+        for odt in 0..2 {
+            rig.point(list, odt, 0);
+            for address in 0..5 {
+                rig.write_entry(1, 1, address);
+            }
+        }
+    }
+}
+
+/// A cleared list has no entry in either ODT, no mode and no selection.
+fn cleared(rig: &mut Rig) {
+    for bytes in [[1, 0], [0, 1]] {
+        rig.begin(1, false);
+        rig.open();
+        for list in 0..4 {
+            rig.fill(list, bytes, 1, 0);
+            rig.set_mode(list, 0);
+            rig.turn(2, list);
+            rig.ask(&[0xE3, 0, list, 0]);
+            rig.ask(&[0xDD, 1]);
+            rig.set_mode(list, 0);
+            rig.turn(1, list);
         }
     }
 }
