@@ -70,7 +70,7 @@ unfoldable pub storedLength : List ℕ → ℕ → ℕ
 storedLength s k = cond (ltb (getD s (sampleAt k) 0) (leastOf k)) 0 (cond (ltb storedMost (getD s (sampleAt k) 0)) 0 (getD s (sampleAt k) 0))
 
 -- ---- changes
--- the running flag, with both packets dropped
+-- the running flag switched on or off, and both packets dropped
 unfoldable pub switched : List ℕ → ℕ → ℕ → List ℕ
 switched s l on = set (set (set s (runningAt l) on) (sampleAt (firstOdt l)) 0) (sampleAt (firstOdt l + 1)) 0
 

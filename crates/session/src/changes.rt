@@ -11,7 +11,7 @@ use crate::layout;
 use crate::lists::runs;
 use crate::lists::selected;
 
-// Both packets of a list dropped, and its running flag set to on.
+// A list switched on or off: its running flag, with both packets dropped.
 fn switch(s: &mut [u8], l: usize, on: u8)
     requires { ⌜ (length (now s) ≡ size) × (l < lists) ⌝ }
     ensures { λ _. ⌜ now (s .exit) ≡ switched (now (s .entry)) l on ⌝ }
