@@ -4,7 +4,7 @@ use mathlib.Core.Path.{_≡_, refl, sym}
 use mathlib.Core.List.{List}
 use Rattle.line.proofs.Laws.{cond-ind}
 use Rattle.line.specs.declared.Outcome.{Outcome}
-use Rattle.line.specs.declared.Outcome.the-variants.{Nothing, Good, BadLength, BadEscape, BadChecksum, CutOff, NoRoom}
+use Rattle.line.specs.declared.Outcome.the-variants.{Nothing, Good, BadLength, BadEscape, BadChecksum, CutOff, ShortBuffer}
 use Rattle.session.specs.State.{consistent, waits}
 use Rattle.session.specs.Receive.{Step, heeded, meant, fedOf, receiveOf}
 use Rattle.demands.specs.Slave.{ours}
@@ -20,7 +20,7 @@ heard-ours BadLength m s cal meas b e = refl
 heard-ours BadEscape m s cal meas b e = refl
 heard-ours BadChecksum m s cal meas b e = refl
 heard-ours CutOff m s cal meas b e = refl
-heard-ours NoRoom m s cal meas b e = refl
+heard-ours ShortBuffer m s cal meas b e = refl
 
 pub heeding-ours : (s cal meas : List ℕ) (b : ℕ) → heeding heeded .receive s cal meas b ≡ ours .receive s cal meas b
 heeding-ours s cal meas b =

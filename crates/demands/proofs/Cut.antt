@@ -222,7 +222,7 @@ module _ (cal meas : List ℕ) where
   meant-cut line.BadEscape m s = only-cut BadEscape s
   meant-cut line.BadChecksum m s = only-cut BadChecksum s
   meant-cut line.CutOff m s = only-cut CutOff s
-  meant-cut line.NoRoom m s = only-cut NoState s
+  meant-cut line.ShortBuffer m s = only-cut NoState s
 
 pub cut : (s cal meas : List ℕ) (b : ℕ) → ours .receive s cal meas b ≡ putBack (ours .receive s (take addressable cal) (take addressable meas) b) (drop addressable cal)
 unfolding receiveOf

@@ -13,7 +13,7 @@ use Rattle.line.specs.Reader.{messages, takeOf}
 use Rattle.line.specs.declared.Place.{Place}
 use Rattle.line.specs.declared.Place.the-variants.{Outside, Inside, Escaped}
 use Rattle.line.specs.declared.Outcome.{Outcome}
-use Rattle.line.specs.declared.Outcome.the-variants.{Nothing, Good, BadLength, BadEscape, BadChecksum, CutOff, NoRoom}
+use Rattle.line.specs.declared.Outcome.the-variants.{Nothing, Good, BadLength, BadEscape, BadChecksum, CutOff, ShortBuffer}
 use Rattle.line.proofs.Laws.{cond-ind}
 use Rattle.line.proofs.After.{take-length}
 use Rattle.line.proofs.Unframing.{Takes, begins, passes, escapes, brings, breaks, takes}
@@ -79,7 +79,7 @@ Roomy BadLength = Unit
 Roomy BadEscape = Unit
 Roomy BadChecksum = Unit
 Roomy CutOff = Unit
-Roomy NoRoom = ⊥
+Roomy ShortBuffer = ⊥
 
 cut-roomy : (q : Place) → Roomy (cutOf q)
 cut-roomy Outside = tt

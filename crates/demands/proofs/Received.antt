@@ -77,7 +77,7 @@ module _ (s cal meas : List ℕ) (b : ℕ) (c : consistent s ≡ true) where
   meant-reads line.BadEscape y e = rests BadEscape (omega arith) (omega arith)
   meant-reads line.BadChecksum y e = rests BadChecksum (omega arith) (omega arith)
   meant-reads line.CutOff y e = rests CutOff (omega arith) (omega arith)
-  meant-reads line.NoRoom y e = absurd y
+  meant-reads line.ShortBuffer y e = absurd y
 
   pub received : Reads s cal meas b (receiveOf s cal meas b) (doneAt s cal meas b)
   unfolding receiveOf
@@ -129,7 +129,7 @@ heeded-by line.BadLength m t cal meas p e = absurd (some-none (sym e))
 heeded-by line.BadEscape m t cal meas p e = absurd (some-none (sym e))
 heeded-by line.BadChecksum m t cal meas p e = absurd (some-none (sym e))
 heeded-by line.CutOff m t cal meas p e = absurd (some-none (sym e))
-heeded-by line.NoRoom m t cal meas p e = absurd (some-none (sym e))
+heeded-by line.ShortBuffer m t cal meas p e = absurd (some-none (sym e))
 
 pub received-by : (s cal meas : List ℕ) (b : ℕ) → consistent s ≡ true → receiveOf s cal meas b ≡ receivedBy (fedOf s b) s cal meas
 unfolding receiveOf

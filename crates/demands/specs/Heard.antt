@@ -7,7 +7,7 @@ use mathlib.Core.List.{List}
 use lib.Dec.{eqb, ltb}
 use lib.ListN.{length, getD}
 use Rattle.line.specs.declared.Outcome.{Outcome}
-use Rattle.line.specs.declared.Outcome.the-variants.{Nothing, Good, BadLength, BadEscape, BadChecksum, CutOff, NoRoom}
+use Rattle.line.specs.declared.Outcome.the-variants.{Nothing, Good, BadLength, BadEscape, BadChecksum, CutOff, ShortBuffer}
 use Rattle.session.specs.Layout.{selectedAt}
 use Rattle.session.specs.Bytes.{block, u32At}
 use Rattle.session.specs.Generator.{keyOf}
@@ -29,7 +29,7 @@ packetBy BadLength m = none
 packetBy BadEscape m = none
 packetBy BadChecksum m = none
 packetBy CutOff m = none
-packetBy NoRoom m = none
+packetBy ShortBuffer m = none
 
 abbrev pub packetEnded : List ℕ → ℕ → Option (List ℕ)
 packetEnded s b = packetBy (fedOf s b .taken .outcome) (fedOf s b .message)

@@ -232,7 +232,7 @@ marked-meant line.BadLength m s cal meas = marked-none
 marked-meant line.BadEscape m s cal meas = marked-none
 marked-meant line.BadChecksum m s cal meas = marked-none
 marked-meant line.CutOff m s cal meas = marked-none
-marked-meant line.NoRoom m s cal meas = marked-none
+marked-meant line.ShortBuffer m s cal meas = marked-none
 
 fed-length : (s : List ℕ) (b : ℕ) → length s ≡ size → length (fedOf s b .message) ≡ 11
 unfolding messageOf

@@ -7,7 +7,7 @@ use Rattle.line.specs.Reader.{takeOf}
 use Rattle.line.specs.Run.{run}
 use Rattle.line.specs.Wire.{unstuff}
 use Rattle.line.specs.declared.Place.the-variants.{Outside, Inside}
-use Rattle.line.specs.declared.Outcome.the-variants.{Nothing, Good, BadLength, BadEscape, BadChecksum, CutOff, NoRoom}
+use Rattle.line.specs.declared.Outcome.the-variants.{Nothing, Good, BadLength, BadEscape, BadChecksum, CutOff, ShortBuffer}
 
 -- ---- frames
 -- CONNECT and its answer
@@ -71,9 +71,9 @@ unfolding takeOf
 faults = refl
 
 -- a buffer one byte too short
-no-room : run Outside (replicate 10 7) (0x9A ∷ 0x01 ∷ []) .outcomes ≡ NoRoom ∷ NoRoom ∷ []
+short-buffer : run Outside (replicate 10 7) (0x9A ∷ 0x01 ∷ []) .outcomes ≡ ShortBuffer ∷ ShortBuffer ∷ []
 unfolding takeOf
-no-room = refl
+short-buffer = refl
 
 unstuffed : unstuff (0x01 ∷ 0x9B ∷ 0x01 ∷ 0xFF ∷ 0x9B ∷ 0x00 ∷ []) ≡ 0x01 ∷ 0x9A ∷ 0xFF ∷ 0x9B ∷ []
 unstuffed = refl

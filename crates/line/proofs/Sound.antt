@@ -18,7 +18,7 @@ use Rattle.line.specs.Wire.{has, unstuff, before, part, Came, lastOf}
 use Rattle.line.specs.declared.Place.{Place}
 use Rattle.line.specs.declared.Place.the-variants.{Outside, Inside, Escaped}
 use Rattle.line.specs.declared.Outcome.{Outcome}
-use Rattle.line.specs.declared.Outcome.the-variants.{Nothing, Good, BadLength, BadEscape, BadChecksum, CutOff, NoRoom}
+use Rattle.line.specs.declared.Outcome.the-variants.{Nothing, Good, BadLength, BadEscape, BadChecksum, CutOff, ShortBuffer}
 use Rattle.line.proofs.Laws.{cond-ind}
 use Rattle.line.proofs.Stuffed.{false-true, has-append, has-here, stuff-plain, unstuff-on, unstuff-stuff, last-sync}
 use Rattle.line.proofs.Unframing.{Takes, begins, passes, escapes, brings, breaks, takes}
@@ -38,7 +38,7 @@ Says h BadLength m = Unit {0}
 Says h BadEscape m = Unit {0}
 Says h BadChecksum m = Unit {0}
 Says h CutOff m = Unit {0}
-Says h NoRoom m = Unit {0}
+Says h ShortBuffer m = Unit {0}
 
 -- the place and the outcome after a byte tell the truth of the bytes h that came
 abbrev Honest : List ℕ → Fed → Type 0

@@ -14,7 +14,7 @@ use Rattle.line.specs.Reader.{begunOf, judgedAt, putOf, messages, takeOf
 use Rattle.line.specs.declared.Place.{Place}
 use Rattle.line.specs.declared.Place.the-variants.{Inside}
 use Rattle.line.specs.declared.Outcome.{Outcome}
-use Rattle.line.specs.declared.Outcome.the-variants.{Good, BadLength, BadChecksum, NoRoom}
+use Rattle.line.specs.declared.Outcome.the-variants.{Good, BadLength, BadChecksum, ShortBuffer}
 use Rattle.line.proofs.Laws.{cond-ind}
 use Rattle.line.proofs.Begun.{Begun, begun-known, begun-right}
 
@@ -65,7 +65,7 @@ puts k m x fits g =
         (λ t. fills n some few e l (eqb-true _ _ t)) (λ _. spoils)
 
 -- what holds with too short a buffer, and with one long enough, holds
-pub take-cases : (P : Fed → Type 0) (p : Place) (m : List ℕ) (b : ℕ) → P (record { taken = record { place = p; outcome = NoRoom }; message = m })
+pub take-cases : (P : Fed → Type 0) (p : Place) (m : List ℕ) (b : ℕ) → P (record { taken = record { place = p; outcome = ShortBuffer }; message = m })
     → (longest ≤ length m → P (takeBy messages p m b)) → P (takeOf p m b)
 unfolding takeOf
 take-cases P p m b short long = cond-ind P (ltb (length m) longest) (λ _. short) (λ t. long (ltb-false (length m) longest t))

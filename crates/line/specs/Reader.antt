@@ -9,7 +9,7 @@ use Rattle.line.specs.Unstuffing.{Fed, Messages, on, over, takeBy}
 use Rattle.line.specs.declared.Place.{Place}
 use Rattle.line.specs.declared.Place.the-variants.{Inside}
 use Rattle.line.specs.declared.Outcome.{Outcome}
-use Rattle.line.specs.declared.Outcome.the-variants.{Good, BadLength, BadChecksum, NoRoom}
+use Rattle.line.specs.declared.Outcome.the-variants.{Good, BadLength, BadChecksum, ShortBuffer}
 
 -- k bytes of a message may have come, with LEN n and the last byte still out
 abbrev pub begunOf : ℕ → ℕ → Bool
@@ -39,5 +39,5 @@ messages = record { begun = λ k m. begunOf k (getD m 0 0); put = putOf }
 unfoldable pub takeOf : Place → List ℕ → ℕ → Fed
 takeOf p m b =
     cond (ltb (length m) longest)
-    (record { taken = record { place = p; outcome = NoRoom }; message = m })
+    (record { taken = record { place = p; outcome = ShortBuffer }; message = m })
     (takeBy messages p m b)

@@ -14,7 +14,7 @@ use Rattle.line.specs.Run.{Ran, run}
 use Rattle.line.specs.declared.Place.{Place}
 use Rattle.line.specs.declared.Place.the-variants.{Outside, Inside, Escaped}
 use Rattle.line.specs.declared.Outcome.{Outcome}
-use Rattle.line.specs.declared.Outcome.the-variants.{Nothing, Good, BadLength, BadEscape, BadChecksum, CutOff, NoRoom}
+use Rattle.line.specs.declared.Outcome.the-variants.{Nothing, Good, BadLength, BadEscape, BadChecksum, CutOff, ShortBuffer}
 
 -- whether b is among bytes
 abbrev pub has : ℕ → List ℕ → Bool
@@ -67,7 +67,7 @@ ends BadLength = true
 ends BadEscape = true
 ends BadChecksum = true
 ends CutOff = false
-ends NoRoom = false
+ends ShortBuffer = false
 
 -- what the byte b leads to after the bytes bs
 abbrev pub lastOf : Place → List ℕ → List ℕ → ℕ → Fed

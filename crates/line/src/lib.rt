@@ -32,7 +32,7 @@ pub enum Outcome {
     BadChecksum,
     CutOff,
     // The lent buffer is too short for a message.
-    NoRoom,
+    ShortBuffer,
 }
 
 pub struct Taken {
@@ -64,7 +64,7 @@ impl Outcome {
             Outcome::BadEscape => 4,
             Outcome::BadChecksum => 5,
             Outcome::CutOff => 7,
-            Outcome::NoRoom => 10,
+            Outcome::ShortBuffer => 10,
         }
     }
 }

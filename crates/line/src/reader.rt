@@ -171,7 +171,7 @@ pub fn take(place: Place, message: &mut [u8], byte: u8) -> Taken
     if message.len() < LONGEST {
         return Taken {
             place,
-            outcome: Outcome::NoRoom,
+            outcome: Outcome::ShortBuffer,
         };
     }
     if byte == SYNC {

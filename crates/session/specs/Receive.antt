@@ -51,7 +51,7 @@ meant line.BadLength m s cal meas = only BadLength s cal
 meant line.BadEscape m s cal meas = only BadEscape s cal
 meant line.BadChecksum m s cal meas = only BadChecksum s cal
 meant line.CutOff m s cal meas = only CutOff s cal
-meant line.NoRoom m s cal meas = only NoState s cal
+meant line.ShortBuffer m s cal meas = only NoState s cal
 
 -- the state with the reader where the line left it
 unfoldable pub readOn : List ℕ → Fed → List ℕ

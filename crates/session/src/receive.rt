@@ -69,6 +69,6 @@ pub fn receive(s: &mut [u8], cal: &mut [u8], meas: &[u8], byte: u8) -> Received
         Outcome::BadEscape => Received::BadEscape,
         Outcome::BadChecksum => Received::BadChecksum,
         Outcome::CutOff => Received::CutOff,
-        Outcome::NoRoom => Received::NoState,
+        Outcome::ShortBuffer => Received::NoState,
     }
 }
