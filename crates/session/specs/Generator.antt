@@ -31,7 +31,7 @@ addend Calibration = 0x0000D05E
 addend Lists = 0x0000DA00
 
 abbrev pub rotatedLeft8 : ℕ → ℕ
-rotatedLeft8 x = (left x 8 + right x 24) % 2 ^ 32
+rotatedLeft8 x = left x 8 + right x 24
 
 -- seed plus the resource's number, modulo 2 ^ 32, rotated left 8
 unfoldable pub keyOf : Resource → ℕ → ℕ
