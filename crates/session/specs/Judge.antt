@@ -5,7 +5,7 @@ use mathlib.Core.Bool.{cond}
 use mathlib.Core.List.{List}
 use lib.Dec.{eqb, ltb, leb}
 use lib.ListN.{length, getD}
-use Rattle.session.specs.Layout.{lists, odts, entries, events, entryMost, uploadMost, downloadMost, addressable, firstOdt, listOf}
+use Rattle.session.specs.Layout.{lists, events, entryMost, uploadMost, downloadMost, addressable, firstOdt, odtCount, listOf, entryCount}
 use Rattle.session.specs.Bytes.{u16At, u32At}
 use Rattle.session.specs.Generator.{keyOf}
 use Rattle.session.specs.Memory.{pick, insideOf}
@@ -113,8 +113,8 @@ clearDeed s l =
 unfoldable pub pointerDeed : ℕ → ℕ → ℕ → Deed
 pointerDeed l odt e =
     cond (leb lists l) (deed.Refuse OutOfRange)
-    (cond (leb odts odt) (deed.Refuse OutOfRange)
-    (cond (leb entries e) (deed.Refuse OutOfRange)
+    (cond (leb (odtCount l) odt) (deed.Refuse OutOfRange)
+    (cond (leb (entryCount (firstOdt l + odt)) e) (deed.Refuse OutOfRange)
     (deed.SetPointer (firstOdt l + odt) e)))
 
 -- WRITE_DAQ; a block of size 0 is always inside

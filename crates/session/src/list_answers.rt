@@ -8,13 +8,14 @@ ghost use Rattle.session.specs.Perform.{after};
 use crate::Deed;
 use crate::answer;
 use crate::layout;
+use crate::list_deeds::give_first_odt;
 
-// A running list is started again.
+// A running list that is started again goes on as it is.
 pub fn keep_running(s: &mut [u8], l: u8)
     requires { ⌜ (length (now s) ≡ size) × (l < lists) ⌝ }
     ensures { λ _. ⌜ now (s .exit) ≡ after (Deed.KeepRunning l) (now (s .entry)) [] [] ⌝ }
 {
-    answer::two(s, 0xFF, layout::ODTS_U8 * l);
+    give_first_odt(s, l);
 }
 
 pub fn processor_info(s: &mut [u8])

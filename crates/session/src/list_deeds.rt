@@ -71,7 +71,7 @@ pub fn set_mode(s: &mut [u8], l: u8, event: u8)
 }
 
 // FF and the number of a list's first ODT.
-fn give_first_odt(s: &mut [u8], l: u8)
+pub fn give_first_odt(s: &mut [u8], l: u8)
     requires { ⌜ (length (now s) ≡ size) × (l < lists) ⌝ }
     ensures { λ _. ⌜ now (s .exit) ≡ answered (now (s .entry)) (0xFF ∷ firstOdt l ∷ []) ⌝ }
 {
