@@ -20,7 +20,7 @@ use Rattle.session.specs.declared.Mta.{Mta}
 use Rattle.session.specs.declared.Pointer.{Pointer}
 use Rattle.session.specs.declared.Deed.{Deed}
 use Rattle.session.specs.declared.Deed.the-variants.{Refuse, RefuseSize, WrongKey, Connect, Disconnect, Status, Synch, NoSeed, GiveSeed, Unlock, SetMta, Upload, ShortUpload, Checksum, Download, ClearList, SetPointer, ClearEntry, WriteEntry, SetMode, Stop, Start, KeepRunning, Select, StopAll, StartSelected, StopSelected, ProcessorInfo, ResolutionInfo}
-use Rattle.fields.proofs.Fields.{closed-runs, fresh-runs}
+use Rattle.fields.proofs.Fields.{bare-runs, closed-bare, fresh-bare}
 use Rattle.fields.proofs.Frames.{only-generator, only-lock, only-seed, only-mta, only-pointer}
 use Rattle.demands.specs.Heard.{stops}
 use Rattle.demands.specs.Waiting.{waitingOf}
@@ -86,9 +86,9 @@ pub effect-stops : (d : Deed) (s : List ℕ) (l : ℕ) → length s ≡ size →
 unfolding effect
 effect-stops (Refuse r) s l h l4 e = absurd (false-true e)
 effect-stops RefuseSize s l h l4 e = absurd (false-true e)
-effect-stops WrongKey s l h l4 e = rests-waiting (closed s) l (closed-runs s l h)
-effect-stops Connect s l h l4 e = rests-waiting (fresh s) l (fresh-runs s l h l4)
-effect-stops Disconnect s l h l4 e = rests-waiting (closed s) l (closed-runs s l h)
+effect-stops WrongKey s l h l4 e = rests-waiting (closed s) l (bare-runs (closed s) l (closed-bare s h) l4)
+effect-stops Connect s l h l4 e = rests-waiting (fresh s) l (bare-runs (fresh s) l (fresh-bare s h) l4)
+effect-stops Disconnect s l h l4 e = rests-waiting (closed s) l (bare-runs (closed s) l (closed-bare s h) l4)
 effect-stops Status s l h l4 e = absurd (false-true e)
 effect-stops Synch s l h l4 e = absurd (false-true e)
 effect-stops NoSeed s l h l4 e = absurd (false-true e)

@@ -12,7 +12,7 @@ use lib.Seq.{sets, getD-set-same, getD-set-other, set-getD}
 use Rattle.line.specs.declared.Place.{Place}
 use Rattle.line.specs.declared.Place.the-variants.{Outside, Inside, Escaped}
 use Rattle.line.proofs.Laws.{cond-ind}
-use Rattle.session.specs.Layout.{size, generatorAt, mtaAt, addressAt, runningAt, sampleAt, placeAt, countAt, answerAt, lists, entries, allOdts, allEntries, packetMost}
+use Rattle.session.specs.Layout.{size, generatorAt, sessionAt, sessionSize, openAt, calibrationAt, listsAt, seedAt, pointerAt, mtaAt, addressAt, runningAt, sampleAt, placeAt, countAt, answerAt, lists, entries, allOdts, allEntries, packetMost}
 use Rattle.session.specs.Bytes.{u32At, put32, block}
 use Rattle.session.specs.Generator.{startOf}
 use Rattle.session.specs.State.{flagOf, generatorOf, setGenerator, openOf, lockAt, unlockedOf, seedOf, setSeed, mtaTag, mtaOf, setMta, pointerOf, setPointer, Pointed, closed, fresh, placeOf, setPlace, answerLength, waits, answerKind, answerOf, answered}
@@ -155,43 +155,34 @@ unfolding answerOf
 answer-same s bs h a =
     rw (kind-answered s bs h a, set-getD, length-answered s bs h (a .some) (a .few)) (bytes-answered s bs h (a .few))
 
--- ---- a closed session
-pub closed-length : (s : List ℕ) → length (closed s) ≡ length s
-unfolding closed
-closed-length s = cleared-length s 11 214
+-- ---- a session of which nothing is set: every byte of it is 0, but perhaps the first, whether it is open
+abbrev pub Bare : List ℕ → Type 0
+Bare s = (j : ℕ) → calibrationAt ≤ j → j < placeAt → getD s j 0 ≡ 0
 
-pub closed-zero : (s : List ℕ) (j : ℕ) → length s ≡ size → 11 ≤ j → j < 225 → getD (closed s) j 0 ≡ 0
-unfolding closed
-closed-zero s j h p q = cleared-in s 11 214 j (omega arith) p (omega arith)
-
-pub closed-open : (s : List ℕ) → length s ≡ size → openOf (closed s) ≡ false
+pub bare-locked : (s : List ℕ) (r : Resource) → Bare s → unlockedOf s r ≡ false
 unfolding flagOf
-closed-open s h = simp (closed-zero s 11 h (lit≤ tt) (lit< tt))
+bare-locked s Calibration z = simp (z calibrationAt (lit≤ tt) (lit< tt))
+bare-locked s Lists z = simp (z listsAt (lit≤ tt) (lit< tt))
 
-pub closed-locked : (s : List ℕ) (r : Resource) → length s ≡ size → unlockedOf (closed s) r ≡ false
-unfolding flagOf
-closed-locked s Calibration h = simp (closed-zero s 12 h (lit≤ tt) (lit< tt))
-closed-locked s Lists h = simp (closed-zero s 13 h (lit≤ tt) (lit< tt))
-
-pub closed-seed : (s : List ℕ) → length s ≡ size → seedOf (closed s) ≡ None
+pub bare-seed : (s : List ℕ) → Bare s → seedOf s ≡ None
 unfolding seedOf
-closed-seed s h = simp (closed-zero s 14 h (lit≤ tt) (lit< tt))
+bare-seed s z = simp (z seedAt (lit≤ tt) (lit< tt))
 
-pub closed-mta : (s : List ℕ) → length s ≡ size → mtaOf (closed s) ≡ Unset
+pub bare-mta : (s : List ℕ) → Bare s → mtaOf s ≡ Unset
 unfolding mtaOf
-closed-mta s h = simp (closed-zero s 15 h (lit≤ tt) (lit< tt))
+bare-mta s z = simp (z mtaAt (lit≤ tt) (lit< tt))
 
-pub closed-pointer : (s : List ℕ) → length s ≡ size → pointerOf (closed s) ≡ NoEntry
+pub bare-pointer : (s : List ℕ) → Bare s → pointerOf s ≡ NoEntry
 unfolding pointerOf
-closed-pointer s h = simp (closed-zero s 20 h (lit≤ tt) (lit< tt))
+bare-pointer s z = simp (z pointerAt (lit≤ tt) (lit< tt))
 
--- while no session is open no list runs
-pub shut-runs : (s : List ℕ) (l : ℕ) → openOf s ≡ false → runsOf s l ≡ false
+bare-flag : (s : List ℕ) (l : ℕ) → Bare s → l < lists → flagOf s (runningAt l) ≡ false
+unfolding flagOf
+bare-flag s l z k = rw (z (runningAt l) (omega arith) (omega arith))
+
+pub bare-runs : (s : List ℕ) (l : ℕ) → Bare s → l < lists → runsOf s l ≡ false
 unfolding runsOf
-shut-runs s l e = rw e
-
-pub closed-runs : (s : List ℕ) (l : ℕ) → length s ≡ size → runsOf (closed s) l ≡ false
-closed-runs s l h = shut-runs (closed s) l (closed-open s h)
+bare-runs s l z k = rw (bare-flag s l z k) (cond-ind (λ (b : Bool). b ≡ false) (openOf s) (λ _. refl) (λ _. refl))
 
 -- no list of n runs if none does
 pub none-runs : (s : List ℕ) (n : ℕ) → ((l : ℕ) → l < n → runsOf s l ≡ false) → anyRuns s n ≡ false
@@ -204,46 +195,34 @@ pub empty-stored : (s : List ℕ) (k : ℕ) → getD s (sampleAt k) 0 ≡ 0 → 
 unfolding storedLength
 empty-stored s k e = rw e (cond-ind (λ (n : ℕ). n ≡ 0) (ltb 0 (leastOf k)) (λ _. refl) (λ _. refl))
 
-pub closed-stored : (s : List ℕ) (k : ℕ) → length s ≡ size → k < allOdts → storedLength (closed s) k ≡ 0
-closed-stored s k h l = empty-stored (closed s) k (closed-zero s (161 + 8 * k) h (omega arith) (omega arith))
+pub bare-stored : (s : List ℕ) (k : ℕ) → Bare s → k < allOdts → storedLength s k ≡ 0
+bare-stored s k z h = empty-stored s k (z (sampleAt k) (omega arith) (omega arith))
+
+-- ---- a closed session
+pub closed-length : (s : List ℕ) → length (closed s) ≡ length s
+unfolding closed
+closed-length s = cleared-length s sessionAt sessionSize
+
+closed-zero : (s : List ℕ) (j : ℕ) → length s ≡ size → sessionAt ≤ j → j < placeAt → getD (closed s) j 0 ≡ 0
+unfolding closed
+closed-zero s j h p q = cleared-in s sessionAt sessionSize j (omega arith) p (omega arith)
+
+pub closed-open : (s : List ℕ) → length s ≡ size → openOf (closed s) ≡ false
+unfolding flagOf
+closed-open s h = simp (closed-zero s openAt h (lit≤ tt) (lit< tt))
+
+pub closed-bare : (s : List ℕ) → length s ≡ size → Bare (closed s)
+closed-bare s h j p q = closed-zero s j h (omega arith) q
 
 -- ---- a fresh session
 pub fresh-length : (s : List ℕ) → length (fresh s) ≡ length s
 unfolding fresh
-fresh-length s = length-set (closed s) 11 1 ∙ closed-length s
+fresh-length s = length-set (closed s) openAt 1 ∙ closed-length s
 
 pub fresh-open : (s : List ℕ) → length s ≡ size → openOf (fresh s) ≡ true
 unfolding fresh flagOf
-fresh-open s h = simp (getD-set-same (closed s) 11 1 0 (rw closed-length (omega arith)))
+fresh-open s h = simp (getD-set-same (closed s) openAt 1 0 (rw closed-length (omega arith)))
 
-pub fresh-zero : (s : List ℕ) (j : ℕ) → length s ≡ size → 12 ≤ j → j < 225 → getD (fresh s) j 0 ≡ 0
+pub fresh-bare : (s : List ℕ) → length s ≡ size → Bare (fresh s)
 unfolding fresh
-fresh-zero s j h p q = getD-set-other (closed s) 11 j 1 0 (omega arith) ∙ closed-zero s j h (omega arith) q
-
-pub fresh-locked : (s : List ℕ) (r : Resource) → length s ≡ size → unlockedOf (fresh s) r ≡ false
-unfolding flagOf
-fresh-locked s Calibration h = simp (fresh-zero s 12 h (lit≤ tt) (lit< tt))
-fresh-locked s Lists h = simp (fresh-zero s 13 h (lit≤ tt) (lit< tt))
-
-pub fresh-seed : (s : List ℕ) → length s ≡ size → seedOf (fresh s) ≡ None
-unfolding seedOf
-fresh-seed s h = simp (fresh-zero s 14 h (lit≤ tt) (lit< tt))
-
-pub fresh-mta : (s : List ℕ) → length s ≡ size → mtaOf (fresh s) ≡ Unset
-unfolding mtaOf
-fresh-mta s h = simp (fresh-zero s 15 h (lit≤ tt) (lit< tt))
-
-pub fresh-pointer : (s : List ℕ) → length s ≡ size → pointerOf (fresh s) ≡ NoEntry
-unfolding pointerOf
-fresh-pointer s h = simp (fresh-zero s 20 h (lit≤ tt) (lit< tt))
-
-fresh-flag : (s : List ℕ) (l : ℕ) → length s ≡ size → l < lists → flagOf (fresh s) (runningAt l) ≡ false
-unfolding flagOf
-fresh-flag s l h k = rw (fresh-zero s (23 + 3 * l) h (omega arith) (omega arith))
-
-pub fresh-runs : (s : List ℕ) (l : ℕ) → length s ≡ size → l < lists → runsOf (fresh s) l ≡ false
-unfolding runsOf
-fresh-runs s l h k = rw (fresh-open s h, fresh-flag s l h k)
-
-pub fresh-stored : (s : List ℕ) (k : ℕ) → length s ≡ size → k < allOdts → storedLength (fresh s) k ≡ 0
-fresh-stored s k h l = empty-stored (fresh s) k (fresh-zero s (161 + 8 * k) h (omega arith) (omega arith))
+fresh-bare s h j p q = getD-set-other (closed s) openAt j 1 0 (omega arith) ∙ closed-bare s h j p q
