@@ -15,7 +15,7 @@ use Rattle.session.specs.Receive.{Receives, receiveOf}
 use Rattle.session.specs.Event.{Happens, eventOf}
 use Rattle.session.specs.Slot.{Sends, slotOf}
 use Rattle.session.specs.PowerUp.{Powers, powerUpOf}
-use Rattle.session.specs.Number.{receivedNumber, receivedC, eventedC, slottedC, poweredUpC}
+use Rattle.session.specs.Number.{receivedNumber, eventedNumber, slottedNumber, poweredUpNumber, receivedC, eventedC, slottedC, poweredUpC}
 use Rattle.session.specs.Generator.{startOf, nextOf}
 use Rattle.session.specs.declared.Generator.{Generator}
 use Rattle.session.specs.declared.Received.{Received}
@@ -29,6 +29,10 @@ use Rattle.demands.specs.Tight.{Tight}
 pinned : {O : Type 0} (P : O → Type 0) (one : O) → ((o : O) → P o → o ≡ one) → Tight P
 pinned P one only o o′ h h′ = only o h ∙ sym (only o′ h′)
 
+-- and where the promise is an equation, as that of the programs' `pair` is too
+pub equation-tight : {O : Type 0} (one : O) → Tight (λ r. r ≡ one)
+equation-tight one = pinned _ one (λ r h. h)
+
 -- ---- line
 pub take-tight : (place : Place) (message : List ℕ) (byte : ℕ) → Tight (λ (o : Taken × List ℕ). Does (takeOf place message byte) (o .0) (o .1))
 take-tight place message byte = pinned _ (takeOf place message byte .taken, takeOf place message byte .message) (λ o h i. (h .result i, h .bytes i))
@@ -37,13 +41,13 @@ pub write-tight : (packet : List ℕ) (ctr : ℕ) (out : List ℕ) → Tight (λ
 write-tight packet ctr out = pinned _ (writeOf packet ctr out .written, writeOf packet ctr out .out) (λ o h i. (h .result i, h .bytes i))
 
 pub next-ctr-tight : (ctr : ℕ) → Tight (λ r. r ≡ (ctr + 1) % 256)
-next-ctr-tight ctr = pinned _ ((ctr + 1) % 256) (λ r h. h)
+next-ctr-tight ctr = equation-tight ((ctr + 1) % 256)
 
 pub outcome-number-tight : (o : Outcome) → Tight (λ r. r ≡ outcomeNumber o)
-outcome-number-tight o = pinned _ (outcomeNumber o) (λ r h. h)
+outcome-number-tight o = equation-tight (outcomeNumber o)
 
 pub written-number-tight : (w : Written) → Tight (λ r. r ≡ writtenNumber w)
-written-number-tight w = pinned _ (writtenNumber w) (λ r h. h)
+written-number-tight w = equation-tight (writtenNumber w)
 
 -- ---- session
 pub power-up-tight : (state : List ℕ) (start : ℕ) → Tight (λ (o : PoweredUp × List ℕ). Powers (powerUpOf state start) (o .0) (o .1))
@@ -62,10 +66,19 @@ slot-tight state out = pinned _ (slotOf state out .slotted, slotOf state out .st
 
 -- xcp_state_size promises the same
 pub state-size-tight : Tight (λ r. r ≡ size)
-state-size-tight = pinned _ size (λ r h. h)
+state-size-tight = equation-tight size
 
 pub received-number-tight : (o : Received) → Tight (λ r. r ≡ receivedNumber o)
-received-number-tight o = pinned _ (receivedNumber o) (λ r h. h)
+received-number-tight o = equation-tight (receivedNumber o)
+
+pub evented-number-tight : (o : Evented) → Tight (λ r. r ≡ eventedNumber o)
+evented-number-tight o = equation-tight (eventedNumber o)
+
+pub slotted-number-tight : (o : Slotted) → Tight (λ r. r ≡ slottedNumber o)
+slotted-number-tight o = equation-tight (slottedNumber o)
+
+pub powered-up-number-tight : (o : PoweredUp) → Tight (λ r. r ≡ poweredUpNumber o)
+powered-up-number-tight o = equation-tight (poweredUpNumber o)
 
 pub generator-new-tight : (start : ℕ) → Tight (λ (g : Generator). g .x ≡ startOf start)
 generator-new-tight start = pinned _ (record { x = startOf start }) (λ g h i. record { x = h i })

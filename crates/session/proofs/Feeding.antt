@@ -1,7 +1,7 @@
 -- What the line leaves in the state: the reader's place, its message buffer, and the packet in it. Assumes nothing.
 use mathlib.Core.Path.{_≡_, sym, ap, subst, _∙_}
 use mathlib.Core.List.{List, _++_}
-use Prim.Native.Nat.{ℕ, _+_, _≤_}
+use Prim.Native.Nat.{ℕ, _≤_}
 use native.Mathlib.Omega.{arith}
 use lib.ListN.{length, set, take, drop, length-drop}
 use lib.Seq.{drop-drop, drop-append-add, drop-append-le, take-append-le, length-take-le, drop-set-lt}

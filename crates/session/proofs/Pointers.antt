@@ -7,7 +7,7 @@ use borrow.Author.Tests.{ltb-false}
 use lib.Dec.{eqb, ltb}
 use lib.ListN.{getD}
 use Rattle.line.proofs.Laws.{cond-ind}
-use Rattle.session.specs.Layout.{pointerAt, entries, allEntries}
+use Rattle.session.specs.Layout.{pointerAt, allEntries}
 use Rattle.session.specs.State.{pointerOf, Pointed}
 
 pub pointed : (s : List ℕ) → Pointed (pointerOf s)

@@ -6,7 +6,7 @@ ghost use Rattle.session.specs.Event.{Happens, eventOf};
 ghost use Rattle.session.specs.Slot.{Sends, slotOf};
 ghost use Rattle.session.specs.PowerUp.{Powers, powerUpOf};
 ghost use Rattle.session.specs.Layout.{size};
-ghost use Rattle.session.specs.Number.{receivedNumber};
+ghost use Rattle.session.specs.Number.{receivedNumber, eventedNumber, slottedNumber, poweredUpNumber};
 
 mod answer;
 mod bytes;
@@ -190,6 +190,7 @@ pub enum PoweredUp {
     NoState,
 }
 
+// The paper's number of each answer.
 impl Received {
     pub fn number(self) -> u32
         ensures { λ r. ⌜ r ≡ receivedNumber self ⌝ }
@@ -204,6 +205,45 @@ impl Received {
             Received::Unread => 6,
             Received::CutOff => 7,
             Received::NoState => 10,
+        }
+    }
+}
+
+impl Evented {
+    pub fn number(self) -> u32
+        ensures { λ r. ⌜ r ≡ eventedNumber self ⌝ }
+    {
+        match self {
+            Evented::Done {
+                sampled: _,
+                missed: _,
+            } => 0,
+            Evented::BadEvent => 8,
+            Evented::NoState => 10,
+        }
+    }
+}
+
+impl Slotted {
+    pub fn number(self) -> u32
+        ensures { λ r. ⌜ r ≡ slottedNumber self ⌝ }
+    {
+        match self {
+            Slotted::Idle => 0,
+            Slotted::Sent { size: _ } => 0,
+            Slotted::NoRoom => 9,
+            Slotted::NoState => 10,
+        }
+    }
+}
+
+impl PoweredUp {
+    pub fn number(self) -> u32
+        ensures { λ r. ⌜ r ≡ poweredUpNumber self ⌝ }
+    {
+        match self {
+            PoweredUp::Done => 0,
+            PoweredUp::NoState => 10,
         }
     }
 }
