@@ -2,38 +2,43 @@
 use mathlib.Core.Path.{_≡_, refl}
 use mathlib.Core.Bool.{Bool, true, false, cond}
 use mathlib.Core.List.{List}
-use Prim.Native.Nat.{ℕ, _+_, _≤_, _<_}
+use Prim.Native.Nat.{ℕ, _≤_, _<_}
 use native.Mathlib.Omega.{arith}
-use borrow.Author.Tests.{eqb-true, eqb-false, ltb-true, ltb-false, ne-eqb, lt-ltb, le-ltb}
+use borrow.Author.Tests.{eqb-false, ltb-true, ltb-false, ne-eqb, lt-ltb, le-ltb}
 use lib.Dec.{eqb, ltb}
-use Rattle.line.specs.Message.{most}
+use Rattle.line.specs.Form.{Form}
+use Rattle.line.specs.Message.{sizeIn}
 use Rattle.line.specs.Unstuffing.{Messages, placeBy}
-use Rattle.line.specs.Reader.{begunOf}
+use Rattle.line.specs.Reader.{begunIn}
 use Rattle.line.specs.declared.Place.{Place}
 use Rattle.line.specs.declared.Place.the-variants.{Outside, Inside, Escaped}
-use Rattle.line.proofs.Laws.{cond-ind}
+use Rattle.line.proofs.Laws.{false-true, cond-ind}
 
--- a message that has begun has a right LEN, and its last byte is still out
-pub record Begun (k n : ℕ) : Type 0 where
+-- a message that has begun, and whose LEN has come, has a right LEN, and its last byte is still out
+pub record Begun (f : Form) (k n : ℕ) : Type 0 where
   pub some : 1 ≤ n
-  pub few : n ≤ most
-  pub short : k < n + 3
+  pub few : n ≤ f .most
+  pub short : k < sizeIn f n
 
-pub begun-known : (k n : ℕ) → begunOf k n ≡ true → (k ≡ 0 → ⊥) → Begun k n
-begun-known k n b nz =
-    cond-ind (λ (t : Bool). t ≡ true → Begun k n) (eqb k 0) (λ e _. absurd (nz (eqb-true k 0 e)))
-    (λ _. cond-ind (λ (t : Bool). t ≡ true → Begun k n) (eqb n 0) (λ _ f. absurd (no f))
-    (λ e. cond-ind (λ (t : Bool). t ≡ true → Begun k n) (ltb most n) (λ _ f. absurd (no f))
-    (λ g h. record { some = omega (arith, eqb-false n 0 e); few = ltb-false most n g; short = ltb-true k (n + 3) h })))
-    b
-  where
-    no : false ≡ true → ⊥
-    no f = let z : _≡_ {A = ℕ} 0 1 = cc in omega arith
+module _ (f : Form) (k n : ℕ) where
+  pub begun-known : begunIn f k n ≡ true → f .width ≤ k → Begun f k n
+  begun-known b whole =
+      cond-ind (λ (t : Bool). t ≡ true → Begun f k n) (eqb n 0) (λ _ e. absurd (false-true e))
+      (λ e. cond-ind (λ (t : Bool). t ≡ true → Begun f k n) (ltb (f .most) n) (λ _ e. absurd (false-true e))
+      (λ g h. record { some = omega (arith, eqb-false n 0 e); few = ltb-false (f .most) n g; short = ltb-true k (sizeIn f n) h }))
+      (rw (le-ltb k (f .width) whole) at b)
 
-pub begun-right : (k n : ℕ) → 1 ≤ n → n ≤ most → k < n + 3 → begunOf k n ≡ true
-begun-right k n some few short =
-    let nz : n ≡ 0 → ⊥ = λ (z : n ≡ 0). omega arith in
-    cond-ind (λ (t : Bool). t ≡ true) (eqb k 0) (λ _. refl) (λ _. simp (ne-eqb n 0 nz, le-ltb most n few, lt-ltb k (n + 3) short))
+  pub begun-right : 1 ≤ n → n ≤ f .most → k < sizeIn f n → begunIn f k n ≡ true
+  begun-right some few short =
+      let nz : n ≡ 0 → ⊥ = λ (z : n ≡ 0). omega arith in
+      cond-ind (λ (t : Bool). t ≡ true) (ltb k (f .width)) (λ _. refl) (λ _. simp (ne-eqb n 0 nz, le-ltb (f .most) n few, lt-ltb k (sizeIn f n) short))
+
+  -- with its last byte a message has ended
+  pub begun-ended : f .width ≤ k → sizeIn f n ≤ k → begunIn f k n ≡ false
+  begun-ended whole long =
+      rw (le-ltb k (f .width) whole)
+      (cond-ind (λ (t : Bool). t ≡ false) (eqb n 0) (λ _. refl)
+      (λ _. cond-ind (λ (t : Bool). t ≡ false) (ltb (f .most) n) (λ _. refl) (λ _. le-ltb k (sizeIn f n) long)))
 
 -- a place that reads as itself has begun
 inside-outside : (k : ℕ) → Outside ≡ Inside k → ⊥

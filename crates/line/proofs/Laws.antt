@@ -2,7 +2,7 @@
 use mathlib.Core.Path.{_≡_, refl, sym, ap, _∙_}
 use mathlib.Core.Bool.{Bool, true, false, cond}
 use mathlib.Core.List.{List, [], _∷_, _++_, append-assoc, append-nil}
-use Prim.Native.Nat.{ℕ, suc, _+_, _%_, _≤_, _<_}
+use Prim.Native.Nat.{ℕ, suc, _+_, _≤_, _<_}
 use native.Mathlib.Nat.{add-zero, add-suc, suc-add, zero-add}
 use native.Mathlib.Numerals.{add-one}
 use native.Mathlib.Omega.{arith}
@@ -10,8 +10,12 @@ use lib.Dec.{eqb}
 use lib.ListN.{length, take, getD, set, length-append}
 use lib.Seq.{sets, take-suc}
 use Rattle.line.specs.Stuffing.{SYNC, ESC, stuffByte, stuff}
-use Rattle.line.specs.Message.{sum, frame}
+use Rattle.line.specs.Message.{headIn, byteForm, sum, frame}
 use Rattle.line.specs.Writer.{atFront, Stored}
+
+-- two truth values are not one
+pub false-true : false ≡ true → ⊥
+false-true e = let z : _≡_ {A = ℕ} 0 1 = cc in omega arith
 
 -- what holds of both of a choice, each under its test, holds of the choice
 pub cond-ind : {A : Type 0} (P : A → Type 0) (t : Bool) {a b : A} → (t ≡ true → P a) → (t ≡ false → P b) → P (cond t a b)
@@ -89,10 +93,10 @@ pub sum-next : (l : List ℕ) (i : ℕ) → i < length l → sum (take (i + 1) l
 sum-next l i h = rw (add-one, take-suc l i 0 h) (omega (arith, sum-append (take i l) (getD l i 0 ∷ [])))
 
 -- ---- a frame, as the writer puts it together
-frame-is : (p : List ℕ) (ctr s : ℕ) → s ≡ sum (length p ∷ ctr ∷ p) % 256 → ((((SYNC ∷ []) ++ stuffByte (length p)) ++ stuffByte ctr) ++ stuff p) ++ stuffByte s ≡ frame ctr p
+frame-is : (p : List ℕ) (ctr s : ℕ) → s ≡ byteForm .checksum (headIn byteForm ctr p) → ((((SYNC ∷ []) ++ stuffByte (length p)) ++ stuffByte ctr) ++ stuff p) ++ stuffByte s ≡ frame ctr p
 frame-is p ctr s e = rw (← e) (simp (append-assoc, stuff-append p (s ∷ []), stuff-one))
 
-pub written : (p out : List ℕ) (ctr s : ℕ) {l₁ l₂ l₃ l₄ : List ℕ} {a b c d : ℕ} → s ≡ sum (length p ∷ ctr ∷ p) % 256
+pub written : (p out : List ℕ) (ctr s : ℕ) {l₁ l₂ l₃ l₄ : List ℕ} {a b c d : ℕ} → s ≡ byteForm .checksum (headIn byteForm ctr p)
     → Stored (set out 0 SYNC) 1 (stuffByte (length p)) l₁ a → Stored l₁ a (stuffByte ctr) l₂ b → Stored l₂ b (stuff p) l₃ c → Stored l₃ c (stuffByte s) l₄ d
     → (d ≡ length (frame ctr p)) × (l₄ ≡ atFront (frame ctr p) out)
 written p out ctr s {l₁} {l₂} {l₃} {l₄} {a} {b} {c} {d} e e₁ e₂ e₃ e₄ =

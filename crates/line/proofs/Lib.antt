@@ -1,4 +1,5 @@
 pub mod Laws
+pub mod Numbers
 pub mod Begun
 pub mod Framing
 pub mod Stuffed

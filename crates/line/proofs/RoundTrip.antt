@@ -1,111 +1,136 @@
 -- What is framed is received: from any place, and after anything, a frame gives its packet, once, at its last byte. Assumes nothing.
 use mathlib.Core.Path.{_≡_, refl, sym, ap, subst, _∙_}
-use mathlib.Core.Bool.{true}
+use mathlib.Core.Bool.{Bool, true, false}
 use mathlib.Core.List.{List, [], _∷_, _++_, append-assoc, append-nil}
-use Prim.Native.Nat.{ℕ, _+_, _%_, _≤_, _<_}
+use Prim.Native.Nat.{ℕ, _+_, _-_, _≤_}
 use native.Mathlib.Omega.{arith}
-use borrow.Author.Tests.{lt-ltb, le-ltb, eq-eqb, ne-eqb}
-use lib.ListN.{length, take, drop, getD, set, length-append}
-use lib.Seq.{take-append-seam, take-at, getD-at}
-use Rattle.line.specs.Message.{most, longest, sum, message, frame}
-use Rattle.line.specs.Unstuffing.{on, over, placeBy, cutOf}
-use Rattle.line.specs.Reader.{begunOf, judgedOf, putOf, messages, takeOf}
+use borrow.Author.Tests.{ltb-false, le-ltb, eq-eqb}
+use lib.Dec.{ltb}
+use lib.ListN.{length, take, drop, set, length-append}
+use lib.Seq.{take-at}
+use Rattle.line.specs.Stuffing.{stuff}
+use Rattle.line.specs.Form.{Form, bytesOf, numberAt}
+use Rattle.line.specs.Message.{packetAt, checksumAt, sizeIn, longestIn, Serial, headIn, messageIn, frameIn, byteForm, most, longest, frame}
+use Rattle.line.specs.Unstuffing.{on, over, placeBy, cutOf, takeBy}
+use Rattle.line.specs.Reader.{lenIn, begunIn, judgedIn, putIn, messagesIn, takeIn, takeOf}
 use Rattle.line.specs.Writer.{atFront}
-use Rattle.line.specs.Run.{Ran, run}
-use Rattle.line.specs.Wire.{part, andThen, heard}
+use Rattle.line.specs.Run.{Ran, runBy, runIn, run}
+use Rattle.line.specs.Wire.{part, andThen, heardIn, heard}
 use Rattle.line.specs.declared.Place.{Place}
-use Rattle.line.specs.declared.Place.the-variants.{Inside}
+use Rattle.line.specs.declared.Place.the-variants.{Outside, Inside}
 use Rattle.line.specs.declared.Outcome.the-variants.{Good}
 use Rattle.line.proofs.Laws.{front-next}
-use Rattle.line.proofs.Begun.{begun-right}
-use Rattle.line.proofs.Stuffed.{message-length}
+use Rattle.line.proofs.Numbers.{number-front, head-length, message-length-in, len-lies, ctr-lies, check-lies, packet-lies, byte-serial}
+use Rattle.line.proofs.Begun.{begun-right, begun-ended}
 use Rattle.line.proofs.Fronts.{front-split}
-use Rattle.line.proofs.Framing.{Along, here, step, framed}
+use Rattle.line.proofs.Framing.{Along, here, step, quiet, framed}
 use Rattle.line.proofs.Runs.{run-append, run-length, run-long}
 
--- LEN n is in place once it has come, with the bytes xs after it
-len-there : (m xs : List ℕ) (n : ℕ) → longest ≤ length m → getD (atFront (n ∷ xs) m) 0 0 ≡ n
-len-there [] xs n fits = absurd (omega arith)
-len-there (y ∷ m) xs n fits = refl
+-- bytes that have a last one
+split-last : (q : List ℕ) → 1 ≤ length q → (xs : List ℕ) × (x : ℕ) × (xs ++ x ∷ [] ≡ q)
+split-last [] some = absurd (omega arith)
+split-last (x ∷ []) some = ([], x, refl)
+split-last (x ∷ y ∷ q) some = let r = split-last (y ∷ q) (omega arith) in (x ∷ r .0, r .1, ap (λ (l : List ℕ). x ∷ l) (r .2))
 
--- after LEN n and the bytes xs, the bytes ys lead to LEN and the bytes zs
-abbrev Leads : List ℕ → ℕ → List ℕ → List ℕ → List ℕ → Type 0
-Leads m n xs ys zs = Along messages (length (n ∷ xs)) (atFront (n ∷ xs) m) ys (length (n ∷ zs)) (atFront (n ∷ zs) m)
+-- what is judged by what lies in the buffer
+judged-by : (f : Form) (l : List ℕ) (n c x : ℕ) → lenIn f l ≡ n → numberAt (f .width) (f .width) l ≡ c → numberAt (f .sumWidth) (checksumAt f n) l ≡ x
+    → f .checksum (take (checksumAt f n) l) ≡ x → judgedIn f l ≡ Good c (packetAt f) n
+judged-by f l n c x e₁ e₂ e₃ e₄ = simp (e₁, e₂, e₃, e₄, eq-eqb x x refl)
 
--- a message of LEN n, with the buffer m before it
-module _ (m : List ℕ) (n : ℕ) (fits : longest ≤ length m) (some : 1 ≤ n) (few : n ≤ most) where
-  -- with LEN and the bytes xs it has begun
-  begun-there : (xs : List ℕ) → length xs < n + 2 → begunOf (length (n ∷ xs)) (getD (atFront (n ∷ xs) m) 0 0) ≡ true
-  begun-there xs h = rw (len-there m xs n fits) (begun-right (length (n ∷ xs)) n some few (omega arith))
+module _ (f : Form) (s : Serial f) (m packet : List ℕ) (ctr : ℕ) (fits : longestIn f ≤ length m) (some : 1 ≤ length packet) (few : length packet ≤ f .most) where
+  abbrev whole : List ℕ
+  whole = messageIn f ctr packet
 
-  -- LEN itself
-  first : putOf 0 m n ≡ on (Inside 1) (atFront (n ∷ []) m)
-  first =
-      let nz : n ≡ 0 → ⊥ = λ (z : n ≡ 0). omega arith in
-      rw (front-next [] m n) (simp (ne-eqb n 0 nz, le-ltb most n few))
+  whole-length : length whole ≡ sizeIn f (length packet)
+  whole-length = message-length-in f ctr packet
 
-  -- a byte y after it and the bytes xs
-  one : (xs : List ℕ) (y : ℕ) → length xs < n + 1 → putOf (length (n ∷ xs)) (atFront (n ∷ xs) m) y ≡ on (Inside (length (n ∷ xs ++ y ∷ []))) (atFront (n ∷ xs ++ y ∷ []) m)
-  one xs y h =
-      let nz : length (n ∷ xs) ≡ 0 → ⊥ = λ (z : length (n ∷ xs) ≡ 0). omega arith in
-      let t : length (n ∷ xs) < n + 2 = omega arith in
-      let l : length (n ∷ xs ++ y ∷ []) ≡ length (n ∷ xs) + 1 = length-append (n ∷ xs) (y ∷ []) in
-      rw (l, front-next (n ∷ xs) m y) (simp (ne-eqb _ _ nz, len-there m xs n fits, lt-ltb _ _ t))
+  whole-fits : length whole ≤ length m
+  whole-fits = omega (arith, whole-length, s .within (length packet) few)
 
-  -- the bytes ys after it and the bytes xs
-  more : (xs ys : List ℕ) → length xs + length ys ≤ n + 1 → Leads m n xs ys (xs ++ ys)
-  more xs [] h = subst (Leads m n xs []) (sym (append-nil xs)) here
-  more xs (y ∷ ys) h =
-      step (begun-there xs (omega arith)) (one xs y (omega arith))
-      (subst (Leads m n (xs ++ y ∷ []) ys) (append-assoc xs (y ∷ []) ys) (more (xs ++ y ∷ []) ys (omega (arith, length-append xs (y ∷ [])))))
+  -- with the bytes xs of the message at the front of the buffer, and at least one still out, it has begun
+  begun-there : (xs ys : List ℕ) → xs ++ ys ≡ whole → 1 ≤ length ys → begunIn f (length xs) (lenIn f (atFront xs m)) ≡ true
+  begun-there xs ys e one = go (ltb (length xs) (f .width)) refl
+    where
+      go : (t : Bool) → ltb (length xs) (f .width) ≡ t → begunIn f (length xs) (lenIn f (atFront xs m)) ≡ true
+      go true t = rw t
+      go false t =
+          let l : length xs + length ys ≡ sizeIn f (length packet) = sym (length-append xs ys) ∙ ap length e ∙ whole-length in
+          let h : 0 + f .width ≤ length xs = omega (arith, ltb-false (length xs) (f .width) t) in
+          let n : lenIn f (atFront xs m) ≡ length packet =
+          ap (lenIn f) (front-split xs m (omega (arith, whole-fits, whole-length)))
+          ∙ number-front (f .width) 0 xs (drop (length xs) m) h ∙ sym (number-front (f .width) 0 xs (ys ++ []) h)
+          ∙ ap (lenIn f) (sym (append-assoc xs ys [])) ∙ rw e (len-lies f s ctr packet []) in
+          rw n (begun-right f (length xs) (length packet) some few (omega arith))
 
-  -- all but the last
-  along : (xs : List ℕ) → length xs ≡ n + 1 → Along messages 0 m (n ∷ xs) (length (n ∷ xs)) (atFront (n ∷ xs) m)
-  along xs h = step refl first (more [] xs (omega arith))
+  -- a byte y after the bytes xs
+  one : (xs : List ℕ) (y : ℕ) (ys : List ℕ) → xs ++ y ∷ ys ≡ whole → 1 ≤ length ys → putIn f (length xs) (atFront xs m) y ≡ on (Inside (length (xs ++ y ∷ []))) (atFront (xs ++ y ∷ []) m)
+  one xs y ys e h =
+      let l : length (xs ++ y ∷ []) ≡ length xs + 1 = length-append xs (y ∷ []) in
+      let g : begunIn f (length xs + 1) (lenIn f (set (atFront xs m) (length xs) y)) ≡ true =
+      rw (l, front-next xs m y) at (begun-there (xs ++ y ∷ []) ys (append-assoc xs (y ∷ []) ys ∙ e) h) in
+      rw (l, front-next xs m y) (simp g)
 
--- a whole message at the front of a buffer is judged good
-judged : (ctr : ℕ) (packet rest : List ℕ) → judgedOf (message ctr packet ++ rest) ≡ Good ctr 2 (length packet)
-judged ctr packet rest =
-    let q : List ℕ = length packet ∷ ctr ∷ packet in
-    let s : ℕ = sum q % 256 in
-    let l : length q ≡ length packet + 2 = omega arith in
-    ap judgedOf (append-assoc q (s ∷ []) rest) ∙ simp (getD-at q s rest 0 _ l, take-at q (s ∷ rest) _ l, eq-eqb s s refl)
+  -- after the bytes xs, the bytes ys lead to the bytes zs
+  abbrev Leads : List ℕ → List ℕ → List ℕ → Type 0
+  Leads xs ys zs = Along (messagesIn f) (length xs) (atFront xs m) ys (length zs) (atFront zs m)
 
--- a packet of 1 to 8 bytes, at a CTR
-module _ (m packet : List ℕ) (ctr : ℕ) (fits : longest ≤ length m) (some : 1 ≤ length packet) (few : length packet ≤ most) where
-  -- its message stands at the front of the buffer
-  there : atFront (message ctr packet) m ≡ message ctr packet ++ drop (length (message ctr packet)) m
-  there = front-split (message ctr packet) m (omega (arith, message-length ctr packet))
+  -- all bytes but the last
+  more : (xs ys : List ℕ) (x : ℕ) → xs ++ (ys ++ x ∷ []) ≡ whole → Leads xs ys (xs ++ ys)
+  more xs [] x e = subst (Leads xs []) (sym (append-nil xs)) here
+  more xs (y ∷ ys) x e =
+      step (begun-there xs (y ∷ ys ++ x ∷ []) e (omega arith)) (one xs y (ys ++ x ∷ []) e (omega (arith, length-append ys (x ∷ []))))
+      (subst (Leads (xs ++ y ∷ []) ys) (append-assoc xs (y ∷ []) ys) (more (xs ++ y ∷ []) ys x (append-assoc xs (y ∷ []) (ys ++ x ∷ []) ∙ e)))
 
-  -- the message's last byte, its checksum
-  last : putOf (length (length packet ∷ ctr ∷ packet)) (atFront (length packet ∷ ctr ∷ packet) m) (sum (length packet ∷ ctr ∷ packet) % 256)
-      ≡ over (Good ctr 2 (length packet)) (atFront (message ctr packet) m)
-  last =
-      let q : List ℕ = length packet ∷ ctr ∷ packet in
-      let nz : length q ≡ 0 → ⊥ = λ (z : length q ≡ 0). omega arith in
-      let t : length packet + 2 ≤ length q = omega arith in
-      let j : judgedOf (set (atFront q m) (length q) (sum q % 256)) ≡ Good ctr 2 (length packet) =
-      rw (← front-next q m (sum q % 256), there) (judged ctr packet (drop (length (message ctr packet)) m)) in
-      simp (ne-eqb _ _ nz, len-there m (ctr ∷ packet) (length packet) fits, le-ltb _ _ t, j, front-next q m (sum q % 256))
+  -- the message stands at the front of the buffer, and is judged good
+  there : atFront whole m ≡ whole ++ drop (length whole) m
+  there = front-split whole m whole-fits
+
+  len-there : lenIn f (atFront whole m) ≡ length packet
+  len-there = ap (lenIn f) there ∙ len-lies f s ctr packet (drop (length whole) m)
+
+  judged : judgedIn f (atFront whole m) ≡ Good ctr (packetAt f) (length packet)
+  judged =
+      let rest : List ℕ = drop (length whole) m in
+      let head : List ℕ = headIn f ctr packet in
+      let tail : List ℕ = bytesOf (f .sumWidth) (f .checksum head) in
+      ap (judgedIn f) there
+      ∙ judged-by f (whole ++ rest) (length packet) ctr (f .checksum head) (len-lies f s ctr packet rest) (ctr-lies f s ctr packet rest) (check-lies f s ctr packet rest)
+      (ap (λ (l : List ℕ). f .checksum (take (checksumAt f (length packet)) l)) (append-assoc head tail rest)
+      ∙ ap (f .checksum) (take-at head (tail ++ rest) (checksumAt f (length packet)) (head-length f ctr packet)))
+
+  -- its last byte
+  last : (xs : List ℕ) (x : ℕ) → xs ++ x ∷ [] ≡ whole → putIn f (length xs) (atFront xs m) x ≡ over (Good ctr (packetAt f) (length packet)) (atFront whole m)
+  last xs x e =
+      let l : length xs + 1 ≡ sizeIn f (length packet) = sym (length-append xs (x ∷ [])) ∙ ap length e ∙ whole-length in
+      let b : set (atFront xs m) (length xs) x ≡ atFront whole m = sym (front-next xs m x) ∙ ap (λ (q : List ℕ). atFront q m) e in
+      let g : begunIn f (length xs + 1) (lenIn f (atFront whole m)) ≡ false =
+      rw len-there (begun-ended f (length xs + 1) (length packet) (omega (arith, l, s .summed)) (omega (arith, l))) in
+      rw b (simp (g, le-ltb (length xs) (f .width) (omega (arith, l, s .summed)), judged))
+
+  -- what the message comes to after its SYNC
+  through : (xs : List ℕ) (x : ℕ) → xs ++ x ∷ [] ≡ whole
+      → runBy (takeBy (messagesIn f)) (Inside 0) m (stuff whole) ≡ quiet (length (stuff whole) - 1) (record { outcomes = Good ctr (packetAt f) (length packet) ∷ []; place = Outside; message = atFront whole m })
+  through xs x e = rw (last xs x e, e) at (framed (messagesIn f) x (more [] xs x e) (begun-there xs (x ∷ []) e (omega arith)))
+
+  -- what a frame comes to, from any place
+  pub round-trip-in : (p : Place) → runIn f p m (frameIn f ctr packet) ≡ heardIn f p m ctr packet
+  round-trip-in p =
+      let w = split-last whole (omega (arith, whole-length, s .summed)) in
+      run-long f p m (frameIn f ctr packet) fits
+      ∙ ap (λ (r : Ran). record { outcomes = cutOf (placeBy (messagesIn f) p m) ∷ r .outcomes; place = r .place; message = r .message }) (through (w .0) (w .1) (w .2))
 
   -- the good message points to its packet in the buffer
-  pub packet-there : part 2 (length packet) (atFront (message ctr packet) m) ≡ packet
-  packet-there =
-      let rest : List ℕ = drop (length (message ctr packet)) m in
-      let s : ℕ = sum (length packet ∷ ctr ∷ packet) % 256 in
-      rw there (ap (take (length packet)) (append-assoc packet (s ∷ []) rest) ∙ take-append-seam packet (s ∷ rest))
-
--- what a frame comes to, from any place
-pub round-trip : (p : Place) (m packet : List ℕ) (ctr : ℕ) → longest ≤ length m → 1 ≤ length packet → length packet ≤ most → run p m (frame ctr packet) ≡ heard p m ctr packet
-round-trip p m packet ctr fits some few =
-    run-long p m (frame ctr packet) fits
-    ∙ ap (λ (r : Ran). record { outcomes = cutOf (placeBy messages p m) ∷ r .outcomes; place = r .place; message = r .message })
-    (rw (last m packet ctr fits some few) at (framed messages (sum (length packet ∷ ctr ∷ packet) % 256)
-    (along m (length packet) fits some few (ctr ∷ packet) (omega arith)) (begun-there m (length packet) fits some few (ctr ∷ packet) (omega arith))))
+  pub packet-there : part (packetAt f) (length packet) (atFront whole m) ≡ packet
+  packet-there = rw there (packet-lies f s ctr packet (drop (length whole) m))
 
 -- the same after anything at all
-pub after-anything : (p : Place) (m xs packet : List ℕ) (ctr : ℕ) → longest ≤ length m → 1 ≤ length packet → length packet ≤ most
-    → run p m (xs ++ frame ctr packet) ≡ andThen (run p m xs) (heard (run p m xs .place) (run p m xs .message) ctr packet)
-after-anything p m xs packet ctr fits some few =
-    run-append takeOf p m xs (frame ctr packet)
-    ∙ ap (andThen (run p m xs)) (round-trip (run p m xs .place) (run p m xs .message) packet ctr (omega (arith, run-length p m xs)) some few)
+pub after-anything : (f : Form) (s : Serial f) (p : Place) (m xs packet : List ℕ) (ctr : ℕ) → longestIn f ≤ length m → 1 ≤ length packet → length packet ≤ f .most
+    → runIn f p m (xs ++ frameIn f ctr packet) ≡ andThen (runIn f p m xs) (heardIn f (runIn f p m xs .place) (runIn f p m xs .message) ctr packet)
+after-anything f s p m xs packet ctr fits some few =
+    run-append (takeIn f) p m xs (frameIn f ctr packet)
+    ∙ ap (andThen (runIn f p m xs)) (round-trip-in f s (runIn f p m xs .message) packet ctr (omega (arith, run-length f p m xs)) some few (runIn f p m xs .place))
+
+-- ---- the byte form
+pub round-trip : (p : Place) (m packet : List ℕ) (ctr : ℕ) → longest ≤ length m → 1 ≤ length packet → length packet ≤ most → run p m (frame ctr packet) ≡ heard p m ctr packet
+unfolding takeOf
+round-trip p m packet ctr fits some few = round-trip-in byteForm byte-serial m packet ctr fits some few p

@@ -1,76 +1,117 @@
 -- A byte of a message by cases: what it can be, and what it then leads to. Assumes nothing.
-use mathlib.Core.Path.{_≡_, refl, sym, subst}
+use mathlib.Core.Path.{_≡_, refl, sym, subst, _∙_}
 use mathlib.Core.Bool.{Bool, true, false, cond}
 use mathlib.Core.List.{List}
-use Prim.Native.Nat.{ℕ, _+_, _%_, _≤_, _<_}
+use Prim.Native.Nat.{ℕ, _+_, _≤_, _<_}
 use native.Mathlib.Omega.{arith}
-use borrow.Author.Tests.{eqb-true, eqb-false, ltb-true, ltb-false, le-ltb}
+use borrow.Author.Tests.{eqb-true, ltb-true, ltb-false, le-ltb}
 use lib.Dec.{eqb, ltb}
-use lib.ListN.{length, take, getD, set}
-use lib.Seq.{getD-set-same, getD-set-other}
-use Rattle.line.specs.Message.{most, longest, sum}
-use Rattle.line.specs.Unstuffing.{Fed, on, over, takeBy}
-use Rattle.line.specs.Reader.{begunOf, judgedAt, putOf, messages, takeOf}
+use lib.ListN.{length, take, set}
+use lib.Seq.{getD-set-same}
+use Rattle.line.specs.Form.{Form, numberAt}
+use Rattle.line.specs.Message.{packetAt, checksumAt, sizeIn, longestIn, Serial, byteForm, longest}
+use Rattle.line.specs.Unstuffing.{Fed, Does, on, over, takeBy}
+use Rattle.line.specs.Reader.{lenIn, begunIn, judgedAt, judgedIn, putIn, messagesIn, takeIn, begunOf, putOf, messages, takeOf}
 use Rattle.line.specs.declared.Place.{Place}
 use Rattle.line.specs.declared.Place.the-variants.{Inside}
+use Rattle.line.specs.declared.Taken.{Taken}
 use Rattle.line.specs.declared.Outcome.{Outcome}
 use Rattle.line.specs.declared.Outcome.the-variants.{Good, BadLength, BadChecksum, ShortBuffer}
-use Rattle.line.proofs.Laws.{cond-ind}
+use Rattle.line.proofs.Laws.{false-true, cond-ind}
+use Rattle.line.proofs.Numbers.{number-set, byte-serial}
 use Rattle.line.proofs.Begun.{Begun, begun-known, begun-right}
 
 -- a message that has begun has not yet as many bytes as the longest
-pub put-within : (k n : ℕ) → begunOf k n ≡ true → k < longest
-put-within k n g = go (eqb k 0) refl
+pub put-within-in : (f : Form) → Serial f → (k n : ℕ) → begunIn f k n ≡ true → k < longestIn f
+put-within-in f s k n g = go (ltb k (f .width)) refl
   where
-    go : (t : Bool) → eqb k 0 ≡ t → k < longest
-    go true e = omega (arith, eqb-true k 0 e)
-    go false e = let b : Begun k n = begun-known k n g (eqb-false k 0 e) in omega arith
+    go : (t : Bool) → ltb k (f .width) ≡ t → k < longestIn f
+    go true e = omega (arith, ltb-true k (f .width) e, s .summed)
+    go false e = let b : Begun f k n = begun-known f k n g (ltb-false k (f .width) e) in omega (arith, s .within n (b .few), b .short)
 
 -- a byte x after the k bytes at the front of the buffer m
-pub data Puts (k : ℕ) (m : List ℕ) (x : ℕ) : Fed → Type 0 where
+pub data PutsIn (f : Form) (k : ℕ) (m : List ℕ) (x : ℕ) : Fed → Type 0 where
   -- LEN, and no right one
-  refuses : Puts k m x (over BadLength m)
+  refuses : PutsIn f k m x (over BadLength m)
   -- a byte, and not the last
-  goes : begunOf (k + 1) (getD (set m k x) 0 0) ≡ true → Puts k m x (on (Inside (k + 1)) (set m k x))
+  goes : begunIn f (k + 1) (lenIn f (set m k x)) ≡ true → PutsIn f k m x (on (Inside (k + 1)) (set m k x))
   -- the last, and the checksum is right
-  fills : (n : ℕ) → 1 ≤ n → n ≤ most → k ≡ n + 2 → getD (set m k x) 0 0 ≡ n → getD (set m k x) (n + 2) 0 ≡ sum (take (n + 2) (set m k x)) % 256
-      → Puts k m x (over (Good (getD (set m k x) 1 0) 2 n) (set m k x))
+  fills : (n : ℕ) → 1 ≤ n → n ≤ f .most → k + 1 ≡ sizeIn f n → lenIn f (set m k x) ≡ n
+      → numberAt (f .sumWidth) (checksumAt f n) (set m k x) ≡ f .checksum (take (checksumAt f n) (set m k x))
+      → PutsIn f k m x (over (Good (numberAt (f .width) (f .width) (set m k x)) (packetAt f) n) (set m k x))
   -- the last, and the checksum is wrong
-  spoils : Puts k m x (over BadChecksum (set m k x))
+  spoils : PutsIn f k m x (over BadChecksum (set m k x))
 
-pub puts : (k : ℕ) (m : List ℕ) (x : ℕ) → longest ≤ length m → begunOf k (getD m 0 0) ≡ true → Puts k m x (putOf k m x)
-puts k m x fits g =
-    cond-ind (Puts k m x) (eqb k 0)
-    (λ z. first (eqb-true k 0 z))
-    (λ z.
-    let nz : k ≡ 0 → ⊥ = eqb-false k 0 z in
-    let b : Begun k (getD m 0 0) = begun-known k (getD m 0 0) g nz in
-    let e : getD (set m k x) 0 0 ≡ getD m 0 0 = getD-set-other m k 0 x 0 (λ (d : 0 ≡ k). nz (sym d)) in
-    cond-ind (Puts k m x) (ltb k (getD m 0 0 + 2))
-    (λ t. goes (rw e (begun-right (k + 1) (getD m 0 0) (b .some) (b .few) (omega (arith, ltb-true k (getD m 0 0 + 2) t)))))
-    (λ t. last (getD (set m k x) 0 0) (omega (arith, b .some, e)) (omega (arith, b .few, e)) (omega (arith, b .short, e, ltb-false k (getD m 0 0 + 2) t)) refl))
-  where
-    first : k ≡ 0 → Puts k m x (cond (eqb x 0) (over BadLength m) (cond (ltb most x) (over BadLength m) (on (Inside 1) (set m 0 x))))
-    first z =
-        cond-ind (Puts k m x) (eqb x 0) (λ _. refuses)
-        (λ s. cond-ind (Puts k m x) (ltb most x) (λ _. refuses)
-        (λ f.
-        let h : getD (set m 0 x) 0 0 ≡ x = getD-set-same m 0 x 0 (omega arith) in
-        let g : begunOf 1 (getD (set m 0 x) 0 0) ≡ true = rw h (begun-right 1 x (omega (arith, eqb-false x 0 s)) (ltb-false most x f) (omega arith)) in
-        subst (λ (i : ℕ). Puts i m x (on (Inside 1) (set m 0 x))) (sym z) (goes g)))
+-- once LEN has come, the message goes on, or ends
+module _ (f : Form) (k : ℕ) (m : List ℕ) (x : ℕ) (whole : f .width ≤ k) where
+  len-kept : lenIn f (set m k x) ≡ lenIn f m
+  len-kept = number-set (f .width) 0 k x m (omega arith)
 
-    last : (n : ℕ) → 1 ≤ n → n ≤ most → k ≡ n + 2 → getD (set m k x) 0 0 ≡ n → Puts k m x (over (judgedAt n (set m k x)) (set m k x))
-    last n some few e l =
-        cond-ind (λ (o : Outcome). Puts k m x (over o (set m k x))) (eqb (getD (set m k x) (n + 2) 0) (sum (take (n + 2) (set m k x)) % 256))
-        (λ t. fills n some few e l (eqb-true _ _ t)) (λ _. spoils)
+  pub put-next : begunIn f (k + 1) (lenIn f m) ≡ true → putIn f k m x ≡ on (Inside (k + 1)) (set m k x)
+  put-next e = rw (len-kept, e)
+
+  pub put-last : begunIn f (k + 1) (lenIn f m) ≡ false → putIn f k m x ≡ over (judgedIn f (set m k x)) (set m k x)
+  put-last e = rw (len-kept, e, le-ltb k (f .width) whole)
+
+module _ (f : Form) (k : ℕ) (m : List ℕ) (x : ℕ) where
+  last : (n : ℕ) → 1 ≤ n → n ≤ f .most → k + 1 ≡ sizeIn f n → lenIn f (set m k x) ≡ n → PutsIn f k m x (over (judgedAt f n (set m k x)) (set m k x))
+  last n some few e l =
+      cond-ind (λ (o : Outcome). PutsIn f k m x (over o (set m k x)))
+      (eqb (numberAt (f .sumWidth) (checksumAt f n) (set m k x)) (f .checksum (take (checksumAt f n) (set m k x))))
+      (λ t. fills n some few e l (eqb-true _ _ t)) (λ _. spoils)
+
+  pub puts-in : begunIn f k (lenIn f m) ≡ true → PutsIn f k m x (putIn f k m x)
+  puts-in g =
+      cond-ind (PutsIn f k m x) (begunIn f (k + 1) (lenIn f (set m k x))) goes
+      (λ e. cond-ind (PutsIn f k m x) (ltb k (f .width)) (λ _. refuses)
+      (λ t.
+      let whole : f .width ≤ k = ltb-false k (f .width) t in
+      let b : Begun f k (lenIn f (set m k x)) = rw (len-kept f k m x whole) (begun-known f k (lenIn f m) g whole) in
+      last (lenIn f (set m k x)) (b .some) (b .few) (ended (lenIn f (set m k x)) b e) refl))
+    where
+      ended : (n : ℕ) → Begun f k n → begunIn f (k + 1) n ≡ false → k + 1 ≡ sizeIn f n
+      ended n b e = go (ltb (k + 1) (sizeIn f n)) refl
+        where
+          go : (t : Bool) → ltb (k + 1) (sizeIn f n) ≡ t → k + 1 ≡ sizeIn f n
+          go true t = absurd (false-true (sym e ∙ begun-right f (k + 1) n (b .some) (b .few) (ltb-true (k + 1) (sizeIn f n) t)))
+          go false t = omega (arith, ltb-false (k + 1) (sizeIn f n) t, b .short)
 
 -- what holds with too short a buffer, and with one long enough, holds
-pub take-cases : (P : Fed → Type 0) (p : Place) (m : List ℕ) (b : ℕ) → P (record { taken = record { place = p; outcome = ShortBuffer }; message = m })
-    → (longest ≤ length m → P (takeBy messages p m b)) → P (takeOf p m b)
-unfolding takeOf
-take-cases P p m b short long = cond-ind P (ltb (length m) longest) (λ _. short) (λ t. long (ltb-false (length m) longest t))
+pub take-cases : (f : Form) (P : Fed → Type 0) (p : Place) (m : List ℕ) (b : ℕ) → P (record { taken = record { place = p; outcome = ShortBuffer }; message = m })
+    → (longestIn f ≤ length m → P (takeBy (messagesIn f) p m b)) → P (takeIn f p m b)
+unfolding takeIn
+take-cases f P p m b short long = cond-ind P (ltb (length m) (longestIn f)) (λ _. short) (λ t. long (ltb-false (length m) (longestIn f) t))
 
 -- with one long enough a byte is one of the stuffing over messages
+pub take-long-in : (f : Form) (p : Place) (m : List ℕ) (b : ℕ) → longestIn f ≤ length m → takeIn f p m b ≡ takeBy (messagesIn f) p m b
+unfolding takeIn
+take-long-in f p m b h = simp (le-ltb _ _ h)
+
+-- ---- the byte form
+pub put-within : (k n : ℕ) → begunOf k n ≡ true → k < longest
+put-within = put-within-in byteForm byte-serial
+
+abbrev pub Puts : ℕ → List ℕ → ℕ → Fed → Type 0
+Puts = PutsIn byteForm
+
+pub puts : (k : ℕ) (m : List ℕ) (x : ℕ) → longest ≤ length m → messages .begun k m ≡ true → Puts k m x (putOf k m x)
+puts k m x fits = puts-in byteForm k m x
+
+-- LEN is judged as it comes
+module _ (k : ℕ) (m : List ℕ) (x : ℕ) (lead : k < byteForm .width) (fits : longest ≤ length m) where
+  put-len : putOf k m x ≡ cond (begunOf (byteForm .width) x) (on (Inside (byteForm .width)) (set m 0 x)) (over BadLength m)
+  put-len = let z : k ≡ 0 = omega arith in rw (z, getD-set-same m 0 x 0 (omega arith))
+
+  pub put-right : begunOf (byteForm .width) x ≡ true → putOf k m x ≡ on (Inside (byteForm .width)) (set m 0 x)
+  put-right e = put-len ∙ simp e
+
+  pub put-wrong : begunOf (byteForm .width) x ≡ false → putOf k m x ≡ over BadLength m
+  put-wrong e = put-len ∙ simp e
+
+-- a function that does the one does the other
+pub does-so : {d e : Fed} {t : Taken} {m : List ℕ} → d ≡ e → Does e t m → Does d t m
+does-so p h = rw p h
+
 pub take-long : (p : Place) (m : List ℕ) (b : ℕ) → longest ≤ length m → takeOf p m b ≡ takeBy messages p m b
 unfolding takeOf
-take-long p m b h = simp (le-ltb _ _ h)
+take-long = take-long-in byteForm

@@ -2,19 +2,18 @@
 use mathlib.Core.Path.{_≡_, refl, sym, ap, _∙_}
 use mathlib.Core.Bool.{Bool, true, false, cond}
 use mathlib.Core.List.{List, [], _∷_, _++_, append-assoc, append-nil}
-use Prim.Native.Nat.{ℕ, _+_, _≤_}
+use Prim.Native.Nat.{ℕ, _≤_}
 use native.Mathlib.Omega.{arith}
 use borrow.Author.Tests.{eqb-true, eq-eqb}
 use lib.Dec.{eqb}
-use lib.ListN.{length, length-append}
+use lib.ListN.{length}
 use Rattle.line.specs.Stuffing.{SYNC, ESC, stuffByte, stuff}
-use Rattle.line.specs.Message.{most, room, message, frame}
+use Rattle.line.specs.Form.{Form}
+use Rattle.line.specs.Message.{sizeIn, roomIn, Serial, messageIn, frameIn, byteForm, most, room, message, frame}
 use Rattle.line.specs.Wire.{has, unstuff}
 use Rattle.line.proofs.Laws.{cond-ind, stuff-short}
-
--- two truth values are not one
-pub false-true : false ≡ true → ⊥
-false-true e = let z : _≡_ {A = ℕ} 0 1 = cc in omega arith
+use Rattle.line.proofs.Numbers.{message-length-in, byte-serial}
+pub use Rattle.line.proofs.Laws.{false-true}
 
 -- ---- whether a byte is among bytes
 pub has-append : (b : ℕ) (xs ys : List ℕ) → has b xs ≡ false → has b ys ≡ false → has b (xs ++ ys) ≡ false
@@ -61,14 +60,17 @@ unstuff-stuff xs = rw (append-nil (stuff xs), append-nil xs) at (unstuff-on xs [
 
 -- ---- frames
 -- SYNC is a frame's first byte, and no other
-pub frame-sync : (ctr : ℕ) (packet : List ℕ) → (frame ctr packet ≡ SYNC ∷ stuff (message ctr packet)) × (has SYNC (stuff (message ctr packet)) ≡ false)
-frame-sync ctr packet = (refl, stuff-plain (message ctr packet))
+pub frame-sync : (f : Form) (ctr : ℕ) (packet : List ℕ) → (frameIn f ctr packet ≡ SYNC ∷ stuff (messageIn f ctr packet)) × (has SYNC (stuff (messageIn f ctr packet)) ≡ false)
+frame-sync f ctr packet = (refl, stuff-plain (messageIn f ctr packet))
 
-pub message-length : (ctr : ℕ) (packet : List ℕ) → length (message ctr packet) ≡ length packet + 3
-message-length ctr packet = simp length-append (omega arith)
+pub frame-short-in : (f : Form) → Serial f → (ctr : ℕ) (packet : List ℕ) → length packet ≤ f .most → length (frameIn f ctr packet) ≤ roomIn f
+frame-short-in f s ctr packet few = omega (arith, stuff-short (messageIn f ctr packet), message-length-in f ctr packet, s .within (length packet) few)
+
+pub message-length : (ctr : ℕ) (packet : List ℕ) → length (message ctr packet) ≡ sizeIn byteForm (length packet)
+message-length = message-length-in byteForm
 
 pub frame-short : (ctr : ℕ) (packet : List ℕ) → length packet ≤ most → length (frame ctr packet) ≤ room
-frame-short ctr packet few = omega (arith, stuff-short (message ctr packet), message-length ctr packet)
+frame-short = frame-short-in byteForm byte-serial
 
 -- where two lists have a SYNC and none after it, they are equal from it on if they are equal
 pub last-sync : (xs ys pre zs : List ℕ) → has SYNC ys ≡ false → has SYNC zs ≡ false → xs ++ SYNC ∷ ys ≡ pre ++ SYNC ∷ zs → ys ≡ zs

@@ -2,7 +2,8 @@
 use Prim.Native.Nat.{ℕ}
 use mathlib.Core.List.{List, [], _∷_}
 use Rattle.line.specs.Unstuffing.{Fed}
-use Rattle.line.specs.Reader.{takeOf}
+use Rattle.line.specs.Form.{Form}
+use Rattle.line.specs.Reader.{takeIn, takeOf}
 use Rattle.line.specs.declared.Place.{Place}
 use Rattle.line.specs.declared.Outcome.{Outcome}
 
@@ -19,6 +20,9 @@ then f r = record { outcomes = f .taken .outcome ∷ r .outcomes; place = r .pla
 abbrev pub runBy : (Place → List ℕ → ℕ → Fed) → Place → List ℕ → List ℕ → Ran
 runBy take p m [] = record { outcomes = []; place = p; message = m }
 runBy take p m (b ∷ bs) = then (take p m b) (runBy take (take p m b .taken .place) (take p m b .message) bs)
+
+abbrev pub runIn : Form → Place → List ℕ → List ℕ → Ran
+runIn f = runBy (takeIn f)
 
 abbrev pub run : Place → List ℕ → List ℕ → Ran
 run = runBy takeOf

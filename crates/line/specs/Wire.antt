@@ -1,16 +1,17 @@
 -- What the theorems say of bytes on the wire and of runs over them.
-use Prim.Native.Nat.{ℕ, _-_, _≤_}
+use Prim.Native.Nat.{ℕ, _+_, _-_, _≤_}
 use mathlib.Core.Path.{_≡_}
 use mathlib.Core.Bool.{Bool, true, false, cond}
 use mathlib.Core.List.{List, [], _∷_, _++_}
 use lib.Dec.{eqb}
 use lib.ListN.{length, take, drop, replicate}
 use Rattle.line.specs.Stuffing.{SYNC, ESC, stuff, onWire}
-use Rattle.line.specs.Message.{most, message, frame}
+use Rattle.line.specs.Form.{Form, bytesOf, numberAt}
+use Rattle.line.specs.Message.{byteForm, packetAt, checksumAt, sizeIn, messageIn}
 use Rattle.line.specs.Unstuffing.{Fed, placeBy, cutOf}
-use Rattle.line.specs.Reader.{messages, takeOf}
+use Rattle.line.specs.Reader.{messagesIn, lenIn, takeIn, takeOf}
 use Rattle.line.specs.Writer.{atFront}
-use Rattle.line.specs.Run.{Ran, run}
+use Rattle.line.specs.Run.{Ran, runIn, run}
 use Rattle.line.specs.declared.Place.{Place}
 use Rattle.line.specs.declared.Place.the-variants.{Outside, Inside, Escaped}
 use Rattle.line.specs.declared.Outcome.{Outcome}
@@ -50,14 +51,21 @@ Partway (Escaped k) = Unit {0}
 abbrev pub part : ℕ → ℕ → List ℕ → List ℕ
 part at n m = take n (drop at m)
 
--- the bytes h that came end in the frame, at CTR c, of a packet that is the n bytes of m from `at` on
-pub record Came (c at n : ℕ) (m h : List ℕ) : Type 0 where
-  pub start : at ≡ 2
+-- w bytes anywhere in m are those of the number that is read there: one always is, more are where each is below 256
+abbrev pub Exact : ℕ → List ℕ → Type 0
+Exact w m = (i : ℕ) → i + w ≤ length m → part i w m ≡ bytesOf w (numberAt w i m)
+
+-- the bytes h that came end in a message on the wire, which stands at the front of m with CTR c: its packet is the n bytes from `at` on
+pub record CameIn (f : Form) (c at n : ℕ) (m h : List ℕ) : Type 0 where
+  pub start : at ≡ packetAt f
   pub some : 1 ≤ n
-  pub few : n ≤ most
-  pub whole : length (part at n m) ≡ n
+  pub few : n ≤ f .most
+  pub whole : sizeIn f n ≤ length m
+  pub len : lenIn f m ≡ n
+  pub ctr : numberAt (f .width) (f .width) m ≡ c
+  pub checksum : numberAt (f .sumWidth) (checksumAt f n) m ≡ f .checksum (take (checksumAt f n) m)
   pub earlier : List ℕ
-  pub bytes : h ≡ earlier ++ frame c (part at n m)
+  pub bytes : h ≡ earlier ++ onWire (take (sizeIn f n) m)
 
 -- a message ends here, good or bad
 abbrev pub ends : Outcome → Bool
@@ -73,18 +81,24 @@ ends ShortBuffer = false
 abbrev pub lastOf : Place → List ℕ → List ℕ → ℕ → Fed
 lastOf p m bs b = takeOf (run p m bs .place) (run p m bs .message) b
 
+abbrev pub lastIn : Form → Place → List ℕ → List ℕ → ℕ → Fed
+lastIn f p m bs b = takeIn f (runIn f p m bs .place) (runIn f p m bs .message) b
+
 -- a run, and then another
 abbrev pub andThen : Ran → Ran → Ran
 andThen r q = record { outcomes = r .outcomes ++ q .outcomes; place = q .place; message = q .message }
 
 -- what a frame comes to: one good message, at its last byte, and before it nothing, or one CutOff at its SYNC
-abbrev pub heard : Place → List ℕ → ℕ → List ℕ → Ran
-heard p m ctr packet =
+abbrev pub heardIn : Form → Place → List ℕ → ℕ → List ℕ → Ran
+heardIn f p m ctr packet =
     record {
-      outcomes = cutOf (placeBy messages p m) ∷ (replicate (length (stuff (message ctr packet)) - 1) Nothing ++ Good ctr 2 (length packet) ∷ []);
+      outcomes = cutOf (placeBy (messagesIn f) p m) ∷ (replicate (length (stuff (messageIn f ctr packet)) - 1) Nothing ++ Good ctr (packetAt f) (length packet) ∷ []);
       place = Outside;
-      message = atFront (message ctr packet) m;
+      message = atFront (messageIn f ctr packet) m;
     }
+
+abbrev pub heard : Place → List ℕ → ℕ → List ℕ → Ran
+heard = heardIn byteForm
 
 -- what bytes come to of which nothing is read
 abbrev pub unheard : List ℕ → List ℕ → Ran

@@ -6,7 +6,8 @@ use mathlib.Core.List.{List, [], _∷_}
 use lib.Dec.{eqb, ltb}
 use lib.ListN.{length}
 use lib.Seq.{sets}
-use Rattle.line.specs.Message.{most, room, frame}
+use Rattle.line.specs.Form.{Form}
+use Rattle.line.specs.Message.{byteForm, roomIn, frameIn}
 use Rattle.line.specs.declared.Written.{Written}
 use Rattle.line.specs.declared.Written.the-variants.{Frame, BadLength, NoRoom}
 
@@ -25,12 +26,16 @@ abbrev pub refused : Written → List ℕ → Sent
 refused w out = record { written = w; out = out }
 
 -- the frame of packet p at CTR ctr, at the front of out
-unfoldable pub writeOf : List ℕ → ℕ → List ℕ → Sent
-writeOf p ctr out =
+unfoldable pub writeIn : Form → List ℕ → ℕ → List ℕ → Sent
+writeIn f p ctr out =
     cond (eqb (length p) 0) (refused BadLength out)
-    (cond (ltb most (length p)) (refused BadLength out)
-    (cond (ltb (length out) room) (refused NoRoom out)
-    (record { written = Frame (length (frame ctr p)); out = atFront (frame ctr p) out })))
+    (cond (ltb (f .most) (length p)) (refused BadLength out)
+    (cond (ltb (length out) (roomIn f)) (refused NoRoom out)
+    (record { written = Frame (length (frameIn f ctr p)); out = atFront (frameIn f ctr p) out })))
+
+unfoldable pub writeOf : List ℕ → ℕ → List ℕ → Sent
+unfolding writeIn
+writeOf = writeIn byteForm
 
 -- a function that answers w and leaves l in the lent bytes does what s says
 pub record Writes (s : Sent) (w : Written) (l : List ℕ) : Type 0 where

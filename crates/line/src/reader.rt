@@ -12,14 +12,17 @@ use crate::Taken;
 use crate::limits::ESC;
 use crate::limits::LONGEST;
 use crate::limits::MOST_U8;
+use crate::limits::PACKET_AT;
+use crate::limits::SUM_WIDTH;
 use crate::limits::SYNC;
+use crate::limits::WIDTH;
 use crate::sum::sum_of;
 
 // Whether k bytes of a message, of which the first is len, may have come with the last still out.
 fn begun(k: usize, len: u8) -> bool
     ensures { λ r. ⌜ r ≡ begunOf k len ⌝ }
 {
-    if k == 0 {
+    if k < WIDTH {
         return true;
     }
     if len == 0 {
@@ -28,7 +31,7 @@ fn begun(k: usize, len: u8) -> bool
     if MOST_U8 < len {
         return false;
     }
-    k < len as usize + 3
+    k < PACKET_AT + len as usize + SUM_WIDTH
 }
 
 // A place as it reads: one that no message can have is outside.
@@ -79,12 +82,12 @@ fn judge(message: &[u8]) -> Outcome
     ensures { λ r. ⌜ r ≡ judgedOf (now (message .entry)) ⌝ }
 {
     let len = message[0] as usize;
-    let end = len + 2;
+    let end = PACKET_AT + len;
     let sum = sum_of(0, &message[..end]);
     if message[end] == sum {
         Outcome::Good {
-            ctr: message[1],
-            at: 2,
+            ctr: message[WIDTH],
+            at: PACKET_AT,
             len,
         }
     } else {
@@ -97,7 +100,7 @@ fn put(k: usize, message: &mut [u8], byte: u8) -> Taken
     requires { ⌜ (longest ≤ length (now message)) × (begunOf k (getD (now message) 0 0) ≡ true) ⌝ }
     ensures { λ r. ⌜ Does (putOf k (now (message .entry)) byte) r (now (message .exit)) ⌝ }
 {
-    if k == 0 {
+    if k < WIDTH {
         if byte == 0 {
             return Taken {
                 place: Place::Outside,
@@ -112,13 +115,13 @@ fn put(k: usize, message: &mut [u8], byte: u8) -> Taken
         }
         message[0] = byte;
         return Taken {
-            place: Place::Inside(1),
+            place: Place::Inside(WIDTH),
             outcome: Outcome::Nothing,
         };
     }
     let len = message[0] as usize;
     message[k] = byte;
-    if k < len + 2 {
+    if k < PACKET_AT + len {
         return Taken {
             place: Place::Inside(k + 1),
             outcome: Outcome::Nothing,

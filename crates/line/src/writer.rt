@@ -1,8 +1,9 @@
 // The writer: a packet's frame.
 ghost use mathlib.Core.Path.{_≡_};
-ghost use Prim.Native.Nat.{_+_, _%_, _≤_};
+ghost use Prim.Native.Nat.{_+_, _≤_};
 ghost use lib.ListN.{length};
 ghost use Rattle.line.specs.Stuffing.{stuffByte, stuff};
+ghost use Rattle.line.specs.Message.{nextCtr};
 ghost use Rattle.line.specs.Writer.{Stored, Writes, writeOf};
 use crate::Written;
 use crate::limits::ESC;
@@ -70,7 +71,7 @@ pub fn write(packet: &[u8], ctr: u8, out: &mut [u8]) -> Written
 
 // The CTR of the message after one with this CTR: 255 is followed by 0.
 pub fn next_ctr(ctr: u8) -> u8
-    ensures { λ r. ⌜ r ≡ (ctr + 1) % 256 ⌝ }
+    ensures { λ r. ⌜ r ≡ nextCtr ctr ⌝ }
 {
     std::num::wrapping_add_u8(ctr, 1)
 }

@@ -1,4 +1,4 @@
-use native.Mathlib.Nat.{zero-add}
+use native.Mathlib.Nat.{zero-add, add-zero}
 use mathlib.Core.Path.{sym, _∙_}
 use lib.Seq.{length-take-le}
 use borrow.Author.Tests.{eq-eqb, ne-eqb}
@@ -29,10 +29,10 @@ shared-slice-read-t13 : tie.Need-shared-slice-read-t13
 shared-slice-read-t13 c = search needs
 
 returns : tie.Need-returns
-returns c = simp (eq-eqb _ _ (rw zero-add at (c .before .if1 .taken ∙ c .before .before .before .sum-of .ensures)))
+returns c = simp (add-zero, eq-eqb _ _ (rw zero-add at (c .before .if1 .taken ∙ c .before .before .before .sum-of .ensures)))
 
 returns-2 : tie.Need-returns-2
-returns-2 c = simp (ne-eqb _ _ (λ e. c .if1 .left (e ∙ sym (rw zero-add at (c .before .before .sum-of .ensures)))))
+returns-2 c = simp (add-zero, ne-eqb _ _ (λ e. c .if1 .left (e ∙ sym (rw zero-add at (c .before .before .sum-of .ensures)))))
 
 pub judge-spec : {M : Type 1} → statement M
 judge-spec =

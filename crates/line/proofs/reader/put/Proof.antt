@@ -1,19 +1,22 @@
-use mathlib.Core.Path.{refl, sym}
-use borrow.Author.Tests.{lt-ltb, le-ltb, eq-eqb, ne-eqb}
-use native.Mathlib.Omega.{arith}
 use mathlib.Core.Path.{refl}
-use lib.ListN.{getD, length-set}
-use lib.Seq.{getD-set-other}
-use Rattle.line.proofs.Begun.{begun-known}
+use Prim.Native.Nat.{_+_}
+use borrow.Author.Tests.{lt-ltb, eq-eqb, ne-eqb}
+use native.Mathlib.Omega.{arith}
+use lib.ListN.{length-set}
+use Rattle.line.specs.Message.{byteForm}
+use Rattle.line.specs.Reader.{lenIn}
+use Rattle.line.proofs.Numbers.{number-set}
+use Rattle.line.proofs.Begun.{begun-known, begun-right, begun-ended}
+use Rattle.line.proofs.Steps.{put-within, put-next, put-last, put-right, put-wrong, does-so}
 use borrow.Author.Needs.{needs}
 use Rattle.line.proofs.reader.put.Statement.{statement}
 use Rattle.line.proofs.reader.put.Tie as tie
 
 returns : tie.Need-returns
-returns c = simp (eq-eqb _ _ (c .before .if1 .taken), eq-eqb _ _ (c .if2 .taken)) (record { result = refl; bytes = refl })
+returns c = does-so (put-wrong (c .before .before .before .args .k) (c .before .before .before .args .message .now) (c .before .before .before .args .byte) (c .before .if1 .taken) (c .before .before .before .pre .0) (simp (eq-eqb _ _ (c .if2 .taken)))) (record { result = refl; bytes = refl })
 
 returns-2 : tie.Need-returns-2
-returns-2 c = simp (eq-eqb _ _ (c .before .before .if1 .taken), ne-eqb _ _ (c .before .if2 .left), lt-ltb _ _ (c .if3 .taken)) (record { result = refl; bytes = refl })
+returns-2 c = does-so (put-wrong (c .before .before .before .before .args .k) (c .before .before .before .before .args .message .now) (c .before .before .before .before .args .byte) (c .before .before .if1 .taken) (c .before .before .before .before .pre .0) (simp (ne-eqb _ _ (c .before .if2 .left), lt-ltb _ _ (c .if3 .taken)))) (record { result = refl; bytes = refl })
 
 slice-write-message : tie.Need-slice-write-message
 slice-write-message c = search needs
@@ -22,7 +25,7 @@ same-length : tie.Need-same-length
 same-length c = search needs
 
 returns-3 : tie.Need-returns-3
-returns-3 c = simp (eq-eqb _ _ (c .before .before .if1 .taken), ne-eqb _ _ (c .before .if2 .left), le-ltb _ _ (c .if3 .left)) (record { result = refl; bytes = refl })
+returns-3 c = does-so (put-right (c .before .before .before .before .args .k) (c .before .before .before .before .args .message .now) (c .before .before .before .before .args .byte) (c .before .before .if1 .taken) (c .before .before .before .before .pre .0) (begun-right byteForm (byteForm .width) (c .before .before .before .before .args .byte) (omega (arith, c .before .if2 .left)) (c .if3 .left) (omega arith))) (record { result = refl; bytes = refl })
 
 slice-read-len : tie.Need-slice-read-len
 slice-read-len c = search needs
@@ -31,28 +34,32 @@ cast-len : tie.Need-cast-len
 cast-len c = omega (arith, c .slice-known2 .given 0)
 
 slice-write-message-2 : tie.Need-slice-write-message-2
-slice-write-message-2 c = omega (arith, begun-known (c .before .before .before .args .k) (getD (c .before .before .before .args .message .now) 0 0) (c .before .before .before .pre .1) (c .before .if1 .left))
+slice-write-message-2 c = omega (arith, put-within (c .before .before .before .args .k) (lenIn byteForm (c .before .before .before .args .message .now)) (c .before .before .before .pre .1))
 
 add-if4 : tie.Need-add-if4
-add-if4 c = omega (arith, begun-known (c .before .before .before .args .k) (getD (c .before .before .before .args .message .now) 0 0) (c .before .before .before .pre .1) (c .before .if1 .left))
+add-if4 c = omega (arith, (begun-known byteForm (c .before .before .before .args .k) (lenIn byteForm (c .before .before .before .args .message .now)) (c .before .before .before .pre .1) (c .before .if1 .left)))
 
 add-t18 : tie.Need-add-t18
-add-t18 c = omega (arith, begun-known (c .before .before .before .before .args .k) (getD (c .before .before .before .before .args .message .now) 0 0) (c .before .before .before .before .pre .1) (c .before .before .if1 .left))
+add-t18 c = omega (arith, put-within (c .before .before .before .before .args .k) (lenIn byteForm (c .before .before .before .before .args .message .now)) (c .before .before .before .before .pre .1))
 
 same-length-2 : tie.Need-same-length-2
 same-length-2 c = search needs
 
 returns-4 : tie.Need-returns-4
-returns-4 c = simp (ne-eqb _ _ (c .before .before .if1 .left), lt-ltb _ _ (c .if4 .taken)) (record { result = refl; bytes = refl })
+returns-4 c =
+    let b = begun-known byteForm (c .before .before .before .before .args .k) (lenIn byteForm (c .before .before .before .before .args .message .now)) (c .before .before .before .before .pre .1) (c .before .before .if1 .left) in
+    does-so (put-next byteForm (c .before .before .before .before .args .k) (c .before .before .before .before .args .message .now) (c .before .before .before .before .args .byte) (c .before .before .if1 .left) (begun-right byteForm (c .before .before .before .before .args .k + 1) (lenIn byteForm (c .before .before .before .before .args .message .now)) (b .some) (b .few) (omega (arith, c .if4 .taken)))) (record { result = refl; bytes = refl })
 
 judge-requires : tie.Need-judge-requires
-judge-requires c κs = (simp length-set (c .before .before .before .before .before .pre .0), rw (getD-set-other (c .before .before .before .before .before .args .message .now) (c .before .before .before .before .before .args .k) 0 (c .before .before .before .before .before .args .byte) 0 (λ e. c .before .before .before .if1 .left (sym e))) (begun-known (c .before .before .before .before .before .args .k) (getD (c .before .before .before .before .before .args .message .now) 0 0) (c .before .before .before .before .before .pre .1) (c .before .before .before .if1 .left) .few))
+judge-requires c κs = (simp length-set (c .before .before .before .before .before .pre .0), rw (number-set (byteForm .width) 0 (c .before .before .before .before .before .args .k) (c .before .before .before .before .before .args .byte) (c .before .before .before .before .before .args .message .now) (c .before .before .before .if1 .left)) ((begun-known byteForm (c .before .before .before .before .before .args .k) (lenIn byteForm (c .before .before .before .before .before .args .message .now)) (c .before .before .before .before .before .pre .1) (c .before .before .before .if1 .left)) .few))
 
 same-length-3 : tie.Need-same-length-3
 same-length-3 c = search needs
 
 returns-5 : tie.Need-returns-5
-returns-5 c = simp (ne-eqb _ _ (c .before .before .before .before .if1 .left), le-ltb _ _ (c .before .before .if4 .left), c .judge .ensures) (record { result = refl; bytes = refl })
+returns-5 c =
+    does-so (put-last byteForm (c .before .before .before .before .before .before .args .k) (c .before .before .before .before .before .before .args .message .now) (c .before .before .before .before .before .before .args .byte) (c .before .before .before .before .if1 .left) (begun-ended byteForm (c .before .before .before .before .before .before .args .k + 1) (lenIn byteForm (c .before .before .before .before .before .before .args .message .now)) (omega (arith, c .before .before .before .before .if1 .left)) (omega (arith, c .before .before .if4 .left))))
+    (record { result = simp (c .judge .ensures); bytes = refl })
 
 pub put-spec : {M : Type 1} → statement M
 put-spec =
