@@ -15,7 +15,7 @@ use Rattle.line.specs.Message.{packetAt, checksumAt, sizeIn, longestIn, 
 use Rattle.line.specs.Unstuffing.{Fed, placeBy, cutOf}
 use Rattle.line.specs.Reader.{lenIn, messagesIn, takeIn, messages, takeOf}
 use Rattle.line.specs.Run.{runIn}
-use Rattle.line.specs.Wire.{has, unstuff, before, part, Exact, CameIn, lastIn, lastOf}
+use Rattle.line.specs.Wire.{has, unstuff, before, part, Exact, Came, lastIn, lastOf}
 use Rattle.line.specs.declared.Place.{Place}
 use Rattle.line.specs.declared.Place.the-variants.{Outside, Inside, Escaped}
 use Rattle.line.specs.declared.Outcome.{Outcome}
@@ -39,7 +39,7 @@ outside h m = (h, sym (append-nil h))
 -- what an outcome says of the bytes h that came
 abbrev Says : Form → List ℕ → Outcome → List ℕ → Type 0
 Says f h Nothing m = Unit {0}
-Says f h (Good c at n) m = CameIn f c at n m h
+Says f h (Good c at n) m = Came f c at n m h
 Says f h BadLength m = Unit {0}
 Says f h BadEscape m = Unit {0}
 Says f h BadChecksum m = Unit {0}
@@ -111,7 +111,7 @@ module _ (f : Form) (s : Serial f) (p : Place) (m bs : List ℕ) (b c at n : ℕ
   read = take (sizeIn f n) (lastIn f p m bs b .message)
 
   -- its frame came last, after what the place stands for
-  pub sound : CameIn f c at n (lastIn f p m bs b .message) (before (placeBy (messagesIn f) p m) m ++ (bs ++ b ∷ []))
+  pub sound : Came f c at n (lastIn f p m bs b .message) (before (placeBy (messagesIn f) p m) m ++ (bs ++ b ∷ []))
   sound =
       let q : List ℕ = before (placeBy (messagesIn f) p m) m in
       let r = runIn f p m bs in
@@ -152,7 +152,7 @@ module _ (f : Form) (s : Serial f) (p : Place) (m bs : List ℕ) (b c at n : ℕ
       false-true (sym none ∙ rw w (has-here SYNC (sound .earlier) _))
 
 -- where numbers lie exactly, the message in the buffer is that of its LEN, its CTR, and its packet with the fill
-module _ (f : Form) (c at n : ℕ) (m h : List ℕ) (came : CameIn f c at n m h) (exact : Exact (f .width) m) (exact′ : Exact (f .sumWidth) m) where
+module _ (f : Form) (c at n : ℕ) (m h : List ℕ) (came : Came f c at n m h) (exact : Exact (f .width) m) (exact′ : Exact (f .sumWidth) m) where
   head-read : take (checksumAt f n) m ≡ bytesOf (f .width) n ++ (bytesOf (f .width) c ++ part at (n + f .fill n) m)
   head-read =
       let len : take (f .width) m ≡ bytesOf (f .width) n = exact 0 (omega (arith, came .whole)) ∙ ap (bytesOf (f .width)) (came .len) in
@@ -176,7 +176,7 @@ pub sound-frame : (p : Place) (m bs : List ℕ) (b c at n : ℕ) → lastOf p m 
 unfolding takeOf
 sound-frame p m bs b c at n good =
     let l : List ℕ = lastIn byteForm p m bs b .message in
-    let came : CameIn byteForm c at n l (before (placeBy messages p m) m ++ (bs ++ b ∷ [])) = sound byteForm byte-serial p m bs b c at n good in
+    let came : Came byteForm c at n l (before (placeBy messages p m) m ++ (bs ++ b ∷ [])) = sound byteForm byte-serial p m bs b c at n good in
     let long : length (part at n l) ≡ n = length-take-le n (drop at l) (rw length-drop (omega (arith, came .start, came .whole))) in
     let q : take (sizeIn byteForm n) l ≡ message c (part at n l) =
     message-read byteForm c at n l _ came (exact-byte l) (exact-byte l) ∙ rw (add-zero, long) in
@@ -186,5 +186,5 @@ sound-frame p m bs b c at n good =
 pub good-where : (p : Place) (m : List ℕ) (b c at n : ℕ) → takeOf p m b .taken .outcome ≡ Good c at n → (at ≡ packetAt byteForm) × (1 ≤ n) × (n ≤ most) × (at + n ≤ longest)
 unfolding takeOf
 good-where p m b c at n good =
-    let came : CameIn byteForm c at n (takeIn byteForm p m b .message) (before (placeBy messages p m) m ++ b ∷ []) = sound byteForm byte-serial p m [] b c at n good in
+    let came : Came byteForm c at n (takeIn byteForm p m b .message) (before (placeBy messages p m) m ++ b ∷ []) = sound byteForm byte-serial p m [] b c at n good in
     (came .start, came .some, came .few, omega arith)

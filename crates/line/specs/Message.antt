@@ -1,5 +1,5 @@
 -- A message: LEN, CTR, LEN packet bytes and their fill, then the checksum. It knows nothing of stuffing.
--- Here and below `messageIn f` is that of the form f, and `message` that of the byte form, which is in use; so with every name in `In`.
+-- Here and below a name in `In` is over any form, as `messageIn f`; without it, or with `Of`, it is that of the byte form, which is in use.
 use Prim.Native.Nat.{ℕ, _+_, _*_, _^_, _%_, _≤_}
 use mathlib.Core.List.{List, [], _∷_, _++_}
 use lib.ListN.{length}

@@ -55,8 +55,8 @@ part at n m = take n (drop at m)
 abbrev pub Exact : ℕ → List ℕ → Type 0
 Exact w m = (i : ℕ) → i + w ≤ length m → part i w m ≡ bytesOf w (numberAt w i m)
 
--- the bytes h that came end in a message on the wire, which stands at the front of m with CTR c: its packet is the n bytes from `at` on
-pub record CameIn (f : Form) (c at n : ℕ) (m h : List ℕ) : Type 0 where
+-- the bytes h that came end in a message on the wire, which lies at the front of m: its CTR is c, its packet the n bytes from `at` on
+pub record Came (f : Form) (c at n : ℕ) (m h : List ℕ) : Type 0 where
   pub start : at ≡ packetAt f
   pub some : 1 ≤ n
   pub few : n ≤ f .most
@@ -78,11 +78,11 @@ ends CutOff = false
 ends ShortBuffer = false
 
 -- what the byte b leads to after the bytes bs
-abbrev pub lastOf : Place → List ℕ → List ℕ → ℕ → Fed
-lastOf p m bs b = takeOf (run p m bs .place) (run p m bs .message) b
-
 abbrev pub lastIn : Form → Place → List ℕ → List ℕ → ℕ → Fed
 lastIn f p m bs b = takeIn f (runIn f p m bs .place) (runIn f p m bs .message) b
+
+abbrev pub lastOf : Place → List ℕ → List ℕ → ℕ → Fed
+lastOf p m bs b = takeOf (run p m bs .place) (run p m bs .message) b
 
 -- a run, and then another
 abbrev pub andThen : Ran → Ran → Ran
