@@ -1,10 +1,10 @@
 -- Laws of numbers in bytes and of fill, and what of a message lies where, in any form. Assumes nothing.
 use mathlib.Core.Path.{_≡_, refl, sym, ap, _∙_}
 use mathlib.Core.List.{List, [], _∷_, _++_, append-assoc}
-use Prim.Native.Nat.{ℕ, zero, suc, _+_, _*_, _%_, _/_, _≤_}
+use Prim.Native.Nat.{ℕ, zero, suc, _+_, _%_, _/_, _≤_}
 use native.Mathlib.Omega.{arith}
-use lib.ListN.{length, take, drop, set, length-append, List·getD-append}
-use lib.Seq.{take-append-seam, getD-append-seam, getD-set-other, drop-at}
+use lib.ListN.{length, take, set, length-append, List·getD-append}
+use lib.Seq.{take-append-seam, getD-set-other, drop-at, getD-at}
 use Rattle.line.specs.Form.{Form, bytesOf, numberAt, filled}
 use Rattle.line.specs.Message.{byteForm, packetAt, checksumAt, sizeIn, Serial, headIn, messageIn}
 use Rattle.line.specs.Reader.{lenIn}
@@ -17,17 +17,14 @@ bytes-length (suc zero) n = refl
 bytes-length (suc (suc w)) n = ap suc (bytes-length (suc w) (n / 256))
 
 -- a number's bytes read as the number, wherever they lie
-number-lies : (w n : ℕ) (pre post : List ℕ) → numberAt (suc w) (length pre) (pre ++ (bytesOf (suc w) n ++ post)) ≡ n
-number-lies zero n pre post = getD-append-seam pre n post 0
-number-lies (suc w) n pre post =
-    let l : length (pre ++ n % 256 ∷ []) ≡ suc (length pre) = length-append pre (n % 256 ∷ []) ∙ omega arith in
-    let rest : numberAt (suc w) (suc (length pre)) (pre ++ (n % 256 ∷ (bytesOf (suc w) (n / 256) ++ post))) ≡ n / 256 =
-    rw (l, append-assoc pre (n % 256 ∷ []) (bytesOf (suc w) (n / 256) ++ post)) at (number-lies w (n / 256) (pre ++ n % 256 ∷ []) post) in
-    rw (getD-append-seam pre (n % 256) (bytesOf (suc w) (n / 256) ++ post) 0, rest) (omega arith)
-
 pub number-at : (w i n : ℕ) (pre post : List ℕ) → 1 ≤ w → length pre ≡ i → numberAt w i (pre ++ (bytesOf w n ++ post)) ≡ n
 number-at zero i n pre post some e = absurd (omega arith)
-number-at (suc w) i n pre post some e = rw (← e) (number-lies w n pre post)
+number-at (suc zero) i n pre post some e = getD-at pre n post 0 i e
+number-at (suc (suc w)) i n pre post some e =
+    let l : length (pre ++ n % 256 ∷ []) ≡ suc i = length-append pre (n % 256 ∷ []) ∙ omega arith in
+    let rest = number-at (suc w) (suc i) (n / 256) (pre ++ n % 256 ∷ []) post (omega arith) l in
+    let ys : List ℕ = bytesOf (suc w) (n / 256) ++ post in
+    rw (getD-at pre (n % 256) ys 0 i e, rw (append-assoc pre (n % 256 ∷ []) ys) at rest) (omega arith)
 
 -- it is read from its own bytes alone
 pub number-front : (w i : ℕ) (xs ys : List ℕ) → i + w ≤ length xs → numberAt w i (xs ++ ys) ≡ numberAt w i xs
