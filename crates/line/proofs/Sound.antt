@@ -167,20 +167,22 @@ module _ (f : Form) (c at n : ℕ) (m h : List ℕ) (came : Came f c at n m h) (
 
 -- ---- the byte form
 -- one byte is its own number
-exact-byte : (m : List ℕ) → Exact 1 m
+exact-byte : (m : List ℕ) → Exact (byteForm .width) m
 exact-byte m i h = rw (drop-cons m i 0 (omega arith))
 
--- the bytes that the place stands for and those since end in the very frame
+-- the message in the buffer is that of its CTR and packet
+pub byte-read : (c at n : ℕ) (m h : List ℕ) → Came byteForm c at n m h → take (sizeIn byteForm n) m ≡ message c (part at n m)
+byte-read c at n m h came =
+    let long : length (part at n m) ≡ n = length-take-le n (drop at m) (rw length-drop (omega (arith, came .start, came .whole))) in
+    message-read byteForm c at n m h came (exact-byte m) (exact-byte m) ∙ rw (add-zero, long)
+
+-- so the bytes that the place stands for and those since end in the very frame
 pub sound-frame : (p : Place) (m bs : List ℕ) (b c at n : ℕ) → lastOf p m bs b .taken .outcome ≡ Good c at n
     → (earlier : List ℕ) × (before (placeBy messages p m) m ++ (bs ++ b ∷ []) ≡ earlier ++ frame c (part at n (lastOf p m bs b .message)))
 unfolding takeOf
 sound-frame p m bs b c at n good =
-    let l : List ℕ = lastIn byteForm p m bs b .message in
-    let came : Came byteForm c at n l (before (placeBy messages p m) m ++ (bs ++ b ∷ [])) = sound byteForm byte-serial p m bs b c at n good in
-    let long : length (part at n l) ≡ n = length-take-le n (drop at l) (rw length-drop (omega (arith, came .start, came .whole))) in
-    let q : take (sizeIn byteForm n) l ≡ message c (part at n l) =
-    message-read byteForm c at n l _ came (exact-byte l) (exact-byte l) ∙ rw (add-zero, long) in
-    (came .earlier, came .bytes ∙ ap (λ (x : List ℕ). came .earlier ++ onWire x) q)
+    let came = sound byteForm byte-serial p m bs b c at n good in
+    (came .earlier, came .bytes ∙ ap (λ (q : List ℕ). came .earlier ++ onWire q) (byte-read c at n (lastIn byteForm p m bs b .message) _ came))
 
 -- where a good message lies in the buffer
 pub good-where : (p : Place) (m : List ℕ) (b c at n : ℕ) → takeOf p m b .taken .outcome ≡ Good c at n → (at ≡ packetAt byteForm) × (1 ≤ n) × (n ≤ most) × (at + n ≤ longest)
