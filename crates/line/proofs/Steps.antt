@@ -42,16 +42,13 @@ pub data PutsIn (f : Form) (k : ℕ) (m : List ℕ) (x : ℕ) : Fed → Type 0 w
   -- the last, and the checksum is wrong
   spoils : PutsIn f k m x (over BadChecksum (set m k x))
 
--- once LEN has come, the message goes on, or ends
+-- once LEN has come, it stays, and the message goes on or ends
 module _ (f : Form) (k : ℕ) (m : List ℕ) (x : ℕ) (whole : f .width ≤ k) where
   len-kept : lenIn f (set m k x) ≡ lenIn f m
   len-kept = number-set (f .width) 0 k x m (omega arith)
 
-  pub put-next : begunIn f (k + 1) (lenIn f m) ≡ true → putIn f k m x ≡ on (Inside (k + 1)) (set m k x)
-  put-next e = rw (len-kept, e)
-
-  pub put-last : begunIn f (k + 1) (lenIn f m) ≡ false → putIn f k m x ≡ over (judgedIn f (set m k x)) (set m k x)
-  put-last e = rw (len-kept, e, le-ltb k (f .width) whole)
+  pub put-rest : putIn f k m x ≡ cond (begunIn f (k + 1) (lenIn f m)) (on (Inside (k + 1)) (set m k x)) (over (judgedIn f (set m k x)) (set m k x))
+  put-rest = rw (len-kept, le-ltb k (f .width) whole)
 
 module _ (f : Form) (k : ℕ) (m : List ℕ) (x : ℕ) where
   last : (n : ℕ) → 1 ≤ n → n ≤ f .most → k + 1 ≡ sizeIn f n → lenIn f (set m k x) ≡ n → PutsIn f k m x (over (judgedAt f n (set m k x)) (set m k x))
@@ -98,15 +95,9 @@ pub puts : (k : ℕ) (m : List ℕ) (x : ℕ) → longest ≤ length m → messa
 puts k m x fits = puts-in byteForm k m x
 
 -- LEN is judged as it comes
-module _ (k : ℕ) (m : List ℕ) (x : ℕ) (lead : k < byteForm .width) (fits : longest ≤ length m) where
-  put-len : putOf k m x ≡ cond (begunOf (byteForm .width) x) (on (Inside (byteForm .width)) (set m 0 x)) (over BadLength m)
-  put-len = let z : k ≡ 0 = omega arith in rw (z, getD-set-same m 0 x 0 (omega arith))
-
-  pub put-right : begunOf (byteForm .width) x ≡ true → putOf k m x ≡ on (Inside (byteForm .width)) (set m 0 x)
-  put-right e = put-len ∙ simp e
-
-  pub put-wrong : begunOf (byteForm .width) x ≡ false → putOf k m x ≡ over BadLength m
-  put-wrong e = put-len ∙ simp e
+pub put-len : (k : ℕ) (m : List ℕ) (x : ℕ) → k < byteForm .width → longest ≤ length m
+    → putOf k m x ≡ cond (begunOf (byteForm .width) x) (on (Inside (byteForm .width)) (set m 0 x)) (over BadLength m)
+put-len k m x lead fits = let z : k ≡ 0 = omega arith in rw (z, getD-set-same m 0 x 0 (omega arith))
 
 -- a function that does the one does the other
 pub does-so : {d e : Fed} {t : Taken} {m : List ℕ} → d ≡ e → Does e t m → Does d t m
