@@ -22,6 +22,6 @@ void powered(struct rig *r);          /* no session */
 void connected(struct rig *r);        /* a session, both resources locked */
 void unlocked(struct rig *r);         /* both unlocked; MTA and pointer unset */
 void closed_waiting(struct rig *r);   /* DISCONNECT's answer still waits */
-void busy(struct rig *r);             /* all settings in use: see host_situations.c */
+void busy(struct rig *r);             /* all settings in use: see situations.c */
 
 #endif
