@@ -13,11 +13,11 @@
 enum { SYNC = 0x9A, ESC = 0x9B, PAINT = 0xC7, STACK = 64 * 1024 };
 enum { POWER_UP, BYTE, EVENT, SLOT, CALLS };
 
-typedef uint32_t power_up_call(uint8_t *, size_t, uint32_t);
-typedef uint32_t byte_call(uint8_t *, size_t, uint8_t *, size_t, const uint8_t *, size_t, uint8_t);
-typedef uint32_t event_call(uint8_t *, size_t, const uint8_t *, size_t, const uint8_t *, size_t,
+typedef uint32_t power_up_call(uint8_t *, uint64_t, uint32_t);
+typedef uint32_t byte_call(uint8_t *, uint64_t, uint8_t *, uint64_t, const uint8_t *, uint64_t, uint8_t);
+typedef uint32_t event_call(uint8_t *, uint64_t, const uint8_t *, uint64_t, const uint8_t *, uint64_t,
                             uint32_t, uint16_t);
-typedef uint32_t slot_call(uint8_t *, size_t, uint8_t *, size_t);
+typedef uint32_t slot_call(uint8_t *, uint64_t, uint8_t *, uint64_t);
 
 static const char *const names[CALLS] = {"xcp_power_up", "xcp_receive_byte", "xcp_event", "xcp_slot"};
 static _Alignas(16) uint8_t stack[STACK];
@@ -39,23 +39,23 @@ static uint8_t *top; /* just above the return address */
 /* The frame's address is that of the saved frame pointer, and the return address stands above. */
 #define NOTE() (top = (uint8_t *)__builtin_frame_address(0) + 16, 0u)
 
-static uint32_t note_power_up(uint8_t *s, size_t n, uint32_t a)
+static uint32_t note_power_up(uint8_t *s, uint64_t n, uint32_t a)
 {
     return (void)s, (void)n, (void)a, NOTE();
 }
 
-static uint32_t note_byte(uint8_t *s, size_t n, uint8_t *c, size_t cn, const uint8_t *m, size_t mn, uint8_t a)
+static uint32_t note_byte(uint8_t *s, uint64_t n, uint8_t *c, uint64_t cn, const uint8_t *m, uint64_t mn, uint8_t a)
 {
     return (void)s, (void)n, (void)c, (void)cn, (void)m, (void)mn, (void)a, NOTE();
 }
 
-static uint32_t note_event(uint8_t *s, size_t n, const uint8_t *c, size_t cn, const uint8_t *m, size_t mn,
+static uint32_t note_event(uint8_t *s, uint64_t n, const uint8_t *c, uint64_t cn, const uint8_t *m, uint64_t mn,
                            uint32_t a, uint16_t t)
 {
     return (void)s, (void)n, (void)c, (void)cn, (void)m, (void)mn, (void)a, (void)t, NOTE();
 }
 
-static uint32_t note_slot(uint8_t *s, size_t n, uint8_t *o, size_t on)
+static uint32_t note_slot(uint8_t *s, uint64_t n, uint8_t *o, uint64_t on)
 {
     return (void)s, (void)n, (void)o, (void)on, NOTE();
 }

@@ -1,8 +1,10 @@
-/* The C interface of the XCP slave, libslave.a: C99 or later, and C++.
+/* The C interface of the XCP slave, libslave.a: C99 or later, and C++, on every processor that the
+ * archive is made for.
  *
  * The slave keeps no memory of its own and calls nothing. Each call is lent what it works on, for
  * that call only: the state, the two memories, the room for a frame. Another address at the next
- * call is fine, and so are a memory of another length, any alignment, and NULL with length 0.
+ * call is fine, and so are a memory of another length, any alignment, and NULL with length 0. (Code
+ * for a Cortex-M4 uses words at odd addresses; where these are trapped, build with UNALIGNED=no.)
  *
  * What a host owes, because no call can test it:
  *  - Every pointer and length name real memory, and no two slices of one call overlap.
@@ -46,12 +48,14 @@
 #ifndef XCP_SLAVE_H
 #define XCP_SLAVE_H
 
-#include <stddef.h>
 #include <stdint.h>
 
 #ifdef __cplusplus
 extern "C" {
 #endif
+
+/* Of this header and the archives made with it; CHANGELOG.md says what each version changed. */
+#define XCP_SLAVE_VERSION "1.0.0"
 
 /* The state's one size: a shorter or longer buffer is refused. */
 #define XCP_STATE_SIZE 247
@@ -80,26 +84,25 @@ enum xcp_number {
     XCP_BAD_STATE = 10    /* any call: the state has the wrong size, or was never powered up */
 };
 
-/* The archive is built for a size_t of 8 bytes; elsewhere this line does not compile. */
-typedef char xcp_size_t_must_have_8_bytes[sizeof(size_t) == 8 ? 1 : -1];
+/* A length has 64 bits on every processor; a narrower size_t widens by itself at the call. */
 
 /* Makes the state anew, whatever it held: no session, nothing waits, the slave's CTR is 0. Seeds
  * follow from start; a start of 0 becomes a default. Refuses with 10 by the size alone. */
-uint32_t xcp_power_up(uint8_t *state, size_t state_len, uint32_t start);
+uint32_t xcp_power_up(uint8_t *state, uint64_t state_len, uint32_t start);
 
 /* Takes one byte from the wire. At most the first 4,096 bytes of each memory can be addressed:
  * cal is read and, once it is unlocked, written; meas is only read. Returns 0 to 7, or 10. */
-uint32_t xcp_receive_byte(uint8_t *state, size_t state_len, uint8_t *cal, size_t cal_len,
-                          const uint8_t *meas, size_t meas_len, uint8_t byte);
+uint32_t xcp_receive_byte(uint8_t *state, uint64_t state_len, uint8_t *cal, uint64_t cal_len,
+                          const uint8_t *meas, uint64_t meas_len, uint8_t byte);
 
 /* Event 0 or 1: each running list of that event takes its sample within this call, or misses it
  * while packets of its last one are unsent. Returns 0 with both counts, 8, or 10. */
-uint32_t xcp_event(uint8_t *state, size_t state_len, const uint8_t *cal, size_t cal_len,
-                   const uint8_t *meas, size_t meas_len, uint32_t event, uint16_t clock);
+uint32_t xcp_event(uint8_t *state, uint64_t state_len, const uint8_t *cal, uint64_t cal_len,
+                   const uint8_t *meas, uint64_t meas_len, uint32_t event, uint16_t clock);
 
 /* Writes the next frame to send, if one waits, at the front of out; the rest of out stays. That
  * frame counts as sent. Returns 0 with the frame's size, 9, or 10. */
-uint32_t xcp_slot(uint8_t *state, size_t state_len, uint8_t *out, size_t out_len);
+uint32_t xcp_slot(uint8_t *state, uint64_t state_len, uint8_t *out, uint64_t out_len);
 
 /* XCP_STATE_SIZE as the archive has it, for a check at start-up. */
 uint32_t xcp_state_size(void);

@@ -3,27 +3,27 @@
 use std::ptr;
 
 extern "C" {
-    fn xcp_power_up(state: *mut u8, state_len: usize, start: u32) -> u32;
+    fn xcp_power_up(state: *mut u8, state_len: u64, start: u32) -> u32;
     fn xcp_receive_byte(
         state: *mut u8,
-        state_len: usize,
+        state_len: u64,
         cal: *mut u8,
-        cal_len: usize,
+        cal_len: u64,
         meas: *const u8,
-        meas_len: usize,
+        meas_len: u64,
         byte: u8,
     ) -> u32;
     fn xcp_event(
         state: *mut u8,
-        state_len: usize,
+        state_len: u64,
         cal: *const u8,
-        cal_len: usize,
+        cal_len: u64,
         meas: *const u8,
-        meas_len: usize,
+        meas_len: u64,
         event: u32,
         clock: u16,
     ) -> u32;
-    fn xcp_slot(state: *mut u8, state_len: usize, out: *mut u8, out_len: usize) -> u32;
+    fn xcp_slot(state: *mut u8, state_len: u64, out: *mut u8, out_len: u64) -> u32;
     fn xcp_state_size() -> u32;
 }
 
@@ -46,17 +46,23 @@ fn front_mut(bytes: &mut [u8]) -> *mut u8 {
     }
 }
 
+/// Lengths have 64 bits in the interface.
+#[inline]
+fn length(bytes: &[u8]) -> u64 {
+    bytes.len() as u64
+}
+
 // Each call below lends slices that Rust knows to be real and apart, all that the slave asks for. They
 // are marked inline so that a loop in another crate calls the archive and nothing in between.
 
 #[inline]
 pub fn power_up(state: &mut [u8], start: u32) -> u32 {
-    unsafe { xcp_power_up(front_mut(state), state.len(), start) }
+    unsafe { xcp_power_up(front_mut(state), length(state), start) }
 }
 
 #[inline]
 pub fn receive_byte(state: &mut [u8], cal: &mut [u8], meas: &[u8], byte: u8) -> u32 {
-    let (state_len, cal_len) = (state.len(), cal.len());
+    let (state_len, cal_len) = (length(state), length(cal));
     unsafe {
         xcp_receive_byte(
             front_mut(state),
@@ -64,7 +70,7 @@ pub fn receive_byte(state: &mut [u8], cal: &mut [u8], meas: &[u8], byte: u8) -> 
             front_mut(cal),
             cal_len,
             front(meas),
-            meas.len(),
+            length(meas),
             byte,
         )
     }
@@ -75,11 +81,11 @@ pub fn event(state: &mut [u8], cal: &[u8], meas: &[u8], event: u32, clock: u16) 
     unsafe {
         xcp_event(
             front_mut(state),
-            state.len(),
+            length(state),
             front(cal),
-            cal.len(),
+            length(cal),
             front(meas),
-            meas.len(),
+            length(meas),
             event,
             clock,
         )
@@ -88,8 +94,8 @@ pub fn event(state: &mut [u8], cal: &[u8], meas: &[u8], event: u32, clock: u16) 
 
 #[inline]
 pub fn slot(state: &mut [u8], out: &mut [u8]) -> u32 {
-    let out_len = out.len();
-    unsafe { xcp_slot(front_mut(state), state.len(), front_mut(out), out_len) }
+    let out_len = length(out);
+    unsafe { xcp_slot(front_mut(state), length(state), front_mut(out), out_len) }
 }
 
 #[inline]
