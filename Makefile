@@ -1,20 +1,39 @@
-.PHONY: help test run bench
+.PHONY: help run controller run-controller bench test install clean
 
 help:
-	@echo 'make run    the slave at work: a controller with it inside, and a tool at its line'
-	@echo 'make test   the gate: layout, proofs, must-fail edits, programs, host tests'
-	@echo 'make bench  times beside a plain slave in Rust, sizes, stack'
+	@echo 'make run             the slave at work: a controller with it inside, and a tool at its line'
+	@echo 'make controller      an archive for a controller: CPU=cortex-m4 (or cortex-m0, riscv32) OPT=-Os UNALIGNED=yes'
+	@echo 'make run-controller  the same work by a Cortex-M4, in an emulator'
+	@echo 'make bench           times beside a plain slave in Rust, sizes, stack; instructions on a Cortex-M4'
+	@echo 'make test            the gate: layout, proofs, must-fail edits, programs, host tests'
+	@echo 'make install         header, archive and a pkg-config file: PREFIX=/usr/local, and CPU= for a controller'
+	@echo 'make clean           removes all that was built, the proofs too'
+
+# In all of these what is unchanged is not proved again, and proofs in work are named on standard error.
+run:
+	@tools/setup run >&2
+	@tools/run
+
+# CPU, TARGET, FLAGS, OPT and UNALIGNED go to tools/controller as they are given: it says what they mean.
+controller:
+	@tools/setup controller >&2
+	@tools/controller
+
+run-controller:
+	@tools/setup run-controller >&2
+	@tools/run-controller
+
+bench:
+	@tools/setup bench >&2
+	@tools/bench
 
 test:
 	@.ci/run
 
-# All but the exchange itself goes to standard error. What is unchanged is not proved again.
-run:
-	@tools/setup >&2
-	@echo 'make run: proving and compiling the slave (minutes at the first time), then running examples/host.c' >&2
-	@tools/run
+install:
+	@tools/setup install >&2
+	@tools/install
 
-bench:
-	@tools/setup >&2
-	@echo 'make bench: proving and compiling the slave (minutes at the first time), then timing it' >&2
-	@tools/bench
+clean:
+	rm -rf build target compare/*/target
+	find . -name __pycache__ -type d -prune -exec rm -rf {} +
