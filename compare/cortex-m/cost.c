@@ -1,0 +1,385 @@
+/* What each call costs on a Cortex-M: instructions, exactly, and stack. Prints a line for each: what, instructions, bytes of
+ * stack, with a bar between.
+ *
+ * For the emulated board, run so that an instruction takes 1,024 ns (-icount shift=10): the board's timer makes a step every
+ * 40 ns, 25.6 for an instruction, and no instruction is lost in rounding. Counted is from a call's first instruction to its
+ * return, both included; what it takes to call and to read the timer is measured at empty functions and taken off.
+ * Stack is measured by painting, below the stack pointer at the call: arguments stand above it, and what a call reserves and
+ * never writes is not seen. */
+#include "mps2.h"
+#include "semihost.h"
+#include "xcp_slave.h"
+
+#include <stddef.h>
+
+enum { SYNC = 0x9A, ESC = 0x9B, CHECKSUM = 0xF3, DEEP = 1024, PAINT = 0xC7C7C7C7 };
+enum { POWER_UP, BYTE, EVENT, SLOT, CALLS };
+
+typedef uint32_t power_up_call(uint8_t *, uint64_t, uint32_t);
+typedef uint32_t byte_call(uint8_t *, uint64_t, uint8_t *, uint64_t, const uint8_t *, uint64_t, uint8_t);
+typedef uint32_t event_call(uint8_t *, uint64_t, const uint8_t *, uint64_t, const uint8_t *, uint64_t, uint32_t, uint16_t);
+typedef uint32_t slot_call(uint8_t *, uint64_t, uint8_t *, uint64_t);
+
+static const char *const names[CALLS] = {"xcp_power_up", "xcp_receive_byte", "xcp_event", "xcp_slot"};
+static uint8_t state[XCP_STATE_SIZE], cal[4096], meas[4096], room[XCP_SLOT_ROOM];
+
+/* Of the last call, and what of the count is not the call's own. */
+static uint32_t counted, depth, around[CALLS];
+/* Of all calls; and of the bytes that end a command other than BUILD_CHECKSUM, the dearest one. */
+static uint32_t deepest[CALLS];
+static struct { uint32_t instructions, stack, code; } dearest;
+
+static void say(const char *text)
+{
+    semihost(SYS_WRITE0, text);
+}
+
+static void end(int status)
+{
+    uint32_t block[2] = {APPLICATION_EXIT, (uint32_t)status};
+    for (;;)
+        semihost(SYS_EXIT_EXTENDED, block);
+}
+
+static void say_number(uint32_t number, uint32_t base)
+{
+    char text[12];
+    int at = sizeof text - 1;
+    text[at] = 0;
+    do {
+        text[--at] = "0123456789ABCDEF"[number % base];
+        number /= base;
+    } while (number > 0);
+    say(text + at);
+}
+
+static void fail(const char *why)
+{
+    say("cost: ");
+    say(why);
+    say("\n");
+    end(1);
+}
+
+/* A fault ends the program, and not only the measurement. */
+void stopped(void);
+void stopped(void)
+{
+    fail("a fault");
+}
+
+/* One instruction, by every call's name. */
+power_up_call empty_power_up;
+byte_call empty_byte;
+event_call empty_event;
+slot_call empty_slot;
+__asm__(".text\n.syntax unified\n.thumb\n.global empty_power_up, empty_byte, empty_event, empty_slot\n"
+        ".thumb_func\nempty_power_up:\n.thumb_func\nempty_byte:\n.thumb_func\nempty_event:\n.thumb_func\nempty_slot:\n"
+        "bx lr\n");
+
+/* The slave's functions, or the empty ones. */
+static power_up_call *volatile power_up;
+static byte_call *volatile receive_byte;
+static event_call *volatile event;
+static slot_call *volatile slot;
+
+/* Steps of the timer as whole instructions: 1,024 ns are 25.6 steps of 40 ns. */
+static uint32_t instructions(uint32_t steps)
+{
+    return (steps * 5 + 64) / 128;
+}
+
+/* Paints the stack below the function that it stands in, and makes the call. That function's frame does not move, so the
+ * stack pointer is the same at the call. */
+#define MEASURED(CALL)                                         \
+    uint32_t *sp, result, before, after;                       \
+    __asm__ volatile("mov %0, sp" : "=r"(sp));                 \
+    for (volatile uint32_t *at = sp - DEEP / 4; at < sp; at++) \
+        *at = PAINT;                                           \
+    before = TIMER_VALUE;                                      \
+    result = CALL;                                             \
+    after = TIMER_VALUE;                                       \
+    volatile uint32_t *lowest = sp - DEEP / 4;                 \
+    while (lowest < sp && *lowest == PAINT)                    \
+        lowest++;                                              \
+    depth = (uint32_t)(sp - (uint32_t *)lowest) * 4;           \
+    counted = instructions(before - after);                    \
+    return result
+
+#define APART static __attribute__((noinline)) uint32_t
+
+APART do_power_up(uint32_t a)
+{
+    MEASURED(power_up(state, sizeof state, a));
+}
+
+APART do_byte(uint32_t a)
+{
+    MEASURED(receive_byte(state, sizeof state, cal, sizeof cal, meas, sizeof meas, (uint8_t)a));
+}
+
+APART do_event(uint32_t a)
+{
+    MEASURED(event(state, sizeof state, cal, sizeof cal, meas, sizeof meas, a, 0x9A9B));
+}
+
+APART do_slot(uint32_t a)
+{
+    (void)a;
+    MEASURED(slot(state, sizeof state, room, sizeof room));
+}
+
+static uint32_t (*const doing[CALLS])(uint32_t) = {do_power_up, do_byte, do_event, do_slot};
+
+static uint32_t call(int which, uint32_t with)
+{
+    uint32_t result = doing[which](with);
+    counted -= around[which];
+    if (depth >= DEEP)
+        fail("a call went deeper than was painted");
+    if (depth > deepest[which])
+        deepest[which] = depth;
+    return result;
+}
+
+static uint32_t put(uint8_t byte)
+{
+    if (byte == SYNC || byte == ESC) {
+        call(BYTE, ESC);
+        byte = byte == SYNC ? 1 : 0;
+    }
+    return call(BYTE, byte);
+}
+
+/* A command; gives what its last byte returned, and counted and depth are that byte's. */
+static uint32_t tell(const uint8_t *packet, size_t count)
+{
+    uint8_t sum = (uint8_t)count;
+    call(BYTE, SYNC);
+    put((uint8_t)count);
+    put(0);
+    for (size_t i = 0; i < count; i++) {
+        put(packet[i]);
+        sum = (uint8_t)(sum + packet[i]);
+    }
+    uint32_t result = put(sum);
+    if (packet[0] != CHECKSUM && counted > dearest.instructions) {
+        dearest.instructions = counted;
+        dearest.stack = depth;
+        dearest.code = packet[0];
+    }
+    return result;
+}
+
+#define COMMAND(...) (const uint8_t[]){__VA_ARGS__}, sizeof((const uint8_t[]){__VA_ARGS__})
+#define TELL(...) tell(COMMAND(__VA_ARGS__))
+#define ASK(...) (TELL(__VA_ARGS__), call(SLOT, 0))
+
+/* A line of the table; the last call must have returned this number with this value, or something else was measured. */
+static void show(const char *what, uint32_t result, uint32_t number, uint32_t value)
+{
+    if (XCP_NUMBER(result) != number || XCP_SIZE(result) != value) {
+        say(what);
+        say(": ");
+        fail("the call did not do what was to be measured");
+    }
+    say(what);
+    say("|");
+    say_number(counted, 10);
+    say("|");
+    say_number(depth, 10);
+    say("\n");
+}
+
+/* The frame of a slot that was just made: its packet begins so, behind SYNC, LEN and CTR. */
+static void began(uint8_t first)
+{
+    if (room[3] != first)
+        fail("a slot sent another packet than was to be measured");
+}
+
+/* From start 1 the seeds, and so the keys, are known. */
+static void open_session(void)
+{
+    call(POWER_UP, 1);
+    ASK(0xFF, 0);
+    ASK(0xF8, 0, 1);
+    ASK(0xF7, 4, 0x00, 0x7F, 0xF0, 0x04);
+    ASK(0xF8, 0, 4);
+    ASK(0xF7, 4, 0x04, 0x01, 0xE0, 0x08);
+}
+
+/* Four lists of five and seven bytes, all running on event 0. */
+static void start_lists(void)
+{
+    for (uint8_t list = 0; list < 4; list++) {
+        for (uint8_t odt = 0; odt < 2; odt++) {
+            ASK(0xE2, 0, list, 0, odt, 0);
+            ASK(0xE1, 0xFF, 4, 1, (uint8_t)(0x10 * list), 0, 0, 0);
+            ASK(0xE1, 0xFF, (uint8_t)(odt ? 3 : 1), 1, (uint8_t)(0x10 * list), 0, 0, 0);
+        }
+        ASK(0xE0, 0x10, list, 0, 0, 0, 1, 0);
+        ASK(0xDE, 1, list, 0);
+    }
+}
+
+static void bytes(void)
+{
+    show("power-up", call(POWER_UP, 1), XCP_DONE, 0);
+    show("a byte outside a message", call(BYTE, 0x55), XCP_DONE, 0);
+    call(BYTE, SYNC);
+    call(BYTE, 8);
+    call(BYTE, 0);
+    show("a byte inside a message", call(BYTE, 0x11), XCP_DONE, 0);
+}
+
+static void commands(void)
+{
+    open_session();
+    show("the last byte of SYNCH", TELL(0xFC), XCP_TAKEN, 0);
+    call(SLOT, 0);
+    began(0xFE);
+    ASK(0xF6, 0, 0, 1, 0, 0, 0, 0);
+    show("the last byte of UPLOAD, 7 bytes", TELL(0xF5, 7), XCP_TAKEN, 0);
+    call(SLOT, 0);
+    began(0xFF);
+    ASK(0xF6, 0, 0, 0, 0, 0, 0, 0);
+    show("the last byte of DOWNLOAD, 6 bytes", TELL(0xF0, 6, 1, 2, 3, 4, 5, 6), XCP_TAKEN, 0);
+    call(SLOT, 0);
+    began(0xFF);
+    ASK(0xF6, 0, 0, 1, 0, 0, 0, 0);
+    show("the last byte of BUILD_CHECKSUM, 4,096 bytes", TELL(CHECKSUM, 0, 0, 0, 0x00, 0x10, 0, 0), XCP_TAKEN, 0);
+    call(SLOT, 0);
+    began(0xFF);
+}
+
+static void slots(void)
+{
+    open_session();
+    TELL(0xF4, 7, 0, 1, 0, 0, 0, 0);
+    show("a slot with an answer of 8 bytes", call(SLOT, 0), XCP_DONE, 12);
+    began(0xFF);
+    show("an idle slot", call(SLOT, 0), XCP_DONE, 0);
+    start_lists();
+    show("an event of four full lists", call(EVENT, 0), XCP_DONE, 4 << 8);
+    show("a slot with a sample of 8 bytes", call(SLOT, 0), XCP_DONE, 14); /* its clock is sent as two pairs */
+    began(0x00);
+    while (XCP_SIZE(call(SLOT, 0)) > 0)
+        ;
+    show("an idle slot while four lists run", call(SLOT, 0), XCP_DONE, 0);
+}
+
+/* All that can take long or go deep: as in compare/stack.c. */
+static void memory(void)
+{
+    for (uint8_t extension = 0; extension < 3; extension++) {
+        ASK(0xF6, 0, 0, extension, 0, 0, 0, 0);
+        ASK(0xF0, 6, SYNC, ESC, SYNC, ESC, SYNC, ESC);
+        ASK(0xF0, 7, 1, 2);
+        ASK(0xF5, 7);
+        ASK(0xF5, 0);
+        ASK(0xF4, 7, 0, extension, 0, 0, 0, 0);
+        ASK(0xF4, 7, 0, extension, 0xFF, 0x0F, 0, 0);
+        ASK(0xF6, 0, 0, extension, 0, 0, 0, 0);
+        ASK(CHECKSUM, 0, 0, 0, 0x00, 0x10, 0, 0);
+        ASK(CHECKSUM, 0, 0, 0, 0x01, 0x10, 0, 0);
+    }
+}
+
+static void lists(void)
+{
+    for (uint8_t list = 0; list < 5; list++) {
+        ASK(0xE3, 0, list, 0);
+        for (uint8_t odt = 0; odt < 2; odt++) {
+            ASK(0xE2, 0, list, 0, odt, 0);
+            for (uint8_t entry = 0; entry < 4; entry++)
+                ASK(0xE1, 0xFF, (uint8_t)(1 + (odt & (entry > 0))), 1, list, 0, 0, 0);
+        }
+        ASK(0xDE, 1, list, 0);
+        ASK(0xE0, 0x10, list, 0, 0, 0, 1, 0);
+        ASK(0xDE, 2, list, 0);
+    }
+    ASK(0xDD, 1);
+    for (uint32_t turn = 0; turn < 20; turn++) {
+        call(EVENT, turn % 3);
+        ASK(0xFC);
+        call(SLOT, 0);
+    }
+    for (uint8_t mode = 0; mode < 4; mode++) {
+        ASK(0xDE, mode, 1, 0);
+        ASK(0xE1, 0xFF, 1, 1, 0, 0, 0, 0);
+        ASK(0xE3, 0, 1, 0);
+        ASK(0xDD, mode);
+    }
+}
+
+/* Every code, known or not, and every byte after a SYNC and after an ESC. */
+static void everything_else(void)
+{
+    for (uint32_t value = 0; value < 256; value++) {
+        if (value < 0xFE)
+            ASK((uint8_t)value, 0, 0, 0, 0, 0, 0, 0);
+        ASK((uint8_t)value, 1);
+        call(BYTE, SYNC);
+        call(BYTE, value);
+        call(BYTE, ESC);
+        call(BYTE, value);
+        open_session();
+    }
+    ASK(0xF8, 0, 1);
+    ASK(0xF7, 4, 0, 0, 0, 0);
+    ASK(0xFD);
+}
+
+static __attribute__((noinline)) uint32_t timed_loop(uint32_t turns)
+{
+    uint32_t before = TIMER_VALUE;
+    __asm__ volatile(".syntax unified\n1: subs %0, #1\nbne 1b" : "+l"(turns) : : "cc", "memory");
+    return instructions(before - TIMER_VALUE);
+}
+
+/* The clock has to count every instruction: a loop of two of them, 8,000 turns more than before. */
+static void begin(void)
+{
+    TIMER_RELOAD = 0xFFFFFFFF;
+    TIMER_VALUE = 0xFFFFFFFF;
+    TIMER_CONTROL = TIMER_ON;
+    uint32_t few = timed_loop(1000);
+    if (timed_loop(9000) - few != 16000)
+        fail("the clock does not count instructions: run with -icount shift=10");
+    power_up = empty_power_up, receive_byte = empty_byte, event = empty_event, slot = empty_slot;
+    for (int which = 0; which < CALLS; which++) {
+        doing[which](0);
+        around[which] = counted - 1; /* that one instruction is a call's own */
+    }
+    power_up = xcp_power_up, receive_byte = xcp_receive_byte, event = xcp_event, slot = xcp_slot;
+}
+
+int main(void)
+{
+    begin();
+    for (size_t i = 0; i < sizeof meas; i++)
+        meas[i] = (uint8_t)i;
+    bytes();
+    commands();
+    slots();
+    open_session();
+    memory();
+    lists();
+    everything_else();
+    say("the last byte of the dearest other command|");
+    say_number(dearest.instructions, 10);
+    say(" (");
+    say_number(dearest.code, 16);
+    say(")|");
+    say_number(dearest.stack, 10);
+    for (int which = 0; which < CALLS; which++) {
+        say("\ndeepest of ");
+        say(names[which]);
+        say("||");
+        say_number(deepest[which], 10);
+    }
+    say("\n");
+    end(0);
+    return 0;
+}
