@@ -31,7 +31,7 @@ test:
 	@.ci/run
 
 install:
-	@tools/setup install >&2
+	@tools/setup $(if $(CPU)$(TARGET),controller,install) >&2
 	@tools/install
 
 clean:
