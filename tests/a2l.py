@@ -217,6 +217,7 @@ def places(c, module, host):
 
 def example(c, module):
     host, board = open("examples/host.c").read(), open("examples/board.c").read()
+    controller = open("examples/cortex-m/board.c").read()
     sizes = places(c, module, host)
     segment = module.one("MOD_PAR", "MEMORY_SEGMENT")
     extension = segment.one("IF_DATA", "SEGMENT").values()[2]
@@ -227,8 +228,11 @@ def example(c, module):
     event, = (e.values() for e in module.one("IF_DATA", "DAQ").all("EVENT") if e.values()[2] == raised)
     cycle = int(re.search(r"WEIGHING = (\d+) /\* microseconds", board).group(1)) // 1000
     c.same("cycle of the event, in milliseconds", event[5:7], [cycle, 6])
+    cycle = int(re.search(r"WEIGHING = (\d+) /\* milliseconds", controller).group(1))
+    c.same("cycle of the event on the Cortex-M4, in milliseconds", event[5:7], [cycle, 6])
     sxi = module.one("IF_DATA", "XCP_ON_SxI")
-    c.same("baud rate", sxi.values()[1], int(re.search(r"BAUD = (\d+)", board).group(1)))
+    for name, one in (("", board), (" on the Cortex-M4", controller)):
+        c.same(f"baud rate{name}", sxi.values()[1], int(re.search(r"BAUD = (\d+)", one).group(1)))
     c.same("SYNC and ESC", sxi.one("FRAMING").values(), [SYNC, ESC])
 
 
