@@ -3,6 +3,7 @@
  * for each call: its name and the bytes, return address included and arguments not, in whole words
  * of 8. What a call reserves and never writes is not seen. */
 #define _XOPEN_SOURCE 700
+#include "everything.h"
 #include "xcp_slave.h"
 
 #include <stdio.h>
@@ -10,8 +11,7 @@
 #include <string.h>
 #include <ucontext.h>
 
-enum { SYNC = 0x9A, ESC = 0x9B, PAINT = 0xC7, STACK = 64 * 1024 };
-enum { POWER_UP, BYTE, EVENT, SLOT, CALLS };
+enum { PAINT = 0xC7, STACK = 64 * 1024 };
 
 typedef uint32_t power_up_call(uint8_t *, uint64_t, uint32_t);
 typedef uint32_t byte_call(uint8_t *, uint64_t, uint8_t *, uint64_t, const uint8_t *, uint64_t, uint8_t);
@@ -83,7 +83,7 @@ static void go(void)
     swapcontext(&here, &there);
 }
 
-static uint32_t measured(int which, uint32_t with)
+static uint32_t call(int which, uint32_t with)
 {
     kind = which;
     argument = with;
@@ -105,115 +105,10 @@ static uint32_t measured(int which, uint32_t with)
     return result;
 }
 
-static void send_byte(uint8_t byte)
-{
-    if (byte == SYNC || byte == ESC) {
-        measured(BYTE, ESC);
-        byte = byte == SYNC ? 1 : 0;
-    }
-    measured(BYTE, byte);
-}
-
-/* A command and its answer, which is left in room. */
-static void ask(const uint8_t *packet, size_t count)
-{
-    uint8_t sum = (uint8_t)count;
-    measured(BYTE, SYNC);
-    send_byte((uint8_t)count);
-    send_byte(0);
-    for (size_t i = 0; i < count; i++) {
-        send_byte(packet[i]);
-        sum = (uint8_t)(sum + packet[i]);
-    }
-    send_byte(sum);
-    measured(SLOT, 0);
-}
-
-#define ASK(...)                                       \
-    do {                                               \
-        const uint8_t packet_[] = {__VA_ARGS__};       \
-        ask(packet_, sizeof packet_);                  \
-    } while (0)
-
-/* From start 1 the seeds, and so the keys, are known; a wrong key ends the session. */
-static void open_session(void)
-{
-    measured(POWER_UP, 1);
-    ASK(0xFF, 0);
-    ASK(0xF8, 0, 1);
-    ASK(0xF7, 4, 0x00, 0x7F, 0xF0, 0x04);
-    ASK(0xF8, 0, 4);
-    ASK(0xF7, 4, 0x04, 0x01, 0xE0, 0x08);
-}
-
-static void memory(void)
-{
-    for (uint8_t extension = 0; extension < 3; extension++) {
-        ASK(0xF6, 0, 0, extension, 0, 0, 0, 0);
-        ASK(0xF0, 6, SYNC, ESC, SYNC, ESC, SYNC, ESC);
-        ASK(0xF0, 7, 1, 2);
-        ASK(0xF5, 7);
-        ASK(0xF5, 0);
-        ASK(0xF4, 7, 0, extension, 0, 0, 0, 0);
-        ASK(0xF4, 7, 0, extension, 0xFF, 0x0F, 0, 0);
-        ASK(0xF6, 0, 0, extension, 0, 0, 0, 0);
-        ASK(0xF3, 0, 0, 0, 0x00, 0x10, 0, 0);
-        ASK(0xF3, 0, 0, 0, 0x01, 0x10, 0, 0);
-    }
-}
-
-static void lists(void)
-{
-    for (uint8_t list = 0; list < 5; list++) {
-        ASK(0xE3, 0, list, 0);
-        for (uint8_t odt = 0; odt < 2; odt++) {
-            ASK(0xE2, 0, list, 0, odt, 0);
-            for (uint8_t entry = 0; entry < 4; entry++)
-                ASK(0xE1, 0xFF, (uint8_t)(1 + (odt & (entry > 0))), 1, list, 0, 0, 0);
-        }
-        ASK(0xDE, 1, list, 0);
-        ASK(0xE0, 0x10, list, 0, 0, 0, 1, 0);
-        ASK(0xDE, 2, list, 0);
-    }
-    ASK(0xDD, 1);
-    for (int turn = 0; turn < 20; turn++) {
-        measured(EVENT, (uint32_t)turn % 3);
-        ASK(0xFC);
-        measured(SLOT, 0);
-    }
-    for (uint8_t mode = 0; mode < 4; mode++) {
-        ASK(0xDE, mode, 1, 0);
-        ASK(0xE1, 0xFF, 1, 1, 0, 0, 0, 0);
-        ASK(0xE3, 0, 1, 0);
-        ASK(0xDD, mode);
-    }
-}
-
-/* Every code, known or not, and every byte after a SYNC and after an ESC. */
-static void everything_else(void)
-{
-    for (unsigned value = 0; value < 256; value++) {
-        if (value < 0xFE)
-            ASK((uint8_t)value, 0, 0, 0, 0, 0, 0, 0);
-        ASK((uint8_t)value, 1);
-        measured(BYTE, SYNC);
-        measured(BYTE, value);
-        measured(BYTE, ESC);
-        measured(BYTE, value);
-        open_session();
-    }
-    ASK(0xF8, 0, 1);
-    ASK(0xF7, 4, 0, 0, 0, 0);
-    ASK(0xFD);
-}
-
 int main(void)
 {
     memset(meas, SYNC, sizeof meas);
-    open_session();
-    memory();
-    lists();
-    everything_else();
+    everything();
     for (int which = 0; which < CALLS; which++)
         printf("%s %zu\n", names[which], (deepest[which] + 7) / 8 * 8);
     return 0;

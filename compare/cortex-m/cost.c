@@ -6,14 +6,12 @@
  * return, both included; what it takes to call and to read the timer is measured at empty functions and taken off.
  * Stack is measured by painting, below the stack pointer at the call: arguments stand above it, and what a call reserves and
  * never writes is not seen. */
+#include "../everything.h"
 #include "mps2.h"
 #include "semihost.h"
 #include "xcp_slave.h"
 
-#include <stddef.h>
-
-enum { SYNC = 0x9A, ESC = 0x9B, CHECKSUM = 0xF3, DEEP = 1024, PAINT = 0xC7C7C7C7 };
-enum { POWER_UP, BYTE, EVENT, SLOT, CALLS };
+enum { CHECKSUM = 0xF3, DEEP = 1024, PAINT = 0xC7C7C7C7 };
 
 typedef uint32_t power_up_call(uint8_t *, uint64_t, uint32_t);
 typedef uint32_t byte_call(uint8_t *, uint64_t, uint8_t *, uint64_t, const uint8_t *, uint64_t, uint8_t);
@@ -139,41 +137,13 @@ static uint32_t call(int which, uint32_t with)
         fail("a call went deeper than was painted");
     if (depth > deepest[which])
         deepest[which] = depth;
-    return result;
-}
-
-static uint32_t put(uint8_t byte)
-{
-    if (byte == SYNC || byte == ESC) {
-        call(BYTE, ESC);
-        byte = byte == SYNC ? 1 : 0;
-    }
-    return call(BYTE, byte);
-}
-
-/* A command; gives what its last byte returned, and counted and depth are that byte's. */
-static uint32_t tell(const uint8_t *packet, size_t count)
-{
-    uint8_t sum = (uint8_t)count;
-    call(BYTE, SYNC);
-    put((uint8_t)count);
-    put(0);
-    for (size_t i = 0; i < count; i++) {
-        put(packet[i]);
-        sum = (uint8_t)(sum + packet[i]);
-    }
-    uint32_t result = put(sum);
-    if (packet[0] != CHECKSUM && counted > dearest.instructions) {
+    if (which == BYTE && XCP_NUMBER(result) == XCP_TAKEN && command != CHECKSUM && counted > dearest.instructions) {
         dearest.instructions = counted;
         dearest.stack = depth;
-        dearest.code = packet[0];
+        dearest.code = command;
     }
     return result;
 }
-
-#define COMMAND(...) (const uint8_t[]){__VA_ARGS__}, sizeof((const uint8_t[]){__VA_ARGS__})
-#define TELL(...) tell(COMMAND(__VA_ARGS__))
-#define ASK(...) (TELL(__VA_ARGS__), call(SLOT, 0))
 
 /* A line of the table; the last call must have returned this number with this value, or something else was measured. */
 static void show(const char *what, uint32_t result, uint32_t number, uint32_t value)
@@ -196,17 +166,6 @@ static void began(uint8_t first)
 {
     if (room[3] != first)
         fail("a slot sent another packet than was to be measured");
-}
-
-/* From start 1 the seeds, and so the keys, are known. */
-static void open_session(void)
-{
-    call(POWER_UP, 1);
-    ASK(0xFF, 0);
-    ASK(0xF8, 0, 1);
-    ASK(0xF7, 4, 0x00, 0x7F, 0xF0, 0x04);
-    ASK(0xF8, 0, 4);
-    ASK(0xF7, 4, 0x04, 0x01, 0xE0, 0x08);
 }
 
 /* Four lists of five and seven bytes, all running on event 0. */
@@ -269,68 +228,6 @@ static void slots(void)
     show("an idle slot while four lists run", call(SLOT, 0), XCP_DONE, 0);
 }
 
-/* All that can take long or go deep: as in compare/stack.c. */
-static void memory(void)
-{
-    for (uint8_t extension = 0; extension < 3; extension++) {
-        ASK(0xF6, 0, 0, extension, 0, 0, 0, 0);
-        ASK(0xF0, 6, SYNC, ESC, SYNC, ESC, SYNC, ESC);
-        ASK(0xF0, 7, 1, 2);
-        ASK(0xF5, 7);
-        ASK(0xF5, 0);
-        ASK(0xF4, 7, 0, extension, 0, 0, 0, 0);
-        ASK(0xF4, 7, 0, extension, 0xFF, 0x0F, 0, 0);
-        ASK(0xF6, 0, 0, extension, 0, 0, 0, 0);
-        ASK(CHECKSUM, 0, 0, 0, 0x00, 0x10, 0, 0);
-        ASK(CHECKSUM, 0, 0, 0, 0x01, 0x10, 0, 0);
-    }
-}
-
-static void lists(void)
-{
-    for (uint8_t list = 0; list < 5; list++) {
-        ASK(0xE3, 0, list, 0);
-        for (uint8_t odt = 0; odt < 2; odt++) {
-            ASK(0xE2, 0, list, 0, odt, 0);
-            for (uint8_t entry = 0; entry < 4; entry++)
-                ASK(0xE1, 0xFF, (uint8_t)(1 + (odt & (entry > 0))), 1, list, 0, 0, 0);
-        }
-        ASK(0xDE, 1, list, 0);
-        ASK(0xE0, 0x10, list, 0, 0, 0, 1, 0);
-        ASK(0xDE, 2, list, 0);
-    }
-    ASK(0xDD, 1);
-    for (uint32_t turn = 0; turn < 20; turn++) {
-        call(EVENT, turn % 3);
-        ASK(0xFC);
-        call(SLOT, 0);
-    }
-    for (uint8_t mode = 0; mode < 4; mode++) {
-        ASK(0xDE, mode, 1, 0);
-        ASK(0xE1, 0xFF, 1, 1, 0, 0, 0, 0);
-        ASK(0xE3, 0, 1, 0);
-        ASK(0xDD, mode);
-    }
-}
-
-/* Every code, known or not, and every byte after a SYNC and after an ESC. */
-static void everything_else(void)
-{
-    for (uint32_t value = 0; value < 256; value++) {
-        if (value < 0xFE)
-            ASK((uint8_t)value, 0, 0, 0, 0, 0, 0, 0);
-        ASK((uint8_t)value, 1);
-        call(BYTE, SYNC);
-        call(BYTE, value);
-        call(BYTE, ESC);
-        call(BYTE, value);
-        open_session();
-    }
-    ASK(0xF8, 0, 1);
-    ASK(0xF7, 4, 0, 0, 0, 0);
-    ASK(0xFD);
-}
-
 static __attribute__((noinline)) uint32_t timed_loop(uint32_t turns)
 {
     uint32_t before = TIMER_VALUE;
@@ -363,10 +260,7 @@ int main(void)
     bytes();
     commands();
     slots();
-    open_session();
-    memory();
-    lists();
-    everything_else();
+    everything();
     say("the last byte of the dearest other command|");
     say_number(dearest.instructions, 10);
     say(" (");
