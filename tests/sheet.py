@@ -1,4 +1,4 @@
-"""The bench program's verdicts: each list of expected bytes on the sheet is changed in its last byte, one at a time, and
+"""The sheet program's verdicts: each list of expected bytes on the sheet is changed in its last byte, one at a time, and
 the program must say so. Arguments: the sheet, and how to run the program."""
 import re
 import subprocess

@@ -1,8 +1,8 @@
 -- The index stays within the frame.
 use Prim.Native.Nat.{_≤_, _-_}
 use borrow.Author.Needs.{needs}
-use Rattle.bench.proofs.wire.send.Statement.{statement}
-use Rattle.bench.proofs.wire.send.Tie as tie
+use Rattle.sheet.proofs.wire.send.Statement.{statement}
+use Rattle.sheet.proofs.wire.send.Tie as tie
 
 abbrev Inv-loop : tie.InvT-loop
 Inv-loop frame size numbers₀ state₀ cal₀ meas end i₀ numbers state cal i = i ≤ end

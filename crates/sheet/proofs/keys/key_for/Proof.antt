@@ -5,8 +5,8 @@ use lib.Dec.{lit<}
 use Rattle.session.proofs.Rotated.{rotated-fits}
 use Rattle.session.specs.Generator.{keyOf}
 use borrow.Author.Needs.{needs}
-use Rattle.bench.proofs.keys.key_for.Statement.{statement}
-use Rattle.bench.proofs.keys.key_for.Tie as tie
+use Rattle.sheet.proofs.keys.key_for.Statement.{statement}
+use Rattle.sheet.proofs.keys.key_for.Tie as tie
 
 addend-for-requires : tie.Need-addend-for-requires
 addend-for-requires c κs = search needs

@@ -1,8 +1,8 @@
 -- The index stays within the numbers.
 use Prim.Native.Nat.{_≤_, _-_}
 use borrow.Author.Needs.{needs}
-use Rattle.bench.proofs.show.print_numbers.Statement.{statement}
-use Rattle.bench.proofs.show.print_numbers.Tie as tie
+use Rattle.sheet.proofs.show.print_numbers.Statement.{statement}
+use Rattle.sheet.proofs.show.print_numbers.Tie as tie
 
 abbrev Inv-loop : tie.InvT-loop
 Inv-loop numbers count end i₀ t5 i = i ≤ end

@@ -1,8 +1,8 @@
 -- The index stays within the count, which the memory has room for.
 use Prim.Native.Nat.{_≤_, _-_}
 use borrow.Author.Needs.{needs}
-use Rattle.bench.proofs.steps.set.Statement.{statement}
-use Rattle.bench.proofs.steps.set.Tie as tie
+use Rattle.sheet.proofs.steps.set.Statement.{statement}
+use Rattle.sheet.proofs.steps.set.Tie as tie
 
 abbrev Inv-loop : tie.InvT-loop
 Inv-loop bytes meas₀ at from count i₀ meas i = i ≤ count

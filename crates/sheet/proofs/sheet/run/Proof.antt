@@ -2,8 +2,8 @@
 use Prim.Native.Nat.{_≤_, _-_}
 use lib.ListN.{length}
 use borrow.Author.Needs.{needs}
-use Rattle.bench.proofs.sheet.run.Statement.{statement}
-use Rattle.bench.proofs.sheet.run.Tie as tie
+use Rattle.sheet.proofs.sheet.run.Statement.{statement}
+use Rattle.sheet.proofs.sheet.run.Tie as tie
 
 abbrev Inv-loop : tie.InvT-loop
 Inv-loop text state₀ cal₀ meas₀ tool₀ at₀ t8 state cal meas tool at = at ≤ length text

@@ -2,8 +2,8 @@
 use Prim.Native.Nat.{_≤_, _-_}
 use lib.ListN.{length}
 use borrow.Author.Needs.{needs}
-use Rattle.bench.proofs.show.print_bytes.Statement.{statement}
-use Rattle.bench.proofs.show.print_bytes.Tie as tie
+use Rattle.sheet.proofs.show.print_bytes.Statement.{statement}
+use Rattle.sheet.proofs.show.print_bytes.Tie as tie
 
 abbrev Inv-loop : tie.InvT-loop
 Inv-loop bytes i₀ t4 i = i ≤ length bytes

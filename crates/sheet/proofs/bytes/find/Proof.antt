@@ -2,8 +2,8 @@
 use Prim.Native.Nat.{_≤_, _-_}
 use lib.ListN.{length}
 use borrow.Author.Needs.{needs}
-use Rattle.bench.proofs.bytes.find.Statement.{statement}
-use Rattle.bench.proofs.bytes.find.Tie as tie
+use Rattle.sheet.proofs.bytes.find.Statement.{statement}
+use Rattle.sheet.proofs.bytes.find.Tie as tie
 
 abbrev Inv-loop : tie.InvT-loop
 Inv-loop bytes from byte at₀ at = (from ≤ at) × (at ≤ length bytes)

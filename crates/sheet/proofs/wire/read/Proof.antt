@@ -2,8 +2,8 @@
 use Prim.Native.Nat.{_≤_, _-_}
 use lib.ListN.{length}
 use borrow.Author.Needs.{needs}
-use Rattle.bench.proofs.wire.read.Statement.{statement}
-use Rattle.bench.proofs.wire.read.Tie as tie
+use Rattle.sheet.proofs.wire.read.Statement.{statement}
+use Rattle.sheet.proofs.wire.read.Tie as tie
 
 abbrev Inv-loop : tie.InvT-loop
 Inv-loop frame message₀ place₀ outcome₀ i₀ message place outcome i = i ≤ length frame

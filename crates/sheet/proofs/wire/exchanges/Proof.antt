@@ -1,8 +1,8 @@
 -- The loop counts up to the times.
 use Prim.Native.Nat.{_≤_, _-_}
 use borrow.Author.Needs.{needs}
-use Rattle.bench.proofs.wire.exchanges.Statement.{statement}
-use Rattle.bench.proofs.wire.exchanges.Tie as tie
+use Rattle.sheet.proofs.wire.exchanges.Statement.{statement}
+use Rattle.sheet.proofs.wire.exchanges.Tie as tie
 
 abbrev Inv-loop : tie.InvT-loop
 Inv-loop times command expected ctr state₀ cal₀ meas i₀ state cal i = i ≤ times

@@ -2,8 +2,8 @@
 use Prim.Native.Nat.{_≤_, _-_}
 use Rattle.line.specs.Message.{room}
 use borrow.Author.Needs.{needs}
-use Rattle.bench.proofs.hex.list.Statement.{statement}
-use Rattle.bench.proofs.hex.list.Tie as tie
+use Rattle.sheet.proofs.hex.list.Statement.{statement}
+use Rattle.sheet.proofs.hex.list.Tie as tie
 
 abbrev Inv-loop : tie.InvT-loop
 Inv-loop text out₀ n₀ out n = n ≤ room
