@@ -1,6 +1,7 @@
 // Parts of bytes, and the numbers in them.
 ghost use Prim.Native.Nat.{_+_, _≤_, _<_};
-ghost use lib.ListN.{length};
+ghost use mathlib.Core.Path.{_≡_};
+ghost use lib.ListN.{length, getD};
 ghost use Rattle.line.specs.Message.{room};
 use line::ROOM;
 
@@ -38,7 +39,9 @@ pub fn find(bytes: &[u8], from: usize, byte: u8) -> usize
 }
 
 // The byte at a place, and 0 past the end.
-pub fn byte(bytes: &[u8], at: usize) -> u8 {
+pub fn byte(bytes: &[u8], at: usize) -> u8
+    ensures { λ r. ⌜ r ≡ getD (now (bytes .entry)) at 0 ⌝ }
+{
     if at < bytes.len() { bytes[at] } else { 0 }
 }
 

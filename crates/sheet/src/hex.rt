@@ -1,69 +1,99 @@
 // The bytes that a line of the sheet has in capital hex: as many as the longest frame has, at most.
+ghost use mathlib.Core.Path.{_≡_};
 ghost use Prim.Native.Nat.{_≤_};
+ghost use lib.ListN.{getD};
+ghost use lib.Seq.{sets};
+ghost use Rattle.line.specs.Message.{room};
+ghost use Rattle.sheet.specs.Hex.{hexOf, pairAt, pairsFrom, valueAt, valuesFrom};
 use crate::bytes;
 use line::ROOM;
 
 const NO_DIGIT: u8 = 16;
 
-enum Found {
-    Byte(u8),
+// Two digits, with a space behind them or not.
+pub enum Pair {
     Nothing,
+    Last,
+    More,
 }
 
 fn digit(c: u8) -> u8
-    ensures { λ r. ⌜ r ≤ 16 ⌝ }
+    ensures { λ r. ⌜ r ≡ hexOf c ⌝ }
 {
-    match c {
-        b'0'..=b'9' => c - b'0',
-        b'A'..=b'F' => c - b'A' + 10,
-        _ => NO_DIGIT,
+    if c < b'0' {
+        return NO_DIGIT;
     }
+    if c <= b'9' {
+        return c - b'0';
+    }
+    if c < b'A' {
+        return NO_DIGIT;
+    }
+    if c <= b'F' {
+        return c - b'A' + 10;
+    }
+    NO_DIGIT
 }
 
-fn byte_of(high: u8, low: u8) -> Found {
-    let h = digit(high);
-    let l = digit(low);
-    if h == NO_DIGIT {
-        return Found::Nothing;
+fn pair_at(text: &[u8], at: usize) -> Pair
+    requires { ⌜ at ≤ 400 ⌝ }
+    ensures { λ r. ⌜ r ≡ pairAt (now (text .entry)) at ⌝ }
+{
+    if digit(bytes::byte(text, at)) < NO_DIGIT {
+        if digit(bytes::byte(text, at + 1)) < NO_DIGIT {
+            if bytes::byte(text, at + 2) == b' ' {
+                return Pair::More;
+            }
+            return Pair::Last;
+        }
+        return Pair::Nothing;
     }
-    if l == NO_DIGIT {
-        return Found::Nothing;
-    }
-    Found::Byte(h * 16 + l)
+    Pair::Nothing
 }
 
-fn byte_at(text: &[u8], at: usize) -> Found {
-    if text.len() <= at {
-        return Found::Nothing;
-    }
-    if text.len() - at < 2 {
-        return Found::Nothing;
-    }
-    byte_of(text[at], text[at + 1])
-}
-
-// The bytes at the front of a text, two digits each and one space between. Answers how many.
-pub fn list(text: &[u8], out: &mut [u8; ROOM]) -> usize {
+// How many bytes stand in a text from a place on.
+pub fn pairs(text: &[u8], at: usize) -> usize
+    requires { ⌜ at ≤ 200 ⌝ }
+    ensures { λ r. ⌜ r ≡ pairsFrom room (now (text .entry)) at ⌝ }
+{
     let mut n = 0;
     while n < ROOM {
-        let found = byte_at(text, 3 * n);
-        match found {
-            Found::Nothing => return n,
-            Found::Byte(b) => {
-                out[n] = b;
+        let pair = pair_at(text, at + 3 * n);
+        match pair {
+            Pair::Nothing => return n,
+            Pair::Last => return n + 1,
+            Pair::More => {
+                n += 1;
             }
         }
-        n += 1;
     }
     n
 }
 
-// The bytes after the text's = sign; none where it has none.
-pub fn list_after_sign(text: &[u8], out: &mut [u8; ROOM]) -> usize {
-    let at = bytes::find(text, 0, b'=');
-    if text.len() - at < 2 {
+// The byte at a place; 0 where none stands there.
+pub fn value(text: &[u8], at: usize) -> u8
+    requires { ⌜ at ≤ 400 ⌝ }
+    ensures { λ r. ⌜ r ≡ valueAt (now (text .entry)) at ⌝ }
+{
+    let high = digit(bytes::byte(text, at));
+    let low = digit(bytes::byte(text, at + 1));
+    if high < NO_DIGIT {
+        if low < NO_DIGIT {
+            return high * 16 + low;
+        }
         return 0;
     }
-    let from = at + 2;
-    list(&text[from..], out)
+    0
+}
+
+// Puts as many bytes, from a place on, into the front of a list.
+pub fn list(text: &[u8], at: usize, count: usize, out: &mut [u8; ROOM])
+    requires { ⌜ (at ≤ 200) × (count ≤ room) ⌝ }
+    ensures { λ _. ⌜ now (out .exit) ≡ sets (now (out .entry)) 0 (valuesFrom count (now (text .entry)) at) ⌝ }
+{
+    let mut i = 0;
+    while i < count {
+        out[i] = value(text, at + 3 * i);
+        i += 1;
+    }
 }

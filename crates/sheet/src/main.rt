@@ -1,12 +1,15 @@
 // Runs a bench sheet against the slave, as a tool at the other end of the wire would. The sheet
 // comes by standard input; for each step it prints what came, and whether that was expected.
 mod bytes;
+mod fault;
+mod form;
 mod hex;
 mod keys;
-mod sheet;
+mod run;
 mod show;
 mod steps;
 mod tool;
+mod turn;
 mod wire;
 
 use session::STATE_SIZE;
@@ -18,8 +21,8 @@ fn main() {
     let mut text = io::large_buffer();
     let size = io::read_full(0, &mut text);
     if size == 65536 {
-        show::print(b"The sheet has more than 65,535 bytes and was not run.\n");
+        fault::say_too_long();
         return;
     }
-    sheet::run(&text[..size], &mut state, &mut cal, &mut meas);
+    run::run(&text[..size], &mut state, &mut cal, &mut meas);
 }

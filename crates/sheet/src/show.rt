@@ -1,8 +1,6 @@
 // What is printed.
 ghost use mathlib.Core.Path.{_≡_};
 ghost use mathlib.Core.Bool.{true};
-use crate::bytes;
-use line::ROOM;
 
 pub fn print(text: &[u8]) {
     io::write_all(1, text);
@@ -29,18 +27,18 @@ pub fn print_bytes(bytes: &[u8]) {
 }
 
 // As wide as a byte, so that it stands under its byte.
-fn print_number(number: u32) {
+fn print_number(number: u8) {
     if number < 10 {
         print(b" ");
     }
     io::print_decimal(1, number as u64);
 }
 
-// The first of them.
-pub fn print_numbers(numbers: &[u32; ROOM], count: usize) {
-    let end = bytes::least(count, ROOM);
+// What each byte on the wire gave.
+pub fn print_numbers(numbers: &[u8]) {
+    print(b"\n    each byte gave            ");
     let mut i = 0;
-    while i < end {
+    while i < numbers.len() {
         if 0 < i {
             print(b" ");
         }
@@ -78,4 +76,26 @@ pub fn on_the_wire(frame: &[u8], expected: &[u8]) -> bool {
         return true;
     }
     check(frame, expected)
+}
+
+fn print_count(count: u32, one: &[u8], many: &[u8]) {
+    print(b" ");
+    io::print_decimal(1, count as u64);
+    if count == 1 {
+        print(one);
+        return;
+    }
+    print(many);
+}
+
+// The last line: cases, steps, and how many cases came different.
+pub fn print_end(cases: u32, steps: u32, different: u32) {
+    print(b"Every case                 ");
+    print_verdict(different == 0);
+    print(b":");
+    if 0 < different {
+        print_count(different, b" of", b" of");
+    }
+    print_count(cases, b" case,", b" cases,");
+    print_count(steps, b" step\n", b" steps\n");
 }

@@ -58,9 +58,26 @@ pub fn command(
     wire::send(&frame, size, &mut numbers, state, cal, meas);
     show::print_bytes(bytes);
     let good = show::on_the_wire(bytes::front(&frame, size), expected);
-    show::print(b"\n    each byte gave            ");
-    show::print_numbers(&numbers, size);
+    show::print_numbers(bytes::front(&numbers, size));
     was.judged(good).sent(1)
+}
+
+// Bytes on the wire as they are, and the number that each is to give. The tool's own CTR stays.
+pub fn wire(
+    bytes: &[u8; ROOM],
+    count: usize,
+    expected: &[u8],
+    was: Tool,
+    state: &mut [u8; STATE_SIZE],
+    cal: &mut [u8; 4096],
+    meas: &[u8; 4096],
+) -> Tool {
+    let mut numbers = [0; ROOM];
+    wire::send(bytes, count, &mut numbers, state, cal, meas);
+    show::print_bytes(bytes::front(bytes, count));
+    let gave = bytes::front(&numbers, count);
+    show::print_numbers(gave);
+    was.judged(show::check(gave, expected))
 }
 
 // A slot: the packet that is to come, and the frame that it is to be in.

@@ -1,12 +1,28 @@
-// What the tool keeps from one step to the next.
+// What the tool keeps from one line of the sheet to the next.
+use crate::turn::Case;
+
 pub struct Tool {
     // Of its next message.
     pub ctr: u8,
     // What an answer with a seed has at the seed's place.
     pub seed: u32,
-    // Whether all came as expected: in this case, and in those before it.
+    // The line of the sheet that it is at, and where in a case that is.
+    pub line: u32,
+    pub case: Case,
+    // Whether all came as expected in this case.
     pub good: bool,
-    pub all: bool,
+    // Cases and steps so far, the cases of these that came different, and the first such line.
+    pub cases: u32,
+    pub steps: u32,
+    pub different: u32,
+    pub first: u32,
+    // A line was wrong, and no other is run.
+    pub stopped: bool,
+}
+
+// A sheet has fewer than 65,536 lines: no count wraps.
+fn one_more(count: u32) -> u32 {
+    std::num::wrapping_add_u32(count, 1)
 }
 
 impl Tool {
@@ -14,38 +30,88 @@ impl Tool {
         Self {
             ctr: 0,
             seed: 0,
+            line: 0,
+            case: Case::Closed,
             good: true,
-            all: true,
+            cases: 0,
+            steps: 0,
+            different: 0,
+            first: 0,
+            stopped: false,
         }
+    }
+
+    // At the next line.
+    pub fn next_line(self) -> Self {
+        let mut now = self;
+        now.line = one_more(self.line);
+        now
     }
 
     // After a verdict.
     pub fn judged(self, good: bool) -> Self {
-        Self {
-            ctr: self.ctr,
-            seed: self.seed,
-            good: self.good & good,
-            all: self.all,
+        if good {
+            return self;
         }
+        let mut now = self;
+        now.good = false;
+        if self.first == 0 {
+            now.first = self.line;
+        }
+        now
     }
 
     // After so many messages to the slave.
     pub fn sent(self, times: u8) -> Self {
-        Self {
-            ctr: std::num::wrapping_add_u8(self.ctr, times),
-            seed: self.seed,
-            good: self.good,
-            all: self.all,
-        }
+        let mut now = self;
+        now.ctr = std::num::wrapping_add_u8(self.ctr, times);
+        now
     }
 
-    // After the end of a case.
-    pub fn next_case(self) -> Self {
+    // Elsewhere in a case.
+    fn placed(self, case: Case) -> Self {
         Self {
             ctr: self.ctr,
             seed: self.seed,
-            good: true,
-            all: self.all & self.good,
+            line: self.line,
+            case: case,
+            good: self.good,
+            cases: self.cases,
+            steps: self.steps,
+            different: self.different,
+            first: self.first,
+            stopped: self.stopped,
         }
+    }
+
+    // After a case's title.
+    pub fn begun(self) -> Self {
+        let mut now = self.placed(Case::Titled(self.line));
+        now.good = true;
+        now
+    }
+
+    // After a step.
+    pub fn stepped(self) -> Self {
+        let mut now = self.placed(Case::Stepped);
+        now.steps = one_more(self.steps);
+        now
+    }
+
+    // After the end of a case.
+    pub fn ended(self) -> Self {
+        let mut now = self.placed(Case::Closed);
+        now.cases = one_more(self.cases);
+        if !self.good {
+            now.different = one_more(self.different);
+        }
+        now
+    }
+
+    // After a line that is wrong.
+    pub fn stop(self) -> Self {
+        let mut now = self;
+        now.stopped = true;
+        now
     }
 }

@@ -21,7 +21,7 @@ pub fn frame(command: &[u8], ctr: u8, out: &mut [u8; ROOM]) -> usize {
 pub fn send(
     frame: &[u8; ROOM],
     size: usize,
-    numbers: &mut [u32; ROOM],
+    numbers: &mut [u8; ROOM],
     state: &mut [u8; STATE_SIZE],
     cal: &mut [u8; 4096],
     meas: &[u8; 4096],
@@ -30,7 +30,7 @@ pub fn send(
     let mut i = 0;
     while i < end {
         let received = session::receive_byte(state, cal, meas, frame[i]);
-        numbers[i] = received.number();
+        numbers[i] = (received.number() % 256) as u8;
         i += 1;
     }
 }

@@ -1,48 +1,46 @@
--- The count stays within the list.
-use Prim.Native.Nat.{_≤_, _-_}
-use Rattle.line.specs.Message.{room}
+-- The bytes that are left, stored behind those that are there, give the whole.
+use mathlib.Core.Path.{_≡_}
+use native.Mathlib.Omega.{arith}
+use Prim.Native.Nat.{_≤_, _+_, _-_, _*_}
+use lib.Seq.{sets}
+use Rattle.sheet.specs.Hex.{valuesFrom}
 use borrow.Author.Needs.{needs}
+use Rattle.sheet.proofs.Lists.{list-first, list-next, list-last}
 use Rattle.sheet.proofs.hex.list.Statement.{statement}
 use Rattle.sheet.proofs.hex.list.Tie as tie
 
 abbrev Inv-loop : tie.InvT-loop
-Inv-loop text out₀ n₀ out n = n ≤ room
+Inv-loop text at count out₀ i₀ out i = (i ≤ count) × (sets out i (valuesFrom (count - i) text (at + 3 * i)) ≡ sets out₀ 0 (valuesFrom count text at))
 
 abbrev μ-loop : tie.MeasureT-loop
-μ-loop text out₀ n₀ out n = room - n
+μ-loop text at count out₀ i₀ out i = count - i
 
 loop-holds : tie.Need-loop-holds Inv-loop μ-loop
-loop-holds c = search needs
+loop-holds c = (omega arith, list-first _ _ _ _)
 
-mul-byte-at : tie.Need-mul-byte-at Inv-loop μ-loop
-mul-byte-at c = search needs
+mul-value : tie.Need-mul-value Inv-loop μ-loop
+mul-value c = search needs
 
-byte-at-requires : tie.Need-byte-at-requires Inv-loop μ-loop
-byte-at-requires c κs = search needs
+add-value : tie.Need-add-value Inv-loop μ-loop
+add-value c = search needs
 
-enum-told : tie.Need-enum-told Inv-loop μ-loop
-enum-told c = search needs
-
-returns : tie.Need-returns Inv-loop μ-loop
-returns c = search needs
-
-enum-known-found : tie.Need-enum-known-found Inv-loop μ-loop
-enum-known-found c = search needs
+value-requires : tie.Need-value-requires Inv-loop μ-loop
+value-requires c κs = search needs
 
 element-write-out : tie.Need-element-write-out Inv-loop μ-loop
 element-write-out c = search needs
 
-add-n : tie.Need-add-n Inv-loop μ-loop
-add-n c = search needs
+add-i : tie.Need-add-i Inv-loop μ-loop
+add-i c = search needs
 
 loop-less : tie.Need-loop-less Inv-loop μ-loop
 loop-less c = search needs
 
 loop-again : tie.Need-loop-again Inv-loop μ-loop
-loop-again c = search needs
+loop-again c = (omega arith, list-next _ _ _ _ _ _ _ (omega arith) (c .value .ensures) (c .before .before .loop .inv .1))
 
-returns-2 : tie.Need-returns-2 Inv-loop μ-loop
-returns-2 c = search needs
+returns : tie.Need-returns Inv-loop μ-loop
+returns c = list-last _ _ (c .before .before .before .args .text .now) _ _ _ (omega arith) (c .before .loop .inv .1)
 
 pub list-spec : {M : Type 1} → statement M
 list-spec =
@@ -51,13 +49,11 @@ list-spec =
     Inv-loop
     μ-loop
     loop-holds
-    mul-byte-at
-    byte-at-requires
-    enum-told
-    returns
-    enum-known-found
+    mul-value
+    add-value
+    value-requires
     element-write-out
-    add-n
+    add-i
     loop-less
     loop-again
-    returns-2)
+    returns)

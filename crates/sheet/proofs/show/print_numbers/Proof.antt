@@ -1,20 +1,15 @@
 -- The index stays within the numbers.
 use Prim.Native.Nat.{_≤_, _-_}
+use lib.ListN.{length}
 use borrow.Author.Needs.{needs}
 use Rattle.sheet.proofs.show.print_numbers.Statement.{statement}
 use Rattle.sheet.proofs.show.print_numbers.Tie as tie
 
 abbrev Inv-loop : tie.InvT-loop
-Inv-loop numbers count end i₀ t5 i = i ≤ end
+Inv-loop numbers i₀ t4 i = i ≤ length numbers
 
 abbrev μ-loop : tie.MeasureT-loop
-μ-loop numbers count end i₀ t5 i = end - i
-
-least-requires : tie.Need-least-requires Inv-loop μ-loop
-least-requires c κs = search needs
-
-loop-holds : tie.Need-loop-holds Inv-loop μ-loop
-loop-holds c = search needs
+μ-loop numbers i₀ t4 i = length numbers - i
 
 slice-aggregate-print : tie.Need-slice-aggregate-print Inv-loop μ-loop
 slice-aggregate-print c = search needs
@@ -22,11 +17,17 @@ slice-aggregate-print c = search needs
 print-requires : tie.Need-print-requires Inv-loop μ-loop
 print-requires c κs = search needs
 
-mul-print-number : tie.Need-mul-print-number Inv-loop μ-loop
-mul-print-number c = search needs
+loop-holds : tie.Need-loop-holds Inv-loop μ-loop
+loop-holds c = search needs
 
-element-copy-out-print-number : tie.Need-element-copy-out-print-number Inv-loop μ-loop
-element-copy-out-print-number c = search needs
+slice-aggregate-print-2 : tie.Need-slice-aggregate-print-2 Inv-loop μ-loop
+slice-aggregate-print-2 c = search needs
+
+print-requires-2 : tie.Need-print-requires-2 Inv-loop μ-loop
+print-requires-2 c κs = search needs
+
+shared-slice-read-print-number : tie.Need-shared-slice-read-print-number Inv-loop μ-loop
+shared-slice-read-print-number c = search needs
 
 print-number-requires : tie.Need-print-number-requires Inv-loop μ-loop
 print-number-requires c κs = search needs
@@ -49,12 +50,12 @@ print-numbers-spec =
     (tie.spec
     Inv-loop
     μ-loop
-    least-requires
-    loop-holds
     slice-aggregate-print
     print-requires
-    mul-print-number
-    element-copy-out-print-number
+    loop-holds
+    slice-aggregate-print-2
+    print-requires-2
+    shared-slice-read-print-number
     print-number-requires
     add-i
     loop-less

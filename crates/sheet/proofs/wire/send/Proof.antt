@@ -25,8 +25,8 @@ receive-byte-requires c κs = search needs
 number-requires : tie.Need-number-requires Inv-loop μ-loop
 number-requires c κs = search needs
 
-mul-numbers : tie.Need-mul-numbers Inv-loop μ-loop
-mul-numbers c = search needs
+cast-numbers : tie.Need-cast-numbers Inv-loop μ-loop
+cast-numbers c = search needs
 
 element-write-numbers : tie.Need-element-write-numbers Inv-loop μ-loop
 element-write-numbers c = search needs
@@ -54,7 +54,7 @@ send-spec =
     element-copy-out-receive-byte
     receive-byte-requires
     number-requires
-    mul-numbers
+    cast-numbers
     element-write-numbers
     add-i
     loop-less

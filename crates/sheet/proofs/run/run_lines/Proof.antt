@@ -2,14 +2,14 @@
 use Prim.Native.Nat.{_≤_, _-_}
 use lib.ListN.{length}
 use borrow.Author.Needs.{needs}
-use Rattle.sheet.proofs.sheet.run.Statement.{statement}
-use Rattle.sheet.proofs.sheet.run.Tie as tie
+use Rattle.sheet.proofs.run.run_lines.Statement.{statement}
+use Rattle.sheet.proofs.run.run_lines.Tie as tie
 
 abbrev Inv-loop : tie.InvT-loop
-Inv-loop text state₀ cal₀ meas₀ tool₀ at₀ t8 state cal meas tool at = at ≤ length text
+Inv-loop text state₀ cal₀ meas₀ tool₀ at₀ state cal meas tool at = at ≤ length text
 
 abbrev μ-loop : tie.MeasureT-loop
-μ-loop text state₀ cal₀ meas₀ tool₀ at₀ t8 state cal meas tool at = length text - at
+μ-loop text state₀ cal₀ meas₀ tool₀ at₀ state cal meas tool at = length text - at
 
 new-requires : tie.Need-new-requires Inv-loop μ-loop
 new-requires c κs = search needs
@@ -32,11 +32,11 @@ part-run-line-end c = search needs
 run-line-requires : tie.Need-run-line-requires Inv-loop μ-loop
 run-line-requires c κs = search needs
 
-slice-aggregate-print : tie.Need-slice-aggregate-print Inv-loop μ-loop
-slice-aggregate-print c = search needs
+returns : tie.Need-returns Inv-loop μ-loop
+returns c = search needs
 
-print-requires : tie.Need-print-requires Inv-loop μ-loop
-print-requires c κs = search needs
+returns-2 : tie.Need-returns-2 Inv-loop μ-loop
+returns-2 c = search needs
 
 add-at : tie.Need-add-at Inv-loop μ-loop
 add-at c = search needs
@@ -47,17 +47,11 @@ loop-less c = search needs
 loop-again : tie.Need-loop-again Inv-loop μ-loop
 loop-again c = search needs
 
-next-case-requires : tie.Need-next-case-requires Inv-loop μ-loop
-next-case-requires c κs = search needs
+returns-3 : tie.Need-returns-3 Inv-loop μ-loop
+returns-3 c = search needs
 
-print-end-requires : tie.Need-print-end-requires Inv-loop μ-loop
-print-end-requires c κs = search needs
-
-returns : tie.Need-returns Inv-loop μ-loop
-returns c = search needs
-
-pub run-spec : {M : Type 1} → statement M
-run-spec =
+pub run-lines-spec : {M : Type 1} → statement M
+run-lines-spec =
     tie.close
     (tie.spec
     Inv-loop
@@ -69,11 +63,9 @@ run-spec =
     part-run-line-start
     part-run-line-end
     run-line-requires
-    slice-aggregate-print
-    print-requires
+    returns
+    returns-2
     add-at
     loop-less
     loop-again
-    next-case-requires
-    print-end-requires
-    returns)
+    returns-3)

@@ -1,0 +1,5 @@
+-- The sheet program. `Hex`: bytes in capital hex. `Form`: what a line of a sheet is. `Turn`: what a line asks for, by where in a
+-- case it stands.
+pub mod Hex
+pub mod Form
+pub mod Turn
