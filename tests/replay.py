@@ -1,9 +1,11 @@
-"""The replay program on whole, bad and cut logs, and on a long one. Arguments: how to run it."""
+"""The replay program on whole, bad and cut logs, and on long ones: its lines, what it tells standard error of the record that
+it stopped at, and the status that tools/status gives. Arguments: how to run the program, and how to run it with a status."""
 import subprocess
 import sys
 
 ANSWER = "9A 08 00 FF 05 00 08 08 00 01 01 1E\n"
 CONNECT = bytes.fromhex("9A0200FF0001")
+CUT, NONE = "is cut off\n", "is none: "
 
 
 def record(kind, body=b"", length=None):
@@ -12,48 +14,67 @@ def record(kind, body=b"", length=None):
 
 SLOT = record(3)
 WHOLE = record(1, CONNECT) + SLOT
-# What stands behind the whole case, and what is then printed after its line.
+# What stands behind the whole case, and what is then printed after its line; or what is told of the record that is bad.
 CASES = {
     "the whole case": (b"", ""),
     "a slot with nothing": (SLOT, "-\n"),
     "wire bytes, none of them": (record(1) + SLOT, "-\n"),
     "event 2 does nothing": (record(2, b"\2\0\0") + SLOT, "-\n"),
-    "an event of 2 bytes": (record(2, b"\0\0") + SLOT, "bad\n"),
-    "an event of 4 bytes": (record(2, b"\0\0\0\0") + SLOT, "bad\n"),
-    "a slot with a body": (record(3, b"\0") + SLOT, "bad\n"),
-    "kind 0": (record(0) + SLOT, "bad\n"),
-    "kind 5": (record(5) + SLOT, "bad\n"),
-    "kind 0x0100": (record(0x0100) + SLOT, "bad\n"),
+    "an event of 2 bytes": (record(2, b"\0\0") + SLOT, NONE),
+    "an event of 4 bytes": (record(2, b"\0\0\0\0") + SLOT, NONE),
+    "a slot with a body": (record(3, b"\0") + SLOT, NONE),
+    "kind 0": (record(0) + SLOT, NONE),
+    "kind 5": (record(5) + SLOT, NONE),
+    "kind 0x0100": (record(0x0100) + SLOT, NONE),
     "a body of 64": (record(1, bytes(64)) + SLOT, "-\n"),
-    "a body of 65": (record(1, bytes(65)) + SLOT, "bad\n"),
-    "a body of 65, not there": (record(1, length=65), "bad\n"),
-    "measured bytes without an offset": (record(4, b"\0") + SLOT, "bad\n"),
+    "a body of 65": (record(1, bytes(65)) + SLOT, NONE),
+    "a body of 65, not there": (record(1, length=65), NONE),
+    "measured bytes without an offset": (record(4, b"\0") + SLOT, NONE),
     "no measured byte at 4096": (record(4, b"\0\x10") + SLOT, "-\n"),
-    "no measured byte at 4097": (record(4, b"\1\x10") + SLOT, "bad\n"),
+    "no measured byte at 4097": (record(4, b"\1\x10") + SLOT, NONE),
     "a measured byte at 4095": (record(4, b"\xff\x0f\7") + SLOT, "-\n"),
-    "a measured byte at 4096": (record(4, b"\0\x10\7") + SLOT, "bad\n"),
-    "a cut header": (SLOT[:3], "bad\n"),
-    "a cut body": (record(1, CONNECT)[:7], "bad\n"),
+    "a measured byte at 4096": (record(4, b"\0\x10\7") + SLOT, NONE),
+    "a cut header": (SLOT[:3], CUT),
+    "a cut body": (record(1, CONNECT)[:7], CUT),
 }
+# Many chunks, with records across their ends: 69 bytes and two records a turn.
+TURNS = 100_000
+LONG = WHOLE + (record(1, bytes(61)) + SLOT) * TURNS
+LINES = ANSWER + "-\n" * TURNS
 
 
-def replay(log):
-    return subprocess.run(sys.argv[1:], input=log, stdout=subprocess.PIPE, check=True).stdout.decode()
+def stopped(records, at, why):
+    return f"replay: record {records + 1}, which begins at byte {at} (the log's first byte is 0), {why}"
+
+
+def runs():
+    """Each log's name, bytes, lines, and how standard error begins."""
+    for name, (log, then) in CASES.items():
+        bad = then in (CUT, NONE)
+        yield name, WHOLE + log, ANSWER + ("bad\n" if bad else then), stopped(2, 14, then) if bad else ""
+    yield "an empty log", b"", "", ""
+    yield "a log of one byte", b"\1", "bad\n", stopped(0, 0, CUT)
+    yield "a long log", LONG, LINES, ""
+    yield "a long log, bad at its end", LONG + record(9), LINES + "bad\n", stopped(2 + 2 * TURNS, len(LONG), NONE)
+    yield "a long log, cut at its end", LONG + b"\0", LINES + "bad\n", stopped(2 + 2 * TURNS, len(LONG), CUT)
+
+
+def ran(words, log):
+    done = subprocess.run(words.split(), input=log, capture_output=True, check=False)
+    return done.stdout.decode(), done.stderr.decode(), done.returncode
 
 
 def main():
     passed = failed = 0
-    runs = [(name, WHOLE + log, ANSWER + then) for name, (log, then) in CASES.items()]
-    runs.append(("an empty log", b"", ""))
-    # Many chunks, with records across their ends.
-    runs.append(("a long log", WHOLE + (record(1, bytes(61)) + SLOT) * 100_000, ANSWER + "-\n" * 100_000))
-    for name, log, expected in runs:
-        printed = replay(log)
-        if printed == expected:
-            passed += 1
-        else:
-            failed += 1
-            print(f"{name}: expected {expected[-60:]!r}, printed {printed[-60:]!r}")
+    for name, log, lines, told in runs():
+        status = 1 if lines.endswith("bad\n") else 0
+        for words, expected in zip(sys.argv[1:], (0, status)):
+            out, err, ended = ran(words, log)
+            # One line is told where it stopped, and none otherwise.
+            good = out == lines and err.startswith(told) and err.count("\n") == status and ended == expected
+            passed, failed = passed + good, failed + (not good)
+            if not good:
+                print(f"{name}: expected {lines[-60:]!r}, printed {out[-60:]!r}, told {err!r}, ended with {ended}")
     print(f"{passed} passed, {failed} failed")
     sys.exit(failed > 0)
 

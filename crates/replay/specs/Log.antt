@@ -6,4 +6,4 @@ use Rattle.replay.specs.declared.log.Progress.the-variants.{Over, On}
 -- what is kept fits into k bytes
 abbrev pub Keeps : ℕ → Progress → Type 0
 Keeps k Over = Unit {0}
-Keeps k (On kept) = kept ≤ k
+Keeps k (On kept far) = kept ≤ k

@@ -7,14 +7,49 @@ use crate::record;
 use crate::run;
 use session::STATE_SIZE;
 
-// Whether there is more to read, and how many bytes of a record are kept for it.
-enum Progress {
-    Over,
-    On { kept: usize },
+// How many records of the log were run, and how many bytes they have.
+struct Far {
+    records: u64,
+    bytes: u64,
 }
 
-fn say_bad() {
+impl Far {
+    // A log has fewer than 2^64 bytes: no count wraps.
+    fn on(self, records: usize, bytes: usize) -> Self {
+        Self {
+            records: std::num::wrapping_add_u64(self.records, records as u64),
+            bytes: std::num::wrapping_add_u64(self.bytes, bytes as u64),
+        }
+    }
+}
+
+// Whether there is more to read, how many bytes of a record are kept for it, and what was run.
+enum Progress {
+    Over,
+    On { kept: usize, far: Far },
+}
+
+// The line that ends the output; standard error hears which record it was, and what is wrong.
+fn say_bad(far: Far, why: &[u8]) {
     io::write_all(1, b"bad\n");
+    io::write_all(2, b"replay: record ");
+    io::print_decimal(2, std::num::wrapping_add_u64(far.records, 1));
+    io::write_all(2, b", which begins at byte ");
+    io::print_decimal(2, far.bytes);
+    io::write_all(2, b" (the log's first byte is 0), ");
+    io::write_all(2, why);
+    io::write_all(2, b"\n");
+}
+
+fn say_cut(far: Far) {
+    say_bad(far, b"is cut off");
+}
+
+fn say_none(far: Far) {
+    say_bad(
+        far,
+        b"is none: length and kind, 2 bytes each, then for kind 1 at most 64 wire bytes, for 2 an event and a clock, for 3 nothing, for 4 an offset and bytes that lie below 4,096 from there on, 64 in all",
+    );
 }
 
 // Reads once, after the kept bytes, and answers how many bytes there are then. A read error counts
@@ -46,6 +81,7 @@ fn keep(input: &mut [u8], from: usize, end: usize) -> usize
 fn take_chunk(
     input: &mut [u8],
     kept: usize,
+    far: Far,
     state: &mut [u8; STATE_SIZE],
     cal: &mut [u8; 4096],
     meas: &mut [u8; 4096],
@@ -58,7 +94,7 @@ fn take_chunk(
     if end == kept {
         // What is left of the input is a cut record.
         if 0 < kept {
-            say_bad();
+            say_cut(far);
         }
         return Progress::Over;
     }
@@ -66,12 +102,14 @@ fn take_chunk(
     let filled = ran.filled;
     io::write_all(1, &output[..filled]);
     let at = ran.at;
+    let now = far.on(ran.count, at);
     if record::is_bad(record::record_at(&input[..end], at)) {
-        say_bad();
+        say_none(now);
         return Progress::Over;
     }
     Progress::On {
         kept: keep(input, at, end),
+        far: now,
     }
 }
 
@@ -81,13 +119,18 @@ pub fn replay(state: &mut [u8; STATE_SIZE], cal: &mut [u8; 4096], meas: &mut [u8
     let mut input = io::large_buffer();
     let mut output = io::large_buffer();
     let mut kept = 0;
+    let mut far = Far {
+        records: 0,
+        bytes: 0,
+    };
     let mut reads = u64::MAX;
     while 0 < reads {
-        let progress = take_chunk(&mut input, kept, state, cal, meas, &mut output);
+        let progress = take_chunk(&mut input, kept, far, state, cal, meas, &mut output);
         match progress {
             Progress::Over => return,
-            Progress::On { kept: k } => {
+            Progress::On { kept: k, far: f } => {
                 kept = k;
+                far = f;
             }
         }
         reads -= 1;

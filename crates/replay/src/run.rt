@@ -14,9 +14,10 @@ use session::Slotted;
 // What a line is given: three characters for each byte of a frame, and two for none.
 const LINE: usize = 3 * ROOM + 2;
 
-// How far the records of a chunk were run, and how much of the output they fill.
+// How far the records of a chunk were run, how many they were, and how much of the output they fill.
 pub struct Ran {
     pub at: usize,
+    pub count: usize,
     pub filled: usize,
 }
 
@@ -120,17 +121,20 @@ pub fn run_all(
     ensures { λ r. ⌜ (r .at ≤ length (now (bytes .entry))) × (r .filled ≤ length (now (output .entry))) ⌝ }
 {
     let mut at = 0;
+    let mut count = 0;
     let mut filled = 0;
     let mut found = record::record_at(bytes, at);
     let mut next = record::next(found, at);
     while at < next {
         filled = run(found, bytes, state, cal, meas, output, filled);
         at = next;
+        count += 1;
         found = record::record_at(bytes, at);
         next = record::next(found, at);
     }
     Ran {
         at: at,
+        count: count,
         filled: filled,
     }
 }

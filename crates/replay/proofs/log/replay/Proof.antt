@@ -1,17 +1,16 @@
+use mathlib.Core.Path.{_≡_, sym, _∙_}
 use native.Mathlib.Omega.{arith}
-use mathlib.Core.Path.{sym, _∙_}
 use Prim.Native.Nat.{_≤_}
-use mathlib.Core.Path.{_≡_}
 use lib.ListN.{length}
 use borrow.Author.Needs.{needs}
 use Rattle.replay.proofs.log.replay.Statement.{statement}
 use Rattle.replay.proofs.log.replay.Tie as tie
 
 abbrev Inv-loop : tie.InvT-loop
-Inv-loop state₀ cal₀ meas₀ input₀ output₀ kept₀ reads₀ state cal meas input output kept reads = (kept ≤ 65536) × (length input ≡ 65536) × (length output ≡ 65536)
+Inv-loop state₀ cal₀ meas₀ input₀ output₀ kept₀ far₀ reads₀ state cal meas input output kept far reads = (kept ≤ 65536) × (length input ≡ 65536) × (length output ≡ 65536)
 
 abbrev μ-loop : tie.MeasureT-loop
-μ-loop state₀ cal₀ meas₀ input₀ output₀ kept₀ reads₀ state cal meas input output kept reads = reads
+μ-loop state₀ cal₀ meas₀ input₀ output₀ kept₀ far₀ reads₀ state cal meas input output kept far reads = reads
 
 large-buffer-requires : tie.Need-large-buffer-requires Inv-loop μ-loop
 large-buffer-requires c κs = search needs
@@ -47,7 +46,7 @@ loop-less : tie.Need-loop-less Inv-loop μ-loop
 loop-less c = search needs
 
 loop-again : tie.Need-loop-again Inv-loop μ-loop
-loop-again c = let h : c .before .progress .given .0 .0 ≤ length (c .before .before .before .before .before .before .before .before .before .before .before .before .loop .input) = rw (c .before .progress .given .1) at (c .before .before .before .before .before .take-chunk .ensures) in (omega (arith, h, c .before .before .before .before .before .before .before .before .before .before .before .before .loop .inv .1), c .before .before .before .before .before .take-chunk .kept .0 ∙ c .before .before .before .before .before .before .before .before .before .before .before .before .loop .inv .1, c .before .before .before .before .before .take-chunk .kept .1 .1 .1 .1 .1 .0 ∙ c .before .before .before .before .before .before .before .before .before .before .before .before .loop .inv .2)
+loop-again c = let h : c .before .progress .given .0 .0 ≤ length (c .before .before .before .before .before .before .before .before .before .before .before .before .loop .input) = rw (c .before .progress .given .1) at (c .before .before .before .before .before .take-chunk .ensures) in (omega (arith, h, c .before .before .before .before .before .before .before .before .before .before .before .before .loop .inv .1), c .before .before .before .before .before .take-chunk .kept .0 ∙ c .before .before .before .before .before .before .before .before .before .before .before .before .loop .inv .1, c .before .before .before .before .before .take-chunk .kept .1 .1 .1 .1 .1 .1 .0 ∙ c .before .before .before .before .before .before .before .before .before .before .before .before .loop .inv .2)
 
 returns-2 : tie.Need-returns-2 Inv-loop μ-loop
 returns-2 c = search needs

@@ -1,5 +1,5 @@
-use native.Mathlib.Omega.{arith}
 use mathlib.Core.Path.{sym}
+use native.Mathlib.Omega.{arith}
 use lib.Seq.{length-take-le}
 use borrow.Author.Needs.{needs}
 use Rattle.replay.proofs.log.take_chunk.Statement.{statement}
@@ -8,8 +8,8 @@ use Rattle.replay.proofs.log.take_chunk.Tie as tie
 read-after-requires : tie.Need-read-after-requires
 read-after-requires c κs = search needs
 
-say-bad-requires : tie.Need-say-bad-requires
-say-bad-requires c κs = search needs
+say-cut-requires : tie.Need-say-cut-requires
+say-cut-requires c κs = search needs
 
 same-length : tie.Need-same-length
 same-length c = search needs
@@ -41,11 +41,14 @@ slice-aggregate-write-all c = sym (length-take-le (c .before .before .before .ru
 write-all-requires : tie.Need-write-all-requires
 write-all-requires c κs = search needs
 
+on-requires : tie.Need-on-requires
+on-requires c κs = search needs
+
 slice-reshare-prefix-record-at : tie.Need-slice-reshare-prefix-record-at
 slice-reshare-prefix-record-at c = search needs
 
 slice-aggregate-record-at : tie.Need-slice-aggregate-record-at
-slice-aggregate-record-at c = sym (length-take-le (c .before .before .before .before .before .before .before .before .before .before .before .before .before .before .read-after .result) (c .before .before .before .before .before .before .before .before .before .before .before .before .before .before .read-after .last .0) (omega (arith, c .before .before .before .before .before .before .before .before .before .before .before .before .before .before .read-after .ensures .1, c .before .before .before .before .before .before .before .before .before .before .before .before .before .before .read-after .kept .0)))
+slice-aggregate-record-at c = sym (length-take-le (c .before .before .before .before .before .before .before .before .before .before .before .before .before .before .before .read-after .result) (c .before .before .before .before .before .before .before .before .before .before .before .before .before .before .before .read-after .last .0) (omega (arith, c .before .before .before .before .before .before .before .before .before .before .before .before .before .before .before .read-after .ensures .1, c .before .before .before .before .before .before .before .before .before .before .before .before .before .before .before .read-after .kept .0)))
 
 record-at-requires : tie.Need-record-at-requires
 record-at-requires c κs = search needs
@@ -53,8 +56,8 @@ record-at-requires c κs = search needs
 is-bad-requires : tie.Need-is-bad-requires
 is-bad-requires c κs = search needs
 
-say-bad-requires-2 : tie.Need-say-bad-requires-2
-say-bad-requires-2 c κs = search needs
+say-none-requires : tie.Need-say-none-requires
+say-none-requires c κs = search needs
 
 same-length-3 : tie.Need-same-length-3
 same-length-3 c = search needs
@@ -66,7 +69,7 @@ returns-3 : tie.Need-returns-3
 returns-3 c = search needs
 
 keep-requires : tie.Need-keep-requires
-keep-requires c κs = (omega (arith, c .before .before .before .before .before .before .before .before .before .run-all .ensures .0, length-take-le (c .before .before .before .before .before .before .before .before .before .before .before .before .before .before .before .before .before .before .read-after .result) (c .before .before .before .before .before .before .before .before .before .before .before .before .before .before .before .before .before .before .read-after .last .0) (omega (arith, c .before .before .before .before .before .before .before .before .before .before .before .before .before .before .before .before .before .before .read-after .ensures .1, c .before .before .before .before .before .before .before .before .before .before .before .before .before .before .before .before .before .before .read-after .kept .0))), omega (arith, c .before .before .before .before .before .before .before .before .before .before .before .before .before .before .before .before .before .before .read-after .ensures .1, c .before .before .before .before .before .before .before .before .before .before .before .before .before .before .before .before .before .before .read-after .kept .0))
+keep-requires c κs = (omega (arith, c .before .before .before .before .before .before .before .before .before .before .run-all .ensures .0, length-take-le (c .before .before .before .before .before .before .before .before .before .before .before .before .before .before .before .before .before .before .before .read-after .result) (c .before .before .before .before .before .before .before .before .before .before .before .before .before .before .before .before .before .before .before .read-after .last .0) (omega (arith, c .before .before .before .before .before .before .before .before .before .before .before .before .before .before .before .before .before .before .before .read-after .ensures .1, c .before .before .before .before .before .before .before .before .before .before .before .before .before .before .before .before .before .before .before .read-after .kept .0))), omega (arith, c .before .before .before .before .before .before .before .before .before .before .before .before .before .before .before .before .before .before .before .read-after .ensures .1, c .before .before .before .before .before .before .before .before .before .before .before .before .before .before .before .before .before .before .before .read-after .kept .0))
 
 same-length-5 : tie.Need-same-length-5
 same-length-5 c = search needs
@@ -82,7 +85,7 @@ take-chunk-spec =
     tie.close
     (tie.spec
     read-after-requires
-    say-bad-requires
+    say-cut-requires
     same-length
     returns
     same-length-2
@@ -93,11 +96,12 @@ take-chunk-spec =
     slice-reshare-prefix-write-all
     slice-aggregate-write-all
     write-all-requires
+    on-requires
     slice-reshare-prefix-record-at
     slice-aggregate-record-at
     record-at-requires
     is-bad-requires
-    say-bad-requires-2
+    say-none-requires
     same-length-3
     same-length-4
     returns-3
