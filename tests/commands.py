@@ -1,0 +1,420 @@
+"""docs/COMMANDS.md against the slave: every table of that page is read, and what it says is asked of the compiled archive.
+Arguments: how to run compare/driver.c, the slave at the end of a pipe."""
+import pathlib
+import re
+import subprocess
+import sys
+
+PAGE = "docs/COMMANDS.md"
+SYNC = 0x9A
+MEMORY, ROOM = 4096, 23
+START = 1  # the start number that the page's situations have
+RESOURCES = {"calibration": 0x01, "lists": 0x04}
+
+
+# The page.
+
+class Page:
+    """Its tables, by the heading above and the first column's name; each is a list of rows, the columns by name."""
+
+    def __init__(self, text):
+        self.tables, self.used, self.prose = {}, set(), {}
+        heading, lines = None, text.splitlines()
+        for i, line in enumerate(lines):
+            if line.startswith("#"):
+                heading = line.lstrip("# ")
+            elif line.startswith("|---"):
+                names = cells(lines[i - 1])
+                rows = []
+                for row in lines[i + 1 :]:
+                    if not row.startswith("|"):
+                        break
+                    rows.append(dict(zip(names, cells(row), strict=True)))
+                self.tables.setdefault((heading, names[0]), []).append(rows)
+            elif not line.startswith("|"):
+                self.prose[heading] = self.prose.get(heading, "") + line + " "
+
+    def table(self, heading, first):
+        self.used.add((heading, first))
+        (rows,) = self.tables[heading, first]
+        return rows
+
+    def commands(self):
+        return [heading for heading, first in self.tables if first == "Check"]
+
+
+def cells(line):
+    return [cell.strip() for cell in line.strip().strip("|").split("|")]
+
+
+def quoted(cell):
+    return re.findall(r"`([^`]*)`", cell)
+
+
+def leading(cell):
+    """The bytes that a cell begins with."""
+    return bytes.fromhex(re.match(r"((?:[0-9A-F]{2} ?)*)", cell).group(1))
+
+
+# The slave.
+
+def little(number, size):
+    return number.to_bytes(size, "little")
+
+
+def escaped(message):
+    return message.replace(b"\x9b", b"\x9b\x00").replace(b"\x9a", b"\x9b\x01")
+
+
+def plain(wire):
+    return wire.replace(b"\x9b\x01", b"\x9a").replace(b"\x9b\x00", b"\x9b")
+
+
+def frame(packet):
+    message = bytes([len(packet), 0]) + packet
+    return bytes([SYNC]) + escaped(message + bytes([sum(message) % 256]))
+
+
+class Slave:
+    def __init__(self, words):
+        self.end = subprocess.Popen(words, stdin=subprocess.PIPE, stdout=subprocess.PIPE)
+        self.state = int.from_bytes(self.end.stdout.read(4), "little")
+
+    def lent(self, kind, state=None):
+        return bytes([kind]) + little(self.state if state is None else state, 2) + little(MEMORY, 2) * 2
+
+    def power_up(self, start=START, state=None):
+        return self.lent(0, state) + little(start, 4)
+
+    def bytes(self, wire, state=None):
+        return b"".join(self.lent(1, state) + bytes([byte]) for byte in wire)
+
+    def event(self, number, clock=0, state=None):
+        return self.lent(2, state) + little(number, 4) + little(clock, 2)
+
+    def slot(self, room=ROOM, state=None):
+        return self.lent(3, state) + bytes([room])
+
+    def measured(self, place, values):
+        return self.lent(4) + little(place, 2) + bytes([len(values)]) + values
+
+    def run(self, script):
+        """What each call returned, and the frame of those that wrote one."""
+        self.end.stdin.write(little(len(script), 4) + script)
+        self.end.stdin.flush()
+        reply = self.end.stdout.read(int.from_bytes(self.end.stdout.read(4), "little"))
+        calls, at = [], 0
+        while at < len(reply):
+            returned, wrote = int.from_bytes(reply[at : at + 4], "little"), reply[at + 5]
+            calls.append((returned >> 16, reply[at + 6 : at + 6 + wrote][: returned & 0xFFFF]))
+            at += 6 + wrote
+            for _ in range(2):
+                at += 4 + int.from_bytes(reply[at + 2 : at + 4], "little")
+        return calls
+
+    def asked(self, commands, start=START):
+        """The answer to each command, from a power-up on; None where there was none."""
+        packets = [bytes.fromhex(command) for command in commands]
+        calls = self.run(self.power_up(start) + b"".join(self.bytes(frame(p)) + self.slot() for p in packets))
+        answers, at = [], 1
+        for packet in packets:
+            at += len(frame(packet))
+            sent = calls[at][1]
+            answers.append(plain(sent[1:])[2:-1] if sent else None)
+            at += 1
+        return answers
+
+
+def key(seed, addend):
+    x = (seed + addend) % 2**32
+    return (x << 8 | x >> 24) % 2**32
+
+
+def opening(slave, resource, addend):
+    """The commands that open one resource, after CONNECT."""
+    get = f"F8 00 {resource:02X}"
+    seed = int.from_bytes(slave.asked(["FF 00", get])[1][2:], "little")
+    return ["FF 00", get, "F7 04 " + little(key(seed, addend), 4).hex(" ")]
+
+
+class Checks:
+    passed = failed = 0
+
+    def same(self, what, said, told):
+        if said == told:
+            self.passed += 1
+        else:
+            self.failed += 1
+            print(f"{what}: {PAGE} has {said!r}, and {told!r} is right")
+
+
+# The tables.
+
+def the_wire(c, page, slave):
+    rows = page.table("The wire", "Sent")
+    sent = [bytes.fromhex("".join(quoted(row["Sent"]))) for row in rows]
+    part = {}
+    for row, wire in zip(rows, sent):
+        part[row["Part"]] = part.get(row["Part"], b"") + plain(wire)
+    message = part["LEN"] + part["CTR"] + part["packet"]
+    c.same("SYNC", part["SYNC"], bytes([SYNC]))
+    c.same("LEN", part["LEN"], bytes([len(part["packet"])]))
+    c.same("checksum", part["checksum"], bytes([sum(message) % 256]))
+    # As many commands before it as its CTR says, and then one that reads those bytes.
+    values = part["packet"][1:]
+    script = slave.power_up() + slave.measured(0, values) + slave.bytes(frame(b"\xff\0")) + slave.slot()
+    script += (slave.bytes(frame(b"\xfc")) + slave.slot()) * (part["CTR"][0] - 1)
+    script += slave.bytes(frame(bytes([0xF4, len(values), 0, 1, 0, 0, 0, 0]))) + slave.slot()
+    c.same("the frame", b"".join(sent), slave.run(script)[-1][1])
+
+
+def numbers(c, page, slave):
+    rows = page.table("What a call returns", "No.")
+    header = pathlib.Path("include/xcp_slave.h").read_text(encoding="ascii")
+    named = re.findall(r"^ +(XCP_\w+) = (\d+),? ", header, re.M)
+    c.same("numbers and names", [(row["Name"], row["No."]) for row in rows], named)
+    for row in rows:
+        number, shown = int(row["No."]), row["Shown by"]
+        word, _, limit = shown.partition(" ")
+        for most in re.findall(r"LEN is 0 or above (\d+)", row["When"]):
+            lengths = [0, int(most) + 1, 1, int(most)]
+            gave = [slave.run(slave.power_up() + slave.bytes([SYNC, length]))[-1][0] for length in lengths]
+            c.same(f"number {number}, LEN", [number, number, 0, 0], gave)
+        if quoted(shown):
+            gave = slave.run(slave.power_up() + slave.bytes(bytes.fromhex(quoted(shown)[0])))
+            c.same(f"number {number}", number, gave[-1][0])
+            c.same(f"call of number {number}", row["Call"] in ("byte", "any"), True)
+            continue
+        # On one side of the limit it is this number, on the other it is not.
+        limit = int(limit)
+        told = {"event": f"above {limit - 1}", "room": f"fewer than {limit + 1} bytes", "state": "wrong size"}[word]
+        c.same(f"number {number}, in words", told in row["When"], True)
+        calls = {
+            "event": [slave.event(limit), slave.event(limit - 1)],
+            "room": [slave.slot(limit), slave.slot(limit + 1)],
+            "state": [make(limit) for make in every(slave)] + [make(limit + 1) for make in every(slave)],
+        }[word]
+        gave = [slave.run(slave.power_up() + call)[-1][0] for call in calls]
+        half = len(calls) // 2
+        c.same(f"number {number}", [number] * half, gave[:half])
+        c.same(f"number {number} past its limit", number in gave[half:], False)
+        c.same(f"call of number {number}", row["Call"], {"event": "event", "room": "slot", "state": "any"}[word])
+
+
+def every(slave):
+    """Each kind of call, by the state's size."""
+    return [lambda n: slave.power_up(state=n), lambda n: slave.bytes(b"\x9a", state=n),
+            lambda n: slave.event(2, state=n) if n < slave.state else slave.event(0, state=n),
+            lambda n: slave.slot(22 if n < slave.state else ROOM, state=n)]
+
+
+def sizes(cell):
+    """How many bytes a layout has."""
+    return sum(int((re.search(r"\((\d)\)$", item) or [0, 1])[1]) for item in cell.split(", ")) if cell else 0
+
+
+def all_commands(c, page, slave, opened, resource_of):
+    rows = page.table("All commands", "Code")
+    known = {int(row["Code"], 16) for row in rows}
+    for code in range(256):
+        answer = slave.asked(opened + [f"{code:02X} 00 00 00 00 00 00 00"])[-1]
+        c.same(f"command {code:02X} is known", code in known, answer != b"\xfe\x20")
+    c.same("commands with a section", [f"{row['Code']} {row['Command']}" for row in rows], page.commands())
+    for row in rows:
+        code, fewest, name = int(row["Code"], 16), int(row["Fewest"]), row["Command"]
+        packet = bytes([code]) + bytes(fewest - 1)
+        if fewest > 1:
+            c.same(f"fewest bytes of {name}", b"\xfe\x21", slave.asked(["FF 00", packet[:-1].hex()])[-1])
+        answer = slave.asked(["FF 00", packet.hex()])[-1]
+        c.same(f"{name} of as many bytes", False, answer == b"\xfe\x21")
+        c.same(f"lock of {name}", row["Lock"] != "-", answer == b"\xfe\x25")
+        for lock, commands in resource_of.items():
+            if row["Lock"] != "-":
+                answer = slave.asked(commands + [packet.hex()])[-1]
+                c.same(f"{name} with {lock} unlocked", row["Lock"] == lock, answer != b"\xfe\x25")
+        section = page.table(f"{row['Code']} {name}", "Check")
+        # Where data can be missing the fewest bytes are not all.
+        missing = sum(check["Answer"] == "FE 21" for check in section) == 2
+        c.same(f"layout of {name}", sizes(row["Bytes after the code"]) + 1 > fewest, missing)
+        if not missing:
+            c.same(f"layout of {name}, bytes", sizes(row["Bytes after the code"]) + 1, fewest)
+        goods = [check["Answer"] for check in section if re.fullmatch(r"good\b[^:]*(: twice .*|: nothing .*)?", check["Check"])]
+        c.same(f"answer of {name}", all(leading(g).startswith(leading(row["Answer"])[:1]) for g in goods), bool(goods))
+        if len(leading(row["Answer"])) > 2:
+            c.same(f"whole answer of {name}", leading(row["Answer"]), leading(goods[0])[: len(leading(row["Answer"]))])
+
+
+def follows(codes, order):
+    """Whether the codes come in that order; two rows of one check may stand one behind the other."""
+    rest = iter(order)
+    return all(code in rest for i, code in enumerate(codes) if i == 0 or code != codes[i - 1])
+
+
+def sections(c, page, slave, situations):
+    order = [row["Code"] for row in page.table("What can be wrong", "Code")]
+    for name, commands in situations.items():
+        c.same(f"situation {name}", [True] * len(commands), [a is not None and a[0] == 0xFF for a in slave.asked(commands)])
+    shown = {"20"}
+    for heading in page.commands():
+        rows = page.table(heading, "Check")
+        refusals = [row for row in rows if row["Answer"].startswith("FE") and not row["Check"].startswith("good")]
+        # A wrong key is judged when all else is right.
+        codes = [row["Answer"].split()[1] for row in refusals if "session ends" not in row["Check"]]
+        c.same(f"order of {heading}'s checks", follows(codes, order), True)
+        shown.update(codes)
+        for row in rows:
+            situation, _, tried = row["Shown by"].partition(" ")
+            for commands in quoted(tried):
+                sent = commands.split("; ")
+                c.same(f"{heading}, {row['Check']}: the last command", sent[-1][:2] in (heading[:2], "F4", "FD", "DE"), True)
+                answers = slave.asked(situations[situation] + sent)
+                c.same(f"{heading}, {row['Check']}: `{commands}`", row["Answer"], (answers[-1] or b"").hex(" ").upper())
+            if "session ends" in row["Check"]:
+                c.same(f"{heading}, {row['Check']}", slave.asked(situations[situation] + sent + ["FD"])[-1], None)
+        fewest = re.findall(r"^fewer than (\d+) bytes$", rows[0]["Check"])
+        stated = next(row["Fewest"] for row in page.table("All commands", "Code") if heading.startswith(row["Code"]))
+        c.same(f"{heading}, fewest bytes", fewest or ["1"], [stated])
+    c.same("codes that are shown", set(order), shown)
+
+
+def fields(layout):
+    """Where each field of a command lies: its place and its size."""
+    places, at = {}, 1
+    for item in layout.split(", "):
+        name, size = re.fullmatch(r"(.*?)(?: \((\d)\))?", item).groups()
+        places[name] = at, int(size or 1)
+        at += int(size or 1)
+    return places
+
+
+def value(word):
+    """One or two digits are hex, as bytes are; a number with a comma is decimal."""
+    return int(word.replace(",", "")) if "," in word else int(word, 16)
+
+
+def bounds(check):
+    """What a check's words say of fields: the field, values that it refuses, and values that it lets pass."""
+    for field, low, high in re.findall(r"(\w+) is not (\w+) to (\w+)", check):
+        yield field, [value(low) - 1, value(high) + 1], [value(low), value(high)]
+    for field, only in re.findall(r"(bit offset|\w+)(?: is)? not (\w+)(?! to|\w)", check):
+        yield field, [(value(only) + 1) % 256, (value(only) - 1) % 256], [value(only)]
+    for field, most in re.findall(r"(\w+)(?: is 0 or)? above ([\w,]*\w)", check):
+        yield field, [value(most) + 1], [value(most)]
+    for field, refused in re.findall(r"^(\w+) is (\d+)(?: or|$)", check):
+        yield field, [value(refused)], []
+
+
+def tried(packet, place, number):
+    at, size = place
+    return (packet[:at] + little(number, size) + packet[at + size :]).hex()
+
+
+def worded(c, page, slave, situations):
+    """The numbers in the words of a check: a good command with just that field changed is refused, or not."""
+    for summary in page.table("All commands", "Code"):
+        heading = f"{summary['Code']} {summary['Command']}"
+        rows = page.table(heading, "Check")
+        goods = [(row["Shown by"].split()[0], quoted(row["Shown by"])[0].split("; ")) for row in rows if row["Check"].startswith("good")]
+        situation, commands = next(good for good in goods if good[1][-1].startswith(summary["Code"]))
+        before, packet = situations[situation] + commands[:-1], bytes.fromhex(commands[-1])
+        places = fields(summary["Bytes after the code"])
+        for i, row in enumerate(rows):
+            check, answer = row["Check"], bytes.fromhex(row["Answer"])
+            for field, refused, let in bounds(check) if answer[0] == 0xFE else ():
+                for number in refused + let:
+                    told = slave.asked(before + [tried(packet, places[field], number)])[-1]
+                    c.same(f"{heading}, {check}: {field} {number:X}", number in refused, told == answer)
+            for fewest in re.findall(r"^fewer than (\d+) bytes", check):
+                # A later check may answer the same: then this one is passed all the same.
+                same = any(later["Answer"] == row["Answer"] for later in rows[i + 1 :])
+                cut = [slave.asked(before + [packet[:n].hex()])[-1] for n in (int(fewest) - 1, int(fewest))]
+                c.same(f"{heading}, {check}", [True, same], [told == answer for told in cut])
+
+
+def limits(c, page, slave, opened):
+    for row in page.table("Memories, lists, samples", "What"):
+        (last,), (none,) = quoted(row["The last one"]), quoted(row["None any more"])
+        a, b = bytes.fromhex(last), bytes.fromhex(none)
+        places = [i for i in range(len(a)) if a[i] != b[i]]
+        part = slice(places[0], places[-1] + 1)
+        c.same(f"{row['What']}: the numbers tried", [int(row["Are"]) - 1, int(row["Are"])],
+               [int.from_bytes(a[part], "little"), int.from_bytes(b[part], "little")])
+        answers = [slave.asked(opened + [command])[-1] for command in (last, none)]
+        c.same(f"{row['What']}: {row['Are']}", [0xFF, 0xFE], [answer[0] for answer in answers])
+
+
+def sample(c, page, slave, opened):
+    number, clock, values = (bytes.fromhex("".join(quoted(row["Sent"]))) for row in page.table("Memories, lists, samples", "Sent"))
+    which = number[0] // 2
+    prepare = [f"E2 00 {which:02X} 00 00 00", f"E1 FF {len(values):02X} 01 40 00 00 00",
+               f"E0 10 {which:02X} 00 00 00 01 00", f"DE 01 {which:02X} 00"]
+    packets = [bytes.fromhex(command) for command in opened + prepare]
+    script = slave.power_up() + slave.measured(0x40, values)
+    script += b"".join(slave.bytes(frame(p)) + slave.slot() for p in packets)
+    script += slave.event(0, int.from_bytes(clock, "little")) + slave.slot()
+    c.same("the sample", number + clock + values, plain(slave.run(script)[-1][1][1:])[2:-1])
+
+
+def seeds(c, page, slave):
+    rows = page.table("Seed and key", "Step")
+    said = {row["Step"]: row["Gives"] for row in rows}
+    value = start = int(said["start number"], 16)
+    addends = []
+    for step, gives in said.items():
+        shift = re.search(r"shifted (left|right) by (\d+)", step)
+        if shift:
+            by = int(shift[2])
+            value ^= (value << by) % 2**32 if shift[1] == "left" else value >> by
+        if step.startswith("plus"):
+            addends = [int(number, 16) for number in re.findall(r"0x[0-9A-F]{8}", step)]
+            value = (value + addends[0]) % 2**32
+        turn = re.match(r"rotated left by (\d+)", step)
+        if turn:
+            value = (value << int(turn[1]) | value >> 32 - int(turn[1])) % 2**32
+        if gives.startswith("0x"):
+            c.same(f"seed and key, {step}", int(gives, 16), value)
+    (answer,), (unlock,) = quoted(said["the answer to GET_SEED"]), quoted(said["UNLOCK"])
+    told = slave.asked(["FF 00", "F8 00 01", unlock], start)
+    c.same("the answer to GET_SEED", answer, told[1].hex(" ").upper())
+    c.same("UNLOCK's key", unlock, "F7 04 " + little(value, 4).hex(" ").upper())
+    c.same("what UNLOCK opens", told[2], b"\xff\x04")
+    default = int(re.search(r"\(0 becomes (0x[0-9A-F]{8})\)", page.prose["Seed and key"])[1], 16)
+    c.same("start 0", slave.asked(["FF 00", "F8 00 01"], default), slave.asked(["FF 00", "F8 00 01"], 0))
+    return dict(zip(RESOURCES, addends, strict=True))
+
+
+def words(c, page):
+    """The words of the code are in it."""
+    sources = [*pathlib.Path("crates").glob("*/src/*.rt"), *pathlib.Path("crates").glob("*/specs/*.antt")]
+    text = " ".join(path.read_text(encoding="utf-8") for path in sources)
+    ours, standard = page.tables["Words", "Word"]
+    page.used.add(("Words", "Word"))
+    for row in ours:
+        c.same(f"the word {row['Word']}", bool(re.search(rf"\b{row['Word']}\w*", text, re.I)), True)
+    c.same("words of XCP", {"DAQ list", "ODT", "MTA", "CTO", "DTO"} <= {row["Word"] for row in standard}, True)
+
+
+def main():
+    page = Page(pathlib.Path(PAGE).read_text(encoding="utf-8"))
+    c, slave = Checks(), Slave(sys.argv[1:])
+    the_wire(c, page, slave)
+    numbers(c, page, slave)
+    addends = seeds(c, page, slave)
+    resource_of = {name: opening(slave, code, addends[name]) for name, code in RESOURCES.items()}
+    situations = {row["Situation"]: quoted(row["Commands"])[0].split("; ")
+                  for row in page.table("Command by command", "Situation")}
+    opened = situations["open"]
+    all_commands(c, page, slave, opened, resource_of)
+    sections(c, page, slave, situations)
+    worded(c, page, slave, situations)
+    limits(c, page, slave, opened)
+    sample(c, page, slave, opened)
+    words(c, page)
+    c.same("tables that nothing here reads", sorted(set(page.tables) - page.used), [])
+    slave.end.stdin.close()
+    c.same("how the driver ended", slave.end.wait(), 0)
+    print(f"{c.passed} passed, {c.failed} failed")
+    sys.exit(c.failed > 0)
+
+
+main()
