@@ -1,6 +1,6 @@
 """The sheet program's verdicts. Each list of expected bytes on the stored sheet is changed in its last byte, one at a time, and
 the program must say so; and it must refuse a sheet that is wrong, with the line, the column and what is wrong there.
-Arguments: the sheet, and how to run the program."""
+Arguments: the sheet, how to run the program, and how to run it with a status."""
 import random
 import re
 import subprocess
@@ -13,8 +13,15 @@ END = "Every case                    "
 
 
 def run(sheet):
-    done = subprocess.run(sys.argv[2:], input=sheet, capture_output=True, check=True)
+    done = subprocess.run(sys.argv[2].split(), input=sheet, capture_output=True, check=True)
     return done.stdout.decode("latin-1"), done.stderr.decode("latin-1")
+
+
+def status(sheet):
+    """How it ends with a status, and that it prints the same so."""
+    done = subprocess.run(sys.argv[3].split(), input=sheet, capture_output=True, check=False)
+    same = (done.stdout.decode("latin-1"), done.stderr.decode("latin-1")) == run(sheet)
+    return done.returncode if same else "other output"
 
 
 def changed(line):
@@ -184,10 +191,20 @@ def wrong_sheets(c):
         c.holds(bool(good), f"random bytes {seed}", (out[-60:], told))
 
 
+def statuses(c, stored):
+    names = f"# bad\n{GOOD}\n\n# Every case                    DIFFERENT: 1 of 1 case, 1 step\n{GOOD}\n"
+    for name, sheet, expected in [("the sheet itself", stored, 0), ("an empty sheet", "", 1), ("words in titles", names, 0)] + [
+            (name, sheet, int(last.startswith("DIFFERENT"))) for name, sheet, last in RIGHT]:
+        ended = status(sheet.encode())
+        c.holds(ended == expected, f"status of {name}", ended)
+
+
 def main():
     c = Checks()
     with open(sys.argv[1], encoding="ascii") as f:
-        expectations(c, f.read().split("\n"))
+        stored = f.read()
+    expectations(c, stored.split("\n"))
+    statuses(c, stored)
     wrong_lines(c)
     wrong_sheets(c)
     for name, sheet, expected in RIGHT:
