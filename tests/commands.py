@@ -176,10 +176,6 @@ def numbers(c, page, slave):
     for row in rows:
         number, shown = int(row["No."]), row["Shown by"]
         word, _, limit = shown.partition(" ")
-        for most in re.findall(r"LEN is 0 or above (\d+)", row["When"]):
-            lengths = [0, int(most) + 1, 1, int(most)]
-            gave = [slave.run(slave.power_up() + slave.bytes([SYNC, length]))[-1][0] for length in lengths]
-            c.same(f"number {number}, LEN", [number, number, 0, 0], gave)
         if quoted(shown):
             gave = slave.run(slave.power_up() + slave.bytes(bytes.fromhex(quoted(shown)[0])))
             c.same(f"number {number}", number, gave[-1][0])
@@ -199,6 +195,21 @@ def numbers(c, page, slave):
         c.same(f"number {number}", [number] * half, gave[:half])
         c.same(f"number {number} past its limit", number in gave[half:], False)
         c.same(f"call of number {number}", row["Call"], {"event": "event", "room": "slot", "state": "any"}[word])
+
+
+def bad_bytes(c, page, slave):
+    """The numbers in the words: which LEN is bad, and what may follow 9B."""
+    said = {row["Name"]: (int(row["No."]), row["When"]) for row in page.table("What a call returns", "No.")}
+    number, when = said["XCP_BAD_LENGTH"]
+    least, most = map(int, re.search(r"LEN is (\d+) or above (\d+)", when).groups())
+    for length in range(SYNC):
+        gave = slave.run(slave.power_up() + slave.bytes([SYNC, length]))[-1][0]
+        c.same(f"LEN {length} is bad", length <= least or length > most, gave == number)
+    number, when = said["XCP_BAD_ESCAPE"]
+    escape, *good = (int(byte, 16) for byte in re.findall(r"\b[0-9A-F]{2}\b", when))
+    for byte in range(256):
+        gave = slave.run(slave.power_up() + slave.bytes([SYNC, 1, escape, byte]))[-1][0]
+        c.same(f"{escape:02X} {byte:02X} is bad", byte not in good, gave == number)
 
 
 def every(slave):
@@ -352,6 +363,12 @@ def sample(c, page, slave, opened):
     script = slave.power_up() + slave.measured(0x40, values)
     script += b"".join(slave.bytes(frame(p)) + slave.slot() for p in packets)
     script += slave.event(0, int.from_bytes(clock, "little")) + slave.slot()
+    listed = re.search(r"list (\d), ODT (\d)", page.table("Memories, lists, samples", "Sent")[0]["Is"])
+    c.same("the packet's number", 2 * int(listed[1]) + int(listed[2]), number[0])
+    told = re.search(r"List (\d) with one entry of two measured bytes, ([0-9A-F ]+), at clock 0x(\w{4})",
+                     page.prose["Memories, lists, samples"])
+    c.same("the sample, in words", [int(told[1]), bytes.fromhex(told[2]), int(told[3], 16)],
+           [which, values, int.from_bytes(clock, "little")])
     c.same("the sample", number + clock + values, plain(slave.run(script)[-1][1][1:])[2:-1])
 
 
@@ -399,6 +416,7 @@ def main():
     c, slave = Checks(), Slave(sys.argv[1:])
     the_wire(c, page, slave)
     numbers(c, page, slave)
+    bad_bytes(c, page, slave)
     addends = seeds(c, page, slave)
     resource_of = {name: opening(slave, code, addends[name]) for name, code in RESOURCES.items()}
     situations = {row["Situation"]: quoted(row["Commands"])[0].split("; ")
