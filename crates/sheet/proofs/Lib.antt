@@ -1,2 +1,5 @@
--- Laws that the functions' proofs cite.
+-- Laws that the functions' proofs cite, and that a step's line is used up.
+pub mod Choices
 pub mod Lists
+pub mod Spelled
+pub mod Used

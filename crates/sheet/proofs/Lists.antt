@@ -1,7 +1,6 @@
 -- Laws of a list of bytes in capital hex, and of the printable front of a line. Assumes nothing.
-use mathlib.Core.Path.{_≡_, refl, ap, _∙_}
-use mathlib.Core.Bool.{Bool, true, false, cond}
-use mathlib.Core.List.{List, [], _∷_}
+use mathlib.Core.Path.{_≡_, ap, _∙_}
+use mathlib.Core.List.{List, _∷_}
 use Prim.Native.Nat.{ℕ, zero, suc, _+_, _-_, _*_, _<_, _≤_}
 use native.Mathlib.Numerals.{add-one}
 use native.Mathlib.Omega.{arith}
@@ -14,6 +13,7 @@ use Rattle.line.specs.Message.{room}
 use Rattle.sheet.specs.declared.hex.Pair.{Pair}
 use Rattle.sheet.specs.declared.hex.Pair.the-variants.{Nothing, Last, More}
 use Rattle.sheet.specs.declared.form.Step.{Step}
+use Rattle.sheet.proofs.Choices.{cond-ind}
 use Rattle.sheet.specs.Hex.{pairAt, counted, pairsFrom, valueAt, valuesFrom}
 use Rattle.sheet.specs.Form.{bytesAt, plainOf, dashes, firstEnd}
 
@@ -99,14 +99,11 @@ pub plain-end : (s : List ℕ) (i : ℕ) → length s ≤ i → plainOf (drop i 
 unfolding plainOf
 plain-end s i g = rw (drop-of-length-le s {i = i} g)
 
--- what holds of both of a choice holds of the choice
-either : (P : ℕ → Type 0) (t : Bool) {a b : ℕ} → P a → P b → P (cond t a b)
-either P true x y = x
-either P false x y = y
-
 -- the first list ends within the columns that it can have
 pub first-most : (step : Step) (s : List ℕ) (n : ℕ) → n ≤ room → firstEnd step s n ≤ 100
 unfolding firstEnd
 first-most step s n h =
-    either (λ (k : ℕ). k ≤ 100) (ltb 0 n) (omega arith)
-    (either (λ (k : ℕ). k ≤ 100) (eqb (getD s bytesAt 0) 45) (either (λ (k : ℕ). k ≤ 100) (dashes step) (omega arith) (omega arith)) (omega arith))
+    cond-ind (λ (k : ℕ). k ≤ 100) (ltb 0 n) (λ _. omega arith)
+    (λ _. cond-ind (λ (k : ℕ). k ≤ 100) (eqb (getD s bytesAt 0) 45)
+    (λ _. cond-ind (λ (k : ℕ). k ≤ 100) (dashes step) (λ _. omega arith) (λ _. omega arith))
+    (λ _. omega arith))

@@ -1,9 +1,10 @@
 -- What a line of a sheet is: empty, a title, a step, or what is wrong with it, and at which of its places.
 use Prim.Native.Nat.{ℕ, suc, _+_, _-_, _*_}
 use mathlib.Core.Bool.{Bool, true, false, cond}
-use mathlib.Core.List.{List, [], _∷_}
+use mathlib.Core.Path.{_≡_}
+use mathlib.Core.List.{List, [], _∷_, _++_}
 use lib.Dec.{eqb, leb, ltb}
-use lib.ListN.{length, getD}
+use lib.ListN.{length, getD, drop}
 use Rattle.line.specs.Message.{most, room}
 use Rattle.sheet.specs.declared.form.Step.{Step}
 use Rattle.sheet.specs.declared.form.Step.the-variants.{PowerUp, Measured, Wire, Command, Slot, Unlock, Repeat, Event}
@@ -13,7 +14,7 @@ use Rattle.sheet.specs.declared.form.Fault.{Fault}
 use Rattle.sheet.specs.declared.form.Fault.the-variants as fault
 use Rattle.sheet.specs.declared.form.Line.{Line}
 use Rattle.sheet.specs.declared.form.Line.the-variants as line
-use Rattle.sheet.specs.Hex.{space, valueAt, pairsFrom}
+use Rattle.sheet.specs.Hex.{space, valueAt, pairsFrom, valuesFrom, spelled}
 
 -- where a step's line has its bytes: behind its letter, a space, and its name in 28 columns
 abbrev pub bytesAt : ℕ
@@ -145,3 +146,18 @@ lineOf s =
     cond (eqb (length s) 0) line.Empty
     (cond (ltb (plainOf s) (length s)) (bad fault.Sign (plainOf s))
     (cond (eqb (getD s 1 0) space) (kindLine (kindOf (getD s 0 0)) s) (bad fault.Kind 0)))
+
+-- a step's bytes as its line has them, or the - of a slot
+unfoldable pub firstText : ℕ → List ℕ → List ℕ
+firstText n s = cond (eqb n 0) (45 ∷ []) (spelled (valuesFrom n s bytesAt))
+
+-- those to expect, behind a first list that ends at k
+unfoldable pub expectedText : ℕ → List ℕ → ℕ → List ℕ
+expectedText m s k = cond (eqb m 0) [] (space ∷ 61 ∷ space ∷ spelled (valuesFrom m s (k + 3)))
+
+-- behind its name a step's line has these, and nothing else
+unfoldable pub Used : List ℕ → Line → Type 0
+Used s line.Empty = Unit {0}
+Used s line.Title = Unit {0}
+Used s (line.Does step n m) = drop bytesAt s ≡ firstText n s ++ expectedText m s (firstEnd step s n)
+Used s (line.Bad f k) = Unit {0}

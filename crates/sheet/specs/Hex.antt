@@ -1,9 +1,10 @@
 -- Bytes in capital hex, two digits each and one space between. A place past a text's end reads as 0, which is no digit.
 use Prim.Native.Nat.{ℕ, zero, suc, _+_, _-_, _*_}
 use mathlib.Core.Bool.{Bool, false, cond}
-use mathlib.Core.List.{List, [], _∷_}
+use mathlib.Core.List.{List, [], _∷_, _++_}
 use lib.Dec.{eqb, leb, ltb}
 use lib.ListN.{getD}
+use Rattle.digits.specs.Digits.{pairOf}
 use Rattle.sheet.specs.declared.hex.Pair.{Pair}
 use Rattle.sheet.specs.declared.hex.Pair.the-variants.{Nothing, Last, More}
 
@@ -58,3 +59,13 @@ pairsFrom (suc n) s k = counted (pairAt s k) (pairsFrom n s (k + 3))
 unfoldable pub valuesFrom : ℕ → List ℕ → ℕ → List ℕ
 valuesFrom zero s k = []
 valuesFrom (suc n) s k = valueAt s k ∷ valuesFrom n s (k + 3)
+
+-- a space and two digits for each byte
+unfoldable pub behind : List ℕ → List ℕ
+behind [] = []
+behind (b ∷ bs) = space ∷ (pairOf b ++ behind bs)
+
+-- bytes as a sheet has them: two digits each and one space between
+unfoldable pub spelled : List ℕ → List ℕ
+spelled [] = []
+spelled (b ∷ bs) = pairOf b ++ behind bs
