@@ -14,6 +14,7 @@ int the_line_is_free(void);
 void send(const uint8_t *bytes, uint32_t count);
 void run(void);
 """
+TARGETS = re.findall(r"^([a-z-]+):", pathlib.Path("Makefile").read_text(encoding="utf-8"), re.M)
 TYPED = r"(?:make|rt|tools/|bash|printf|git|python3)\b"
 
 
@@ -60,10 +61,12 @@ def main():
     for _, section, block in typed:
         for line in block.splitlines():
             done = subprocess.run(["bash", "-n"], input=line, text=True, capture_output=True, check=False)
-            words = line.partition(" # ")[0].split()
+            c.holds(done.returncode == 0 and re.match(TYPED, line), f"{section}: not a line to paste: {line}")
             # What is told of a command stands behind a # sign, so that the line can be pasted.
-            good = done.returncode == 0 and re.match(TYPED, line) and (words[0] != "make" or len(words) == 2 or "=" in words[2])
-            c.holds(good, f"{section}: not a line to paste: {line}")
+            first, *words = line.partition(" # ")[0].split()
+            if first == "make":
+                good = all(word in TARGETS or "=" in word for word in words)
+                c.holds(good, f"{section}: the Makefile does not have: {line}")
     for i, section, block in typed:
         if "tools/status" not in block:
             continue
