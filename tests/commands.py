@@ -29,7 +29,9 @@ class Page:
                 for row in lines[i + 1 :]:
                     if not row.startswith("|"):
                         break
-                    rows.append(dict(zip(names, cells(row), strict=True)))
+                    if len(cells(row)) != len(names):
+                        sys.exit(f"{PAGE}: a row has other columns than its table: {row}\n0 passed, 1 failed")
+                    rows.append(dict(zip(names, cells(row))))
                 self.tables.setdefault((heading, names[0]), []).append(rows)
             elif not line.startswith("|"):
                 self.prose[heading] = self.prose.get(heading, "") + line + " "
@@ -397,7 +399,8 @@ def seeds(c, page, slave):
     c.same("what UNLOCK opens", told[2], b"\xff\x04")
     default = int(re.search(r"\(0 becomes (0x[0-9A-F]{8})\)", page.prose["Seed and key"])[1], 16)
     c.same("start 0", slave.asked(["FF 00", "F8 00 01"], default), slave.asked(["FF 00", "F8 00 01"], 0))
-    return dict(zip(RESOURCES, addends, strict=True))
+    c.same("numbers for keys", len(addends), len(RESOURCES))
+    return dict(zip(RESOURCES, addends))
 
 
 def words(c, page):
