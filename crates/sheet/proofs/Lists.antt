@@ -1,21 +1,22 @@
--- Laws of a list of bytes in capital hex, and of the printable front of a line. Assumes nothing.
+-- Laws of lists of bytes in capital hex, of the printable front of a line, and of places in bytes. Assumes nothing.
 use mathlib.Core.Path.{_≡_, ap, _∙_}
-use mathlib.Core.List.{List, _∷_}
+use mathlib.Core.List.{List, [], _∷_, _++_}
 use Prim.Native.Nat.{ℕ, zero, suc, _+_, _-_, _*_, _<_, _≤_}
 use native.Mathlib.Numerals.{add-one}
 use native.Mathlib.Omega.{arith}
 use native.Mathlib.Nat.{not-suc-le-zero}
-use lib.ListN.{length, getD, set, drop, drop-of-length-le}
-use lib.Seq.{sets, drop-cons}
+use lib.ListN.{length, getD, set, take, drop, drop-of-length-le}
+use lib.Seq.{sets, take-suc, length-take-le, drop-cons}
 use lib.Dec.{eqb, ltb}
-use borrow.Author.Tests.{le-leb, lt-leb}
+use borrow.Author.Tests.{le-leb, lt-leb, eq-eqb, ne-eqb}
 use Rattle.line.specs.Message.{room}
 use Rattle.sheet.specs.declared.hex.Pair.{Pair}
 use Rattle.sheet.specs.declared.hex.Pair.the-variants.{Nothing, Last, More}
 use Rattle.sheet.specs.declared.form.Step.{Step}
 use Rattle.sheet.proofs.Choices.{cond-ind}
 use Rattle.sheet.specs.Hex.{pairAt, counted, pairsFrom, valueAt, valuesFrom}
-use Rattle.sheet.specs.Form.{bytesAt, plainOf, dashes, firstEnd}
+use Rattle.sheet.specs.Bytes.{leastOf, partOf, before, storedIn}
+use Rattle.sheet.specs.Form.{memory, bytesAt, plainOf, dashes, firstEnd}
 
 -- no byte stands at k
 pub pairs-none : (s : List ℕ) (k n : ℕ) → 0 < n → pairAt s k ≡ Nothing → pairsFrom n s k ≡ 0
@@ -107,3 +108,38 @@ first-most step s n h =
     (λ _. cond-ind (λ (k : ℕ). k ≤ 100) (eqb (getD s bytesAt 0) 45)
     (λ _. cond-ind (λ (k : ℕ). k ≤ 100) (dashes step) (λ _. omega arith) (λ _. omega arith))
     (λ _. omega arith))
+
+-- the place of a byte: here, further on, nowhere
+pub before-here : (b : ℕ) (s : List ℕ) (i : ℕ) → i < length s → getD s i 0 ≡ b → before b (drop i s) ≡ 0
+unfolding before
+before-here b s i h e = rw (drop-cons s i 0 h, eq-eqb (getD s i 0) b e)
+
+pub before-next : (b : ℕ) (s : List ℕ) (i : ℕ) → i < length s → (getD s i 0 ≡ b → ⊥) → before b (drop i s) ≡ suc (before b (drop (i + 1) s))
+unfolding before
+before-next b s i h n = rw (add-one, drop-cons s i 0 h, ne-eqb (getD s i 0) b n)
+
+pub before-end : (b : ℕ) (s : List ℕ) (i : ℕ) → length s ≤ i → before b (drop i s) ≡ 0
+unfolding before
+before-end b s i g = rw (drop-of-length-le s {i = i} g)
+
+-- the part of a slice from a on that has b bytes
+pub part-back : (s : List ℕ) (k n a b : ℕ) → a ≡ leastOf k (length s) → b ≡ leastOf n (length s - a) → take (a + b - a) (drop a s) ≡ partOf s k n
+part-back s k n a b p q =
+    let r : a + b - a ≡ b = omega arith in
+    rw (r, q, p)
+
+sets-last : (l xs : List ℕ) (k a : ℕ) → sets l k (xs ++ a ∷ []) ≡ set (sets l k xs) (k + length xs) a
+sets-last l [] k a = let e : k + 0 ≡ k = omega arith in rw e
+sets-last l (x ∷ xs) k a =
+    let e : k + suc (length xs) ≡ suc k + length xs = omega arith in
+    rw e (sets-last (set l k x) xs (suc k) a)
+
+-- byte j is stored in the memory
+pub stored-next : (d m s : List ℕ) (at j : ℕ) → m ≡ sets d at (take j s) → j < length s → set m (at + j) (getD s j 0) ≡ sets d at (take (j + 1) s)
+stored-next d m s at j e g =
+    let n : length (take j s) ≡ j = length-take-le j s (omega arith) in
+    rw (add-one, take-suc s j 0 g, sets-last, n, e)
+
+-- every byte that has a place is stored
+pub stored-all : (d m s : List ℕ) (at from n i : ℕ) → from ≡ leastOf at memory → n ≡ leastOf (length s) (memory - from) → i ≡ n → m ≡ sets d from (take i s) → m ≡ storedIn d at s
+stored-all d m s at from n i p q r e = e ∙ rw (r, q, p)

@@ -1,7 +1,6 @@
 -- What a line asks for. A case is a title, its steps, one at least, and an empty line or the sheet's end.
 use Prim.Native.Nat.{ℕ}
 use Rattle.sheet.specs.declared.form.Step.{Step}
-use Rattle.sheet.specs.declared.form.Fault.{Fault}
 use Rattle.sheet.specs.declared.form.Fault.the-variants as fault
 use Rattle.sheet.specs.declared.form.Line.{Line}
 use Rattle.sheet.specs.declared.form.Line.the-variants as line

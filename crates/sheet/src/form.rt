@@ -3,7 +3,6 @@
 // case.
 ghost use mathlib.Core.Path.{_≡_};
 ghost use Prim.Native.Nat.{_≤_};
-ghost use lib.ListN.{length};
 ghost use Rattle.line.specs.Message.{room};
 ghost use Rattle.sheet.specs.Form.{plainOf, kindOf, placedOf, resourceOf, timesOf, bytesFit, someUpTo, expectedFits, fittedOf, dashes, firstEnd, signAt, expectingOf, listsOf, stepOf, kindLine, lineOf};
 use crate::bytes;

@@ -1,7 +1,6 @@
 // The bytes that a line of the sheet has in capital hex: as many as the longest frame has, at most.
 ghost use mathlib.Core.Path.{_≡_};
 ghost use Prim.Native.Nat.{_≤_};
-ghost use lib.ListN.{getD};
 ghost use lib.Seq.{sets};
 ghost use Rattle.line.specs.Message.{room};
 ghost use Rattle.sheet.specs.Hex.{hexOf, pairAt, pairsFrom, valueAt, valuesFrom};

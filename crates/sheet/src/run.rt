@@ -1,6 +1,4 @@
 // Runs a sheet, line by line, up to the first that is wrong.
-ghost use Prim.Native.Nat.{_≤_};
-ghost use Rattle.line.specs.Message.{room};
 use crate::bytes;
 use crate::fault;
 use crate::form;

@@ -1,4 +1,7 @@
 // What the steps of a sheet do. Each prints what came, and hands the tool on with its verdict.
+ghost use mathlib.Core.Path.{_≡_};
+ghost use lib.ListN.{length};
+ghost use Rattle.sheet.specs.Bytes.{partOf, wordAt, storedIn};
 use crate::bytes;
 use crate::keys;
 use crate::show;
@@ -23,7 +26,9 @@ pub fn power_up(bytes: &[u8], was: Tool, state: &mut [u8; STATE_SIZE]) -> Tool {
 }
 
 // Measured bytes: their place, two bytes, and they.
-pub fn measured(bytes: &[u8], meas: &mut [u8; 4096]) {
+pub fn measured(bytes: &[u8], meas: &mut [u8; 4096])
+    ensures { λ _. ⌜ now (meas .exit) ≡ storedIn (now (meas .entry)) (wordAt (now (bytes .entry)) 0) (partOf (now (bytes .entry)) 2 (length (now (bytes .entry)))) ⌝ }
+{
     show::print_bytes(bytes);
     set(
         bytes::part(bytes, 2, bytes.len()),
@@ -33,7 +38,9 @@ pub fn measured(bytes: &[u8], meas: &mut [u8; 4096]) {
 }
 
 // Bytes past the memory's end have no place and are left out.
-fn set(bytes: &[u8], meas: &mut [u8; 4096], at: usize) {
+fn set(bytes: &[u8], meas: &mut [u8; 4096], at: usize)
+    ensures { λ _. ⌜ now (meas .exit) ≡ storedIn (now (meas .entry)) at (now (bytes .entry)) ⌝ }
+{
     let from = bytes::least(at, MEMORY);
     let count = bytes::least(bytes.len(), MEMORY - from);
     let mut i = 0;
