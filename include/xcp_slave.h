@@ -58,7 +58,7 @@ extern "C" {
 #define XCP_SLAVE_VERSION "1.0.0"
 
 /* The state's one size: a shorter or longer buffer is refused. */
-#define XCP_STATE_SIZE 247
+#define XCP_STATE_SIZE 248
 
 /* The room that a slot needs, whatever waits: the longest frame. */
 #define XCP_SLOT_ROOM 23

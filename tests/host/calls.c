@@ -45,7 +45,7 @@ static void bad_state(const struct rig *r, uint8_t *state, size_t len)
 
 static void wrong_sizes(void)
 {
-    static const size_t sizes[] = {0, 1, 4, 22, 23, 246, 248, 255, 256};
+    static const size_t sizes[] = {0, 1, 4, 22, 23, 247, 249, 255, 256};
     for (size_t i = 0; i < COUNT(sizes); i++) {
         struct rig r;
         struct kept k;

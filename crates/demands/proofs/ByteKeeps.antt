@@ -1,5 +1,6 @@
 -- What a received byte does to what waits: packets go only if their list is stopped or its session ends or is renewed, an answer stays, and one is
 -- accepted only if none waits. Assumes nothing.
+use lib.Dec.{lit≤}
 use Prim.Native.Nat.{ℕ, _≤_, _<_}
 use mathlib.Core.Path.{_≡_, refl, sym, _∙_}
 use mathlib.Core.Logic.{_≢_}
@@ -9,16 +10,16 @@ use mathlib.Core.List.{List, [], _++_, append-nil}
 use native.Mathlib.Omega.{arith}
 use lib.ListN.{length}
 use Rattle.line.proofs.Stuffed.{false-true}
-use Rattle.session.specs.Layout.{lists}
-use Rattle.session.specs.State.{consistent, waits, answerOf}
+use Rattle.state.specs.Layout.{lists, packetMost, ctrAt, placeAt}
+use Rattle.state.specs.State.{consistent, waits, answerOf}
 use Rattle.session.specs.Perform.{effect, reply, after}
 use Rattle.session.specs.Receive.{Step, receiveOf}
-use Rattle.session.specs.Number.{receivedNumber}
-use Rattle.session.specs.declared.Deed.{Deed}
-use Rattle.session.specs.declared.Received.{Received}
-use Rattle.session.specs.declared.Received.the-variants.{Nothing, Answered, Silent, BadLength, BadEscape, BadChecksum, Unread, CutOff, NoState}
+use Rattle.words.specs.Number.{receivedNumber}
+use Rattle.judge.specs.declared.Deed.{Deed}
+use Rattle.words.specs.declared.Received.{Received}
+use Rattle.words.specs.declared.Received.the-variants.{Nothing, Answered, Silent, BadLength, BadEscape, BadChecksum, Unread, CutOff, NoState}
 use Rattle.fields.proofs.Frames.{only-answered}
-use Rattle.fields.proofs.Readers.{Same, apart, same-then}
+use Rattle.fields.proofs.Readers.{Same, apart, same-then, same-part}
 use Rattle.fields.proofs.Effects.{effected, answering, after-waits}
 use Rattle.demands.specs.Slave.{ours}
 use Rattle.demands.specs.Runs.{Byte}
@@ -48,7 +49,7 @@ module _ (s cal meas : List ℕ) (b : ℕ) (c : consistent s ≡ true) where
   read-waiting l l4 = waiting-reads l (own-only (omega arith) (read-only s b c))
 
   module _ (d : Deed) (p : List ℕ) (w : Does s cal meas b d p) where
-    few : length (reply d (readBy s b) cal meas) ≤ 8
+    few : length (reply d (readBy s b) cal meas) ≤ packetMost
     few = answering d (readBy s b) cal meas (length p) (w .can) .few
 
     answered-waiting : (l : ℕ) → l < lists → waitingOf (after d (readBy s b) cal meas) l ≡ waitingOf (effect d (readBy s b)) l
@@ -59,9 +60,9 @@ module _ (s cal meas : List ℕ) (b : ℕ) (c : consistent s ≡ true) where
     deed-waiting l l4 false e =
         answered-waiting l l4 ∙ effect-waiting d p (readBy s b) l (length p) (length cal) (length meas) (read-length s b c) l4 (w .can) (w .found) e ∙ read-waiting l l4
 
-    deed-round : Same 8 11 (readBy s b) (after d (readBy s b) cal meas)
+    deed-round : Same ctrAt placeAt (readBy s b) (after d (readBy s b) cal meas)
     deed-round =
-        same-then (effected d (readBy s b) (length p) (length cal) (length meas) (w .can) .round) (apart tt (only-answered (effect d (readBy s b)) (reply d (readBy s b) cal meas) few))
+        same-then (same-part (lit≤ tt) (lit≤ tt) (effected d (readBy s b) (length p) (length cal) (length meas) (w .can) .between)) (apart tt (only-answered (effect d (readBy s b)) (reply d (readBy s b) cal meas) few))
 
     deed-waits : waits (after d (readBy s b) cal meas) ≡ true
     deed-waits = after-waits d (readBy s b) cal meas (length p) (read-length s b c) (w .can)
@@ -75,11 +76,11 @@ module _ (s cal meas : List ℕ) (b : ℕ) (c : consistent s ≡ true) where
   byte-waiting l l4 = waiting-by l l4 (received s cal meas b c)
 
   -- ---- the CTR, the list that was served last, and whether the last frame was an answer
-  round-by : {o : Step} {x : Option Deed} → Reads s cal meas b o x → Same 8 11 s (o .state)
+  round-by : {o : Step} {x : Option Deed} → Reads s cal meas b o x → Same ctrAt placeAt s (o .state)
   round-by (rests r n f) = apart tt (read-only s b c)
   round-by (acts d p w) = same-then (apart tt (read-only s b c)) (deed-round d p w)
 
-  pub byte-round : Same 8 11 s (receiveOf s cal meas b .state)
+  pub byte-round : Same ctrAt placeAt s (receiveOf s cal meas b .state)
   byte-round = round-by (received s cal meas b c)
 
   -- ---- an answer that waits stays

@@ -11,8 +11,8 @@ use lib.ListN.{length}
 use lib.Seq.{take-at}
 use Rattle.line.specs.Message.{message, frame, sum}
 use Rattle.line.proofs.Stuffed.{unstuff-stuff}
-use Rattle.session.specs.Layout.{listOf}
-use Rattle.session.specs.Slot.{packetOf}
+use Rattle.state.specs.Layout.{listOf, allOdts}
+use Rattle.lists.specs.Slot.{packetOf}
 use Rattle.demands.specs.Waiting.{packetInside, packetRead, isAnswer, isOf, carried}
 
 -- a message's packet
@@ -38,18 +38,18 @@ pub carries-none : (test : List ℕ → Bool) (c : ℕ) (p : List ℕ) → test 
 carries-none test c p h = rw (packet-read c p, h)
 
 -- ---- a list's packet
-low : (k : ℕ) → k < 8 → leb 0xFE k ≡ false
+low : (k : ℕ) → k < allOdts → leb 0xFE k ≡ false
 low k h = lt-leb 0xFE k (omega arith)
 
-pub packet-no-answer : (s : List ℕ) (k : ℕ) → k < 8 → isAnswer (packetOf s k) ≡ false
+pub packet-no-answer : (s : List ℕ) (k : ℕ) → k < allOdts → isAnswer (packetOf s k) ≡ false
 unfolding packetOf
 packet-no-answer s k h = low k h
 
-pub packet-own : (s : List ℕ) (j k : ℕ) → k < 8 → listOf k ≡ j → isOf j (packetOf s k) ≡ true
+pub packet-own : (s : List ℕ) (j k : ℕ) → k < allOdts → listOf k ≡ j → isOf j (packetOf s k) ≡ true
 unfolding packetOf
 packet-own s j k h e = rw (low k h) (eq-eqb (listOf k) j e)
 
-pub packet-other : (s : List ℕ) (l j k : ℕ) → k < 8 → listOf k ≡ j → l ≢ j → isOf l (packetOf s k) ≡ false
+pub packet-other : (s : List ℕ) (l j k : ℕ) → k < allOdts → listOf k ≡ j → l ≢ j → isOf l (packetOf s k) ≡ false
 unfolding packetOf
 packet-other s l j k h e n = rw (low k h) (ne-eqb (listOf k) l (λ q. n (sym q ∙ e)))
 

@@ -5,9 +5,9 @@ use mathlib.Core.Path.{_≡_}
 use borrow.Author.Tests.{eqb-true}
 use lib.Dec.{eqb}
 use Rattle.line.proofs.Laws.{cond-ind}
-use Rattle.session.specs.Command.{commandOf}
-use Rattle.session.specs.declared.Command.{Command}
-use Rattle.session.specs.declared.Command.the-variants as command
+use Rattle.words.specs.Command.{commandOf}
+use Rattle.words.specs.declared.Command.{Command}
+use Rattle.words.specs.declared.Command.the-variants as command
 
 -- the codes of the commands that move memory bytes or bring a key
 abbrev pub Coded : ℕ → Command → Type 0

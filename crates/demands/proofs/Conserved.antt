@@ -8,12 +8,12 @@ use native.Mathlib.Decide.{decLe, ℕ-discrete}
 use lib.Dec.{lit≤}
 use lib.ListN.{length}
 use Rattle.line.specs.Message.{room}
-use Rattle.session.specs.Layout.{size, lists}
-use Rattle.session.specs.State.{consistent, ctrOf, answerOf}
-use Rattle.session.specs.Slot.{turnOf, packetOf, packetSent, slotOf}
-use Rattle.session.specs.declared.Turn.{Turn}
-use Rattle.session.specs.declared.Turn.the-variants.{Packet}
-use Rattle.session.proofs.Consistent.{consistent-size}
+use Rattle.state.specs.Layout.{size, lists}
+use Rattle.state.specs.State.{consistent, ctrOf, answerOf}
+use Rattle.lists.specs.Slot.{turnOf, packetOf, packetSent, slotOf}
+use Rattle.lists.specs.declared.Turn.{Turn}
+use Rattle.lists.specs.declared.Turn.the-variants.{Packet}
+use Rattle.state.proofs.Consistent.{consistent-size}
 use Rattle.fields.proofs.Readers.{same-part, waits-reads, answer-reads}
 use Rattle.fields.proofs.Served.{answerSent-waits, packetSent-rest}
 use Rattle.demands.specs.Slave.{ours}
@@ -60,7 +60,7 @@ answered-turn : (s : List ℕ) (t : Turn) → length s ≡ size → Fair s t →
 answered-turn s _ h nobody = refl
 answered-turn s _ h (answer w) = rw (carries isAnswer (ctrOf s) (answerOf s) (answer-answers s h w), answerSent-waits s h, w)
 answered-turn s _ h (list j k n) =
-    let y = packetSent-rest s k (n .odt) in
+    let y = packetSent-rest s k in
     rw (carries-none isAnswer (ctrOf s) (packetOf s k) (packet-no-answer s k (n .odt)), waits-reads (same-part (lit≤ tt) (lit≤ tt) y), answer-reads (same-part (lit≤ tt) (lit≤ tt) y))
 
 answers-step : (s : List ℕ) (c : Call) → consistent s ≡ true → answersIn (sends ours s c) ++ waitingAnswer (after ours s c) ≡ waitingAnswer s ++ accepts ours s c

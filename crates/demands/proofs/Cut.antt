@@ -11,27 +11,27 @@ use lib.ListN.{length, getD, set, take, drop, length-take, length-set, take-appe
 use lib.Seq.{sets, set-append-left, getD-take}
 use Rattle.line.specs.declared.Outcome.{Outcome}
 use Rattle.line.specs.declared.Outcome.the-variants as line
-use Rattle.session.specs.Layout.{addressable, firstOdt, entries}
-use Rattle.session.specs.Bytes.{block}
-use Rattle.session.specs.Memory.{reach, pick, insideOf, blockSum, byteOf, bytesOf}
-use Rattle.session.specs.State.{consistent, openOf, waits}
-use Rattle.session.specs.Lists.{sizeOf, extensionOf, addressOf}
-use Rattle.session.specs.Doable.{Inside, Doable}
-use Rattle.session.specs.Judge.{judge}
+use Rattle.state.specs.Layout.{addressable, firstOdt, entries, lists, uploadMost, odtCount}
+use Rattle.state.specs.Bytes.{block}
+use Rattle.state.specs.Memory.{reach, pick, insideOf, blockSum, byteOf, bytesOf}
+use Rattle.state.specs.State.{consistent, openOf, waits}
+use Rattle.lists.specs.Lists.{sizeOf, extensionOf, addressOf}
+use Rattle.judge.specs.Doable.{Inside, Doable}
+use Rattle.session.specs.Look.{judgeOf}
 use Rattle.session.specs.Perform.{reply, written}
 use Rattle.session.specs.Receive.{Step, only, obeyed, goodConnect, heeded, meant, readOn, fedOf, receiveOf}
-use Rattle.session.specs.Event.{samplingOf, entryBytes, gathered, captured, sampledState, Tally, counted, tally, eventOf}
-use Rattle.session.specs.declared.Extension.{Extension}
-use Rattle.session.specs.declared.Extension.the-variants.{Calibration, Measured}
-use Rattle.session.specs.declared.Sampling.{Sampling}
-use Rattle.session.specs.declared.Sampling.the-variants.{Idle, Sampled, Missed}
-use Rattle.session.specs.declared.Received.{Received}
-use Rattle.session.specs.declared.Received.the-variants.{Nothing, Silent, BadLength, BadEscape, BadChecksum, Unread, CutOff, NoState}
-use Rattle.session.specs.declared.Deed.{Deed}
-use Rattle.session.specs.declared.Deed.the-variants.{Refuse, RefuseSize, WrongKey, Connect, Disconnect, Status, Synch, NoSeed, GiveSeed, Unlock, SetMta, Upload, ShortUpload, Checksum, Download, ClearList, SetPointer, ClearEntry, WriteEntry, SetMode, Stop, Start, KeepRunning, Select, StopAll, StartSelected, StopSelected, ProcessorInfo, ResolutionInfo}
-use Rattle.session.proofs.Inside.{inside-le}
+use Rattle.lists.specs.Event.{samplingOf, entryBytes, gathered, captured, sampledState, Tally, counted, tally, eventOf, contentsOf, capturedOdts}
+use Rattle.words.specs.declared.Extension.{Extension}
+use Rattle.words.specs.declared.Extension.the-variants.{Calibration, Measured}
+use Rattle.lists.specs.declared.Sampling.{Sampling}
+use Rattle.lists.specs.declared.Sampling.the-variants.{Idle, Sampled, Missed}
+use Rattle.words.specs.declared.Received.{Received}
+use Rattle.words.specs.declared.Received.the-variants.{Nothing, Silent, BadLength, BadEscape, BadChecksum, Unread, CutOff, NoState}
+use Rattle.judge.specs.declared.Deed.{Deed}
+use Rattle.judge.specs.declared.Deed.the-variants.{Refuse, RefuseSize, WrongKey, Connect, Disconnect, Status, Synch, NoSeed, GiveSeed, Unlock, SetMta, Upload, ShortUpload, Checksum, Download, ClearList, SetPointer, ClearEntry, WriteEntry, SetMode, Stop, Start, KeepRunning, Select, StopAll, StartSelected, StopSelected, ProcessorInfo, ResolutionInfo}
+use Rattle.state.proofs.Inside.{inside-le}
 use Rattle.session.proofs.Data.{block-block}
-use Rattle.session.proofs.Doable.{judge-doable}
+use Rattle.session.proofs.Looked.{judged-doable}
 use Rattle.demands.specs.Slave.{ours}
 use Rattle.demands.specs.Demand2.{putBack}
 use Rattle.demands.proofs.CutJudge.{judge-cut}
@@ -71,9 +71,17 @@ module _ (cal meas : List ℕ) where
   gathered-cut s k zero = refl
   gathered-cut s k (suc n) = rw (gathered-cut s k n, entry-cut s k n)
 
+  contents-cut : (s : List ℕ) (k clock : ℕ) → contentsOf s k clock (front cal) (front meas) ≡ contentsOf s k clock cal meas
+  unfolding contentsOf
+  contents-cut s k clock = rw (gathered-cut s k entries)
+
+  odts-cut : (s : List ℕ) (k clock n : ℕ) → capturedOdts s k clock (front cal) (front meas) n ≡ capturedOdts s k clock cal meas n
+  unfolding capturedOdts
+  odts-cut s k clock zero = refl
+  odts-cut s k clock (suc n) = rw (odts-cut s k clock n, contents-cut s (k + n) clock)
+
   captured-cut : (s : List ℕ) (l clock : ℕ) → captured s l clock (front cal) (front meas) ≡ captured s l clock cal meas
-  unfolding captured
-  captured-cut s l clock = rw (gathered-cut s (firstOdt l) entries, gathered-cut s (firstOdt l + 1) entries)
+  captured-cut s l clock = odts-cut s (firstOdt l) clock (odtCount l)
 
   sampled-cut : (c : Sampling) (s : List ℕ) (l clock : ℕ) → sampledState c s l clock (front cal) (front meas) ≡ sampledState c s l clock cal meas
   unfolding sampledState
@@ -93,7 +101,7 @@ module _ (cal meas : List ℕ) where
 
 pub cutEvent : (s cal meas : List ℕ) (event clock : ℕ) → ours .event s cal meas event clock ≡ ours .event s (take addressable cal) (take addressable meas) event clock
 unfolding eventOf
-cutEvent s cal meas event clock = rw (tally-cut cal meas s event clock 4)
+cutEvent s cal meas event clock = rw (tally-cut cal meas s event clock lists)
 
 -- ---- a deed
 block-cut : (mem : List ℕ) (a n : ℕ) → a + n ≤ addressable → block (front mem) a n ≡ block mem a n
@@ -117,8 +125,8 @@ reply-cut NoSeed long s cal meas o = refl
 reply-cut (GiveSeed r) long s cal meas o = refl
 reply-cut (Unlock r) long s cal meas o = refl
 reply-cut (SetMta e a) long s cal meas o = refl
-reply-cut (Upload e a n) long s cal meas o = rw (inside-cut e cal meas 7 a n o)
-reply-cut (ShortUpload e a n) long s cal meas o = rw (inside-cut e cal meas 7 a n o)
+reply-cut (Upload e a n) long s cal meas o = rw (inside-cut e cal meas uploadMost a n o)
+reply-cut (ShortUpload e a n) long s cal meas o = rw (inside-cut e cal meas uploadMost a n o)
 reply-cut (Checksum e a n) long s cal meas o = rw (inside-cut e cal meas addressable a n o)
 reply-cut (Download a n) long s cal meas o = refl
 reply-cut (ClearList l) long s cal meas o = refl
@@ -203,7 +211,7 @@ module _ (cal meas : List ℕ) where
   obeyed-cut : (d : Deed) (p s : List ℕ) → Doable d (length p) (length cal) (length meas) → Cut rest (obeyed d p s cal meas) (obeyed d p s (front cal) (front meas))
   obeyed-cut d p s o = record { same = rw (reply-cut d (length p) s cal meas o, written-cut d p cal (length meas) o) }
 
-  judged-cut : (p s : List ℕ) → judge p s (length (front cal)) (length (front meas)) ≡ judge p s (length cal) (length meas)
+  judged-cut : (p s : List ℕ) → judgeOf p s (length (front cal)) (length (front meas)) ≡ judgeOf p s (length cal) (length meas)
   judged-cut p s = judge-cut (length cal) (length meas) (length (front cal)) (length (front meas)) (front-reach cal) (front-reach meas) p s
 
   heeded-cut : (p s : List ℕ) → Cut rest (heeded p s cal meas) (heeded p s (front cal) (front meas))
@@ -211,7 +219,7 @@ module _ (cal meas : List ℕ) where
   heeded-cut p s =
       rw (judged-cut p s)
       (either-cut (waits s) (only-cut Unread s)
-      (either-cut (openOf s) (obeyed-cut (judge p s (length cal) (length meas)) p s (judge-doable p s (length cal) (length meas)))
+      (either-cut (openOf s) (obeyed-cut (judgeOf p s (length cal) (length meas)) p s (judged-doable p s (length cal) (length meas)))
       (either-cut (goodConnect p) (obeyed-cut Connect p s tt) (only-cut Silent s))))
 
   meant-cut : (o : Outcome) (m s : List ℕ) → Cut rest (meant o m s cal meas) (meant o m s (front cal) (front meas))

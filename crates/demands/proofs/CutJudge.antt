@@ -1,21 +1,23 @@
 -- Of a memory's length no more is judged than how many of its bytes can be addressed. Assumes nothing.
 use Prim.Native.Nat.{ℕ}
 use mathlib.Core.Path.{_≡_, refl}
+use mathlib.Core.Bool.{Bool}
 use mathlib.Core.List.{List}
-use lib.ListN.{length, getD}
-use Rattle.session.specs.Bytes.{u32At}
-use Rattle.session.specs.Memory.{reach, pick, insideOf}
-use Rattle.session.specs.State.{mtaOf, pointerOf}
-use Rattle.session.specs.Command.{commandOf}
-use Rattle.session.specs.Judge.{extensionFrom, uploadDeed, shortUploadDeed, checksumDeed, downloadTo, downloadDeed, writeBlock, writeDeed, judgeThe, judgeBy, judge}
-use Rattle.session.specs.declared.Command.{Command}
-use Rattle.session.specs.declared.Command.the-variants.{Unknown, Connect, Disconnect, GetStatus, Synch, GetSeed, Unlock, SetMta, Upload, ShortUpload, BuildChecksum, Download, ClearDaqList, SetDaqPtr, WriteDaq, SetDaqListMode, StartStopDaqList, StartStopSynch, GetDaqProcessorInfo, GetDaqResolutionInfo}
-use Rattle.session.specs.declared.Extension.{Extension}
-use Rattle.session.specs.declared.Extension.the-variants.{Calibration, Measured}
-use Rattle.session.specs.declared.Mta.{Mta}
-use Rattle.session.specs.declared.Mta.the-variants.{Unset, At}
-use Rattle.session.specs.declared.Pointer.{Pointer}
-use Rattle.session.specs.declared.Pointer.the-variants.{Unset as NoEntry, At as Entry}
+use lib.ListN.{getD}
+use Rattle.state.specs.Bytes.{u16At}
+use Rattle.state.specs.Memory.{reach, pick, insideOf}
+use Rattle.words.specs.Command.{commandOf}
+use Rattle.judge.specs.Judge.{extensionFrom, uploadDeed, shortUploadDeed, checksumDeed, downloadTo, downloadDeed, writeBlock, writeDeed, judgeThe, judgeBy, judge}
+use Rattle.words.specs.declared.Command.{Command}
+use Rattle.words.specs.declared.Command.the-variants.{Unknown, Connect, Disconnect, GetStatus, Synch, GetSeed, Unlock, SetMta, Upload, ShortUpload, BuildChecksum, Download, ClearDaqList, SetDaqPtr, WriteDaq, SetDaqListMode, StartStopDaqList, StartStopSynch, GetDaqProcessorInfo, GetDaqResolutionInfo}
+use Rattle.words.specs.declared.Extension.{Extension}
+use Rattle.words.specs.declared.Extension.the-variants.{Calibration, Measured}
+use Rattle.words.specs.declared.Mta.{Mta}
+use Rattle.words.specs.declared.Mta.the-variants.{Unset, At}
+use Rattle.words.specs.declared.Pointer.{Pointer}
+use Rattle.words.specs.declared.Pointer.the-variants.{Unset as NoEntry, At as Entry}
+use Rattle.judge.specs.Seen.{Packet, Seen}
+use Rattle.session.specs.Look.{numbersOf, seenOf, judgeOf}
 
 -- two pairs of lengths of which as many bytes can be addressed
 module _ (nc nm nc′ nm′ : ℕ) (c : reach nc′ ≡ reach nc) (m : reach nm′ ≡ reach nm) where
@@ -59,34 +61,34 @@ module _ (nc nm nc′ nm′ : ℕ) (c : reach nc′ ≡ reach nc) (m : reach nm�
   unfolding writeBlock
   write-block-cut k e n x a = rw (inside-cut x a n)
 
-  write-cut : (at : Pointer) (s : List ℕ) (bit n ext a : ℕ) → writeDeed at s bit n ext a nc′ nm′ ≡ writeDeed at s bit n ext a nc nm
+  write-cut : (at : Pointer) (runs : Bool) (bit n ext a : ℕ) → writeDeed at runs bit n ext a nc′ nm′ ≡ writeDeed at runs bit n ext a nc nm
   unfolding writeDeed
-  write-cut NoEntry s bit n ext a = refl
-  write-cut (Entry k e) s bit n ext a = rw (write-block-cut k e n (extensionFrom ext) a)
+  write-cut NoEntry runs bit n ext a = refl
+  write-cut (Entry k e) runs bit n ext a = rw (write-block-cut k e n (extensionFrom ext) a)
 
-  the-cut : (x : Command) (p s : List ℕ) → judgeThe x p s nc′ nm′ ≡ judgeThe x p s nc nm
+  the-cut : (x : Command) (p : Packet) (v : Seen) → judgeThe x p v nc′ nm′ ≡ judgeThe x p v nc nm
   unfolding judgeThe
-  the-cut Unknown p s = refl
-  the-cut Connect p s = refl
-  the-cut Disconnect p s = refl
-  the-cut GetStatus p s = refl
-  the-cut Synch p s = refl
-  the-cut GetSeed p s = refl
-  the-cut Unlock p s = refl
-  the-cut SetMta p s = refl
-  the-cut Upload p s = upload-cut (mtaOf s) (getD p 1 0)
-  the-cut ShortUpload p s = short-upload-cut (getD p 1 0) (getD p 3 0) (u32At p 4)
-  the-cut BuildChecksum p s = checksum-cut (mtaOf s) (u32At p 4)
-  the-cut Download p s = download-cut (mtaOf s) (getD p 1 0) (length p)
-  the-cut ClearDaqList p s = refl
-  the-cut SetDaqPtr p s = refl
-  the-cut WriteDaq p s = write-cut (pointerOf s) s (getD p 1 0) (getD p 2 0) (getD p 3 0) (u32At p 4)
-  the-cut SetDaqListMode p s = refl
-  the-cut StartStopDaqList p s = refl
-  the-cut StartStopSynch p s = refl
-  the-cut GetDaqProcessorInfo p s = refl
-  the-cut GetDaqResolutionInfo p s = refl
+  the-cut Unknown p v = refl
+  the-cut Connect p v = refl
+  the-cut Disconnect p v = refl
+  the-cut GetStatus p v = refl
+  the-cut Synch p v = refl
+  the-cut GetSeed p v = refl
+  the-cut Unlock p v = refl
+  the-cut SetMta p v = refl
+  the-cut Upload p v = upload-cut (v .mta) (p .b1)
+  the-cut ShortUpload p v = short-upload-cut (p .b1) (p .b3) (p .d4)
+  the-cut BuildChecksum p v = checksum-cut (v .mta) (p .d4)
+  the-cut Download p v = download-cut (v .mta) (p .b1) (p .n)
+  the-cut ClearDaqList p v = refl
+  the-cut SetDaqPtr p v = refl
+  the-cut WriteDaq p v = write-cut (v .pointer) (v .pointed) (p .b1) (p .b2) (p .b3) (p .d4)
+  the-cut SetDaqListMode p v = refl
+  the-cut StartStopDaqList p v = refl
+  the-cut StartStopSynch p v = refl
+  the-cut GetDaqProcessorInfo p v = refl
+  the-cut GetDaqResolutionInfo p v = refl
 
-  pub judge-cut : (p s : List ℕ) → judge p s nc′ nm′ ≡ judge p s nc nm
-  unfolding judge judgeBy
-  judge-cut p s = rw (the-cut (commandOf (getD p 0 0)) p s)
+  pub judge-cut : (p s : List ℕ) → judgeOf p s nc′ nm′ ≡ judgeOf p s nc nm
+  unfolding judgeOf judge judgeBy
+  judge-cut p s = rw (the-cut (commandOf (getD p 0 0)) (numbersOf p) (seenOf (u16At p 2) s))

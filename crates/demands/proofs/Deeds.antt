@@ -9,17 +9,17 @@ use borrow.Author.Tests.{eqb-true, eqb-false}
 use lib.Dec.{lit≤}
 use lib.ListN.{length, set}
 use Rattle.line.proofs.Stuffed.{false-true}
-use Rattle.session.specs.Layout.{size, lists, listOf}
-use Rattle.session.specs.Generator.{nextOf}
-use Rattle.session.specs.State.{generatorOf, setGenerator, lockAt, setMta, setPointer, closed, fresh}
-use Rattle.session.specs.Lists.{switched, listCleared, modeSet, entryCleared, entrySet}
-use Rattle.session.specs.Doable.{Doable}
+use Rattle.state.specs.Layout.{size, lists, listOf}
+use Rattle.state.specs.Generator.{nextOf}
+use Rattle.state.specs.State.{generatorOf, setGenerator, lockAt, setMta, setPointer, closed, fresh}
+use Rattle.lists.specs.Lists.{switched, listCleared, modeSet, entryCleared, entrySet}
+use Rattle.judge.specs.Doable.{Doable}
 use Rattle.session.specs.Perform.{nextEntry, effect}
-use Rattle.session.specs.declared.Seed.the-variants.{None, For}
-use Rattle.session.specs.declared.Mta.{Mta}
-use Rattle.session.specs.declared.Pointer.{Pointer}
-use Rattle.session.specs.declared.Deed.{Deed}
-use Rattle.session.specs.declared.Deed.the-variants.{Refuse, RefuseSize, WrongKey, Connect, Disconnect, Status, Synch, NoSeed, GiveSeed, Unlock, SetMta, Upload, ShortUpload, Checksum, Download, ClearList, SetPointer, ClearEntry, WriteEntry, SetMode, Stop, Start, KeepRunning, Select, StopAll, StartSelected, StopSelected, ProcessorInfo, ResolutionInfo}
+use Rattle.words.specs.declared.Seed.the-variants.{None, For}
+use Rattle.words.specs.declared.Mta.{Mta}
+use Rattle.words.specs.declared.Pointer.{Pointer}
+use Rattle.judge.specs.declared.Deed.{Deed}
+use Rattle.judge.specs.declared.Deed.the-variants.{Refuse, RefuseSize, WrongKey, Connect, Disconnect, Status, Synch, NoSeed, GiveSeed, Unlock, SetMta, Upload, ShortUpload, Checksum, Download, ClearList, SetPointer, ClearEntry, WriteEntry, SetMode, Stop, Start, KeepRunning, Select, StopAll, StartSelected, StopSelected, ProcessorInfo, ResolutionInfo}
 use Rattle.fields.proofs.Fields.{bare-runs, closed-bare, fresh-bare}
 use Rattle.fields.proofs.Frames.{only-generator, only-lock, only-seed, only-mta, only-pointer}
 use Rattle.demands.specs.Heard.{stops}
@@ -30,10 +30,10 @@ use Rattle.demands.proofs.Synch.{stopEach-waiting, startSelected-waitin
 use Rattle.demands.proofs.Judged.{Found}
 
 -- ---- the MTA and the entry pointer are no list's
-mta-waiting : (s : List ℕ) (m : Mta) (l : ℕ) → l < 4 → waitingOf (setMta s m) l ≡ waitingOf s l
+mta-waiting : (s : List ℕ) (m : Mta) (l : ℕ) → l < lists → waitingOf (setMta s m) l ≡ waitingOf s l
 mta-waiting s m l l4 = waiting-reads l (own-only (omega arith) (only-mta s m))
 
-pointer-waiting : (s : List ℕ) (p : Pointer) (l : ℕ) → l < 4 → waitingOf (setPointer s p) l ≡ waitingOf s l
+pointer-waiting : (s : List ℕ) (p : Pointer) (l : ℕ) → l < lists → waitingOf (setPointer s p) l ≡ waitingOf s l
 pointer-waiting s p l l4 = waiting-reads l (own-only (omega arith) (only-pointer s p))
 
 -- ---- a deed that does not stop list l
@@ -76,8 +76,8 @@ effect-waiting (Start j) p s l n nc nm h l4 can found e =
 effect-waiting (KeepRunning j) p s l n nc nm h l4 can found e = refl
 effect-waiting (Select j) p s l n nc nm h l4 can found e = waiting-reads l (own-selected s j 1 l4 can)
 effect-waiting StopAll p s l n nc nm h l4 can found e = absurd (false-true (sym e))
-effect-waiting StartSelected p s l n nc nm h l4 can found e = startSelected-waiting s 4 l h (lit≤ tt) l4
-effect-waiting StopSelected p s l n nc nm h l4 can found e = waiting-reads l (stopSelected-keeps s 4 l (lit≤ tt) l4 e)
+effect-waiting StartSelected p s l n nc nm h l4 can found e = startSelected-waiting s lists l h (lit≤ tt) l4
+effect-waiting StopSelected p s l n nc nm h l4 can found e = waiting-reads l (stopSelected-keeps s lists l (lit≤ tt) l4 e)
 effect-waiting ProcessorInfo p s l n nc nm h l4 can found e = refl
 effect-waiting ResolutionInfo p s l n nc nm h l4 can found e = refl
 
@@ -108,8 +108,8 @@ effect-stops (Stop j) s l h l4 e = subst (λ (i : ℕ). waitingOf (switched s i 
 effect-stops (Start j) s l h l4 e = absurd (false-true e)
 effect-stops (KeepRunning j) s l h l4 e = absurd (false-true e)
 effect-stops (Select j) s l h l4 e = absurd (false-true e)
-effect-stops StopAll s l h l4 e = stopEach-waiting s 4 l h (lit≤ tt) l4
+effect-stops StopAll s l h l4 e = stopEach-waiting s lists l h (lit≤ tt) l4
 effect-stops StartSelected s l h l4 e = absurd (false-true e)
-effect-stops StopSelected s l h l4 e = stopSelected-drops s 4 l h (lit≤ tt) l4 e
+effect-stops StopSelected s l h l4 e = stopSelected-drops s lists l h (lit≤ tt) l4 e
 effect-stops ProcessorInfo s l h l4 e = absurd (false-true e)
 effect-stops ResolutionInfo s l h l4 e = absurd (false-true e)

@@ -1,6 +1,8 @@
 -- Our slave meets the first demand: any bytes get a defined outcome, and a refusal leaves what it should. Assumes nothing.
+use lib.Seq.{sets, length-sets}
+use Rattle.fields.proofs.Stores.{out}
 use Prim.{tt}
-use Prim.Native.Nat.{ℕ, _≤_, _<_}
+use Prim.Native.Nat.{ℕ, _≤_, _<_, _+_}
 use mathlib.Core.Path.{_≡_, refl, sym, ap, subst, _∙_}
 use mathlib.Core.Logic.{_≢_}
 use mathlib.Core.Bool.{true, false}
@@ -8,31 +10,31 @@ use mathlib.Core.Option.{Option}
 use mathlib.Core.List.{List}
 use native.Mathlib.Omega.{arith}
 use borrow.Author.Tests.{lt-ltb, le-ltb, eq-eqb, ne-eqb}
-use lib.Dec.{eqb, ltb, lit≤}
+use lib.Dec.{eqb, ltb, lit≤, T}
 use lib.ListN.{length, getD, take, replicate}
 use Rattle.line.specs.Message.{most, room}
 use Rattle.line.specs.Writer.{Sent, writeOf}
 use Rattle.line.proofs.Laws.{cond-ind}
 use Rattle.line.proofs.Stuffed.{false-true}
-use Rattle.session.specs.Layout.{placeAt, answerAt, size}
-use Rattle.session.specs.Bytes.{cleared}
-use Rattle.session.specs.State.{consistent, ctrOf, seedOf, generatorOf, closed, answerOf}
+use Rattle.state.specs.Layout.{placeAt, answerAt, size, sessionAt, sessionSize, packetMost}
+use Rattle.state.specs.Bytes.{cleared}
+use Rattle.state.specs.State.{consistent, ctrOf, seedOf, generatorOf, closed, answerOf}
 use Rattle.session.specs.Perform.{effect, reply, written, after}
 use Rattle.session.specs.Receive.{Step, obeyed, receiveOf}
-use Rattle.session.specs.Event.{eventOf}
-use Rattle.session.specs.Slot.{packetOf, turnOf, slottedAs, sentBy, slotOf}
+use Rattle.lists.specs.Event.{eventOf}
+use Rattle.lists.specs.Slot.{packetOf, turnOf, slottedAs, sentBy, slotOf}
 use Rattle.session.specs.PowerUp.{powerUpOf}
-use Rattle.session.specs.Number.{receivedNumber, eventedNumber, slottedNumber, poweredUpNumber}
-use Rattle.session.specs.Doable.{Doable}
-use Rattle.session.specs.declared.Seed.{Seed}
-use Rattle.session.specs.declared.Seed.the-variants.{None, For}
-use Rattle.session.specs.declared.Deed.{Deed}
-use Rattle.session.specs.declared.Deed.the-variants.{WrongKey, Disconnect}
-use Rattle.session.specs.declared.Turn.{Turn}
-use Rattle.session.specs.declared.Turn.the-variants.{Nobody, Answer, Packet}
-use Rattle.session.proofs.Consistent.{consistent-size}
+use Rattle.words.specs.Number.{receivedNumber, eventedNumber, slottedNumber, poweredUpNumber}
+use Rattle.judge.specs.Doable.{Doable}
+use Rattle.words.specs.declared.Seed.{Seed}
+use Rattle.words.specs.declared.Seed.the-variants.{None, For}
+use Rattle.judge.specs.declared.Deed.{Deed}
+use Rattle.judge.specs.declared.Deed.the-variants.{WrongKey, Disconnect}
+use Rattle.lists.specs.declared.Turn.{Turn}
+use Rattle.lists.specs.declared.Turn.the-variants.{Nobody, Answer, Packet}
+use Rattle.state.proofs.Consistent.{consistent-size}
 use Rattle.fields.proofs.Effects.{answering, after-answer}
-use Rattle.fields.proofs.Frames.{Only, only-then, only-wider, only-take, only-answered}
+use Rattle.fields.proofs.Frames.{Only, only-then, only-wider, only-between, only-answered}
 use Rattle.fields.proofs.Readers.{Same}
 use Rattle.fields.proofs.Kept.{receive-kept, event-kept, slot-kept, power-up-consistent}
 use Rattle.demands.specs.Slave.{ours}
@@ -42,7 +44,7 @@ use Rattle.demands.specs.Demand1.{Demand1}
 use Rattle.demands.proofs.Judged.{Found}
 use Rattle.demands.proofs.ReadBy.{read-only, read-length, read-seed, read-generator}
 use Rattle.demands.proofs.Received.{Does, Reads, rests, acts, received, commanded}
-use Rattle.demands.proofs.Unchanged.{all-but, take-same, same-take, same-sets}
+use Rattle.demands.proofs.Unchanged.{all-but, same-sets}
 use Rattle.demands.proofs.Refusals.{Idles, refusal, wrong-judged, disconnect-judged}
 
 -- ---- a refused command
@@ -64,13 +66,13 @@ not-wrong s cal meas b d p c n w e =
     false-true (sym k ∙ sym (wrong-same s p b c) ∙ f)
 
 -- the answer alone, behind the reader
-answer-only : (d : Deed) (s t cal meas : List ℕ) (n : ℕ) → Only placeAt answerAt s t → effect d t ≡ t → Doable d n (length cal) (length meas) → Only placeAt size s (after d t cal meas)
+answer-only : (d : Deed) (s t cal meas : List ℕ) (n : ℕ) → Only placeAt answerAt s t → effect d t ≡ t → Doable d n (length cal) (length meas) → Only placeAt sessionAt s (after d t cal meas)
 answer-only d s t cal meas n w e can =
-    let a : Only answerAt size t (after d t cal meas) = rw e (only-answered t (reply d t cal meas) (answering d t cal meas n can .few)) in
+    let a : Only answerAt sessionAt t (after d t cal meas) = rw e (only-answered t (reply d t cal meas) (answering d t cal meas n can .few)) in
     only-then (only-wider (lit≤ tt) (lit≤ tt) w) (only-wider (lit≤ tt) (lit≤ tt) a)
 
 refused-by : {s cal meas : List ℕ} {b : ℕ} {o : Step} {x : Option Deed} → consistent s ≡ true → receivedNumber (o .received) ≡ 1
-    → getD (answerOf (o .state)) 0 0 ≡ 0xFE → wrongKeyAt s b ≡ false → Reads s cal meas b o x → AllBut placeAt size s (o .state) × (o .cal ≡ cal)
+    → getD (answerOf (o .state)) 0 0 ≡ 0xFE → wrongKeyAt s b ≡ false → Reads s cal meas b o x → AllBut placeAt sessionAt s (o .state) × (o .cal ≡ cal)
 refused-by c one fe n (rests r other few) = absurd (other one)
 refused-by {s} {cal} {meas} {b} c one fe n (acts d p w) =
     let t : List ℕ = readBy s b in
@@ -79,12 +81,19 @@ refused-by {s} {cal} {meas} {b} c one fe n (acts d p w) =
     (all-but (answer-only d s t cal meas (length p) (read-only s b c) (i .state) (w .can)), i .memory)
 
 -- ---- a wrong key
--- what begins alike is alike closed
-closed-alike : (s t : List ℕ) → length t ≡ length s → take placeAt t ≡ take placeAt s → take placeAt (closed t) ≡ take placeAt (closed s)
+-- the same stores in both leave what differs where it was
+only-both : {lo hi : ℕ} {s t : List ℕ} (i : ℕ) (xs : List ℕ) → Only lo hi s t → Only lo hi (sets s i xs) (sets t i xs)
+only-both {lo} {hi} {s} {t} i xs w = record { long = simp (length-sets, w .long); bytes = λ j o. same-sets {s = s} {t = t} i xs (one j o) .byte j (omega arith) (omega arith) } where
+  one : (j : ℕ) → T (out lo hi j) → Same j (j + 1) s t
+  one j o = record { long = w .long; byte = λ k p q. let e : j ≡ k = omega arith in subst (λ (m : ℕ). getD t m 0 ≡ getD s m 0) e (w .bytes j o) }
+
+only-back : {lo hi : ℕ} {s t : List ℕ} → Only lo hi s t → Only lo hi t s
+only-back w = record { long = sym (w .long); bytes = λ j o. sym (w .bytes j o) }
+
+-- what is alike outside the reader and the answer is so closed too
+closed-alike : {s t : List ℕ} → Only placeAt sessionAt s t → Only placeAt sessionAt (closed s) (closed t)
 unfolding closed cleared
-closed-alike s t long e =
-    let w : Same 0 225 s t = take-same 225 long e in
-    same-take {s = closed s} {t = closed t} 225 (same-sets {s = s} {t = t} 11 (replicate 214 0) w)
+closed-alike w = only-both sessionAt (replicate sessionSize 0) w
 
 -- deeds that close the session leave it as it is closed
 record Closes (d : Deed) : Type 0 where
@@ -100,13 +109,12 @@ disconnect-closes : Closes Disconnect
 unfolding effect written
 disconnect-closes = record { state = λ s. refl; memory = λ p cal. refl; can = λ n nc nm. tt }
 
-closes-front : (d : Deed) (s cal meas : List ℕ) (b : ℕ) → Closes d → consistent s ≡ true → take placeAt (after d (readBy s b) cal meas) ≡ take placeAt (closed s)
-closes-front d s cal meas b w c =
+closes-to : (d : Deed) (s cal meas : List ℕ) (b : ℕ) → Closes d → consistent s ≡ true → Only placeAt sessionAt (closed s) (after d (readBy s b) cal meas)
+closes-to d s cal meas b w c =
     let t : List ℕ = readBy s b in
-    let few : length (reply d t cal meas) ≤ 8 = answering d t cal meas 0 (w .can 0 (length cal) (length meas)) .few in
-    only-take 225 (lit≤ tt) (only-answered (effect d t) (reply d t cal meas) few)
-    ∙ ap (take placeAt) (w .state t)
-    ∙ closed-alike s t (read-only s b c .long) (only-take 225 (lit≤ tt) (read-only s b c))
+    let few : length (reply d t cal meas) ≤ packetMost = answering d t cal meas 0 (w .can 0 (length cal) (length meas)) .few in
+    let answer : Only answerAt sessionAt (effect d t) (after d t cal meas) = only-answered (effect d t) (reply d t cal meas) few in
+    only-then (closed-alike (only-wider (lit≤ tt) (lit≤ tt) (read-only s b c))) (only-wider (lit≤ tt) (lit≤ tt) (subst (λ (u : List ℕ). Only answerAt sessionAt u (after d t cal meas)) (w .state t) answer))
 
 wrong-step : (s cal meas : List ℕ) (b : ℕ) (p : List ℕ) → consistent s ≡ true → Commands s b p → wrongKey p s ≡ true
     → receiveOf s cal meas b ≡ obeyed WrongKey p (readBy s b) cal meas
@@ -114,27 +122,26 @@ wrong-step s cal meas b p u w wrong =
     commanded s cal meas b p u w ∙ ap (λ (d : Deed). obeyed d p (readBy s b) cal meas) (wrong-judged p (readBy s b) (length cal) (length meas) (wrong-same s p b u ∙ wrong))
 
 -- but for the answer it is the closed session
-wrong-only : (t cal meas : List ℕ) → Only answerAt size (closed t) (after WrongKey t cal meas)
+wrong-only : (t cal meas : List ℕ) → Only answerAt sessionAt (closed t) (after WrongKey t cal meas)
 unfolding effect
 wrong-only t cal meas = only-answered (closed t) (reply WrongKey t cal meas) (answering WrongKey t cal meas 0 tt .few)
 
 wrong-key-ends : (s cal meas : List ℕ) (b : ℕ) (p : List ℕ) → consistent s ≡ true → Commands s b p → wrongKey p s ≡ true
-    → AllBut answerAt size (closed (readBy s b)) (receiveOf s cal meas b .state) × (receiveOf s cal meas b .cal ≡ cal)
+    → AllBut answerAt sessionAt (closed (readBy s b)) (receiveOf s cal meas b .state) × (receiveOf s cal meas b .cal ≡ cal)
 wrong-key-ends s cal meas b p u w wrong =
     let e : receiveOf s cal meas b ≡ obeyed WrongKey p (readBy s b) cal meas = wrong-step s cal meas b p u w wrong in
     (rw e (all-but (wrong-only (readBy s b) cal meas)), ap (λ (o : Step). o .cal) e ∙ wrong-closes .memory p cal)
 
-as-disconnect : (s t cal meas cal′ meas′ : List ℕ) (b c : ℕ) (p q : List ℕ) → consistent s ≡ true → consistent t ≡ true → take placeAt s ≡ take placeAt t
+as-disconnect : (s t cal meas cal′ meas′ : List ℕ) (b c : ℕ) (p q : List ℕ) → consistent s ≡ true → consistent t ≡ true → AllBut placeAt sessionAt s t
     → Commands s b p → wrongKey p s ≡ true → Commands t c q → getD q 0 0 ≡ 0xFE
-    → take placeAt (receiveOf s cal meas b .state) ≡ take placeAt (receiveOf t cal′ meas′ c .state)
+    → AllBut placeAt sessionAt (receiveOf s cal meas b .state) (receiveOf t cal′ meas′ c .state)
 as-disconnect s t cal meas cal′ meas′ b c p q u v alike w wrong x code =
     let left : receiveOf s cal meas b ≡ obeyed WrongKey p (readBy s b) cal meas = wrong-step s cal meas b p u w wrong in
     let right : receiveOf t cal′ meas′ c ≡ obeyed Disconnect q (readBy t c) cal′ meas′ =
     commanded t cal′ meas′ c q v x ∙ ap (λ (d : Deed). obeyed d q (readBy t c) cal′ meas′) (disconnect-judged q (readBy t c) (length cal′) (length meas′) code) in
-    let long : length s ≡ length t = consistent-size s u ∙ sym (consistent-size t v) in
-    ap (λ (o : Step). take placeAt (o .state)) left ∙ closes-front WrongKey s cal meas b wrong-closes u
-    ∙ closed-alike t s long alike
-    ∙ sym (ap (λ (o : Step). take placeAt (o .state)) right ∙ closes-front Disconnect t cal′ meas′ c disconnect-closes v)
+    let same : Only placeAt sessionAt s t = only-between placeAt sessionAt (alike .long) (alike .front) (alike .back) in
+    rw (left, right)
+    (all-but (only-then (only-back (closes-to WrongKey s cal meas b wrong-closes u)) (only-then (closed-alike same) (closes-to Disconnect t cal′ meas′ c disconnect-closes v))))
 
 -- ---- a byte without an answer
 unanswered-by : {s cal meas : List ℕ} {b : ℕ} {o : Step} {x : Option Deed} → consistent s ≡ true → receivedNumber (o .received) ≢ 1

@@ -5,11 +5,11 @@ use mathlib.Core.Bool.{true}
 use mathlib.Core.Option.{some}
 use mathlib.Core.List.{List}
 use lib.ListN.{length}
-use Rattle.session.specs.Layout.{placeAt, answerAt}
-use Rattle.session.specs.State.{consistent, waits, answerOf}
+use Rattle.state.specs.Layout.{placeAt, answerAt}
+use Rattle.state.specs.State.{consistent, waits, answerOf}
 use Rattle.session.specs.Receive.{Step, only, heeded, receiveOf}
-use Rattle.session.specs.declared.Received.the-variants.{Answered, Unread}
-use Rattle.session.proofs.Doable.{judge-doable}
+use Rattle.words.specs.declared.Received.the-variants.{Answered, Unread}
+use Rattle.session.proofs.Looked.{judged-doable}
 use Rattle.fields.proofs.Effects.{after-waits}
 use Rattle.fields.proofs.Kept.{receive-kept}
 use Rattle.demands.specs.Slave.{ours}
@@ -33,7 +33,7 @@ module _ (s cal meas : List ℕ) (b : ℕ) (p : List ℕ) (c : consistent s ≡ 
   command-waits : waits (receiveOf s cal meas b .state) ≡ true
   command-waits =
       ap (λ (o : Step). waits (o .state)) (commanded s cal meas b p c w)
-      ∙ after-waits (deedOf p (readBy s b) cal meas) (readBy s b) cal meas (length p) (read-length s b c) (judge-doable p (readBy s b) (length cal) (length meas))
+      ∙ after-waits (deedOf p (readBy s b) cal meas) (readBy s b) cal meas (length p) (read-length s b c) (judged-doable p (readBy s b) (length cal) (length meas))
 
   command-soon : (later : List Call) → AnsweredSoon 2 ours s cal meas b p later
   command-soon later =

@@ -1,6 +1,6 @@
 -- What DOWNLOAD wrote, UPLOAD at the same place gives back, and other bytes stay. Assumes nothing.
 use Prim.Native.Nat.{ℕ, _+_, _≤_}
-use mathlib.Core.Path.{_≡_, refl, sym, ap, _∙_}
+use mathlib.Core.Path.{_≡_, refl, sym, ap, _∙_, subst}
 use mathlib.Core.Logic.{_≢_}
 use mathlib.Core.Bool.{true}
 use mathlib.Core.List.{List, [], _∷_}
@@ -10,22 +10,24 @@ use borrow.Author.Tests.{eqb-false, ltb-false, ne-eqb, le-ltb}
 use lib.Dec.{eqb, ltb}
 use lib.ListN.{length, getD}
 use lib.Seq.{sets, length-sets}
+use Rattle.state.specs.Layout.{uploadMost, downloadMost}
 use Rattle.line.proofs.Laws.{cond-ind}
-use Rattle.session.specs.Bytes.{block}
-use Rattle.session.specs.Memory.{insideOf}
-use Rattle.session.specs.State.{consistent, mtaOf, answerOf}
-use Rattle.session.specs.Command.{commandOf, needsOf, lockedOf}
-use Rattle.session.specs.Judge.{uploadDeed, downloadTo, downloadDeed, judgeThe, judgeBy, judge}
+use Rattle.state.specs.Bytes.{block, u16At}
+use Rattle.state.specs.Memory.{insideOf}
+use Rattle.state.specs.State.{consistent, mtaOf, answerOf}
+use Rattle.words.specs.Command.{commandOf, needsOf}
+use Rattle.judge.specs.Judge.{uploadDeed, downloadTo, downloadDeed, judgeThe, judgeBy, judge, lockedBy}
+use Rattle.session.specs.Look.{judgeOf, numbersOf, seenOf}
 use Rattle.session.specs.Perform.{reply, written}
 use Rattle.session.specs.Receive.{Step, receiveOf}
-use Rattle.session.specs.declared.Command.the-variants as command
-use Rattle.session.specs.declared.Extension.the-variants.{Calibration}
-use Rattle.session.specs.declared.Mta.the-variants.{At}
-use Rattle.session.specs.declared.Deed.{Deed}
-use Rattle.session.specs.declared.Deed.the-variants.{Upload, Download}
+use Rattle.words.specs.declared.Command.the-variants as command
+use Rattle.words.specs.declared.Extension.the-variants.{Calibration}
+use Rattle.words.specs.declared.Mta.the-variants.{At}
+use Rattle.judge.specs.declared.Deed.{Deed}
+use Rattle.judge.specs.declared.Deed.the-variants.{Upload, Download}
 use Rattle.fields.proofs.Frames.{only-sets}
-use Rattle.session.proofs.Inside.{inside-le}
-use Rattle.session.proofs.Sets.{block-length}
+use Rattle.state.proofs.Inside.{inside-le}
+use Rattle.state.proofs.Sets.{block-length}
 use Rattle.fields.proofs.Stores.{block-sets}
 use Rattle.demands.specs.Slave.{ours}
 use Rattle.demands.specs.Heard.{readBy, deedOf}
@@ -40,7 +42,7 @@ use Rattle.demands.proofs.Unchanged.{all-but}
 record Loads (p : List ℕ) (a n nc : ℕ) (d : Deed) : Type 0 where
   done : d ≡ Download a n
   some : n ≢ 0
-  few : n ≤ 6
+  few : n ≤ downloadMost
   there : n + 2 ≤ length p
   inside : insideOf a n nc ≡ true
 
@@ -56,25 +58,26 @@ module _ (p s cal meas : List ℕ) (a n : ℕ) where
   unfolding downloadDeed downloadTo reply
   download-good =
       cond-ind Good (eqb n 0) (λ _ e. absurd (fe-ff _ e)) (λ z.
-      cond-ind Good (ltb 6 n) (λ _ e. absurd (fe-ff _ e)) (λ f.
+      cond-ind Good (ltb downloadMost n) (λ _ e. absurd (fe-ff _ e)) (λ f.
       cond-ind Good (ltb (length p) (n + 2)) (λ _ e. absurd (fe-ff _ e)) (λ t.
       cond-ind Good (insideOf a n (length cal))
-      (λ i _. record { done = refl; some = eqb-false n 0 z; few = ltb-false 6 n f; there = ltb-false (length p) (n + 2) t; inside = i })
+      (λ i _. record { done = refl; some = eqb-false n 0 z; few = ltb-false downloadMost n f; there = ltb-false (length p) (n + 2) t; inside = i })
       (λ _ e. absurd (fe-ff _ e)))))
 
-  the-good : mtaOf s ≡ At Calibration a → getD p 1 0 ≡ n → Good (judgeThe command.Download p s (length cal) (length meas))
+  the-good : mtaOf s ≡ At Calibration a → getD p 1 0 ≡ n → Good (judgeThe command.Download (numbersOf p) (seenOf (u16At p 2) s) (length cal) (length meas))
   unfolding judgeThe
   the-good there count = rw (there, count) download-good
 
-  by-good : mtaOf s ≡ At Calibration a → getD p 1 0 ≡ n → Good (judgeBy command.Download p s (length cal) (length meas))
+  by-good : mtaOf s ≡ At Calibration a → getD p 1 0 ≡ n → Good (judgeBy command.Download (numbersOf p) (seenOf (u16At p 2) s) (length cal) (length meas))
   unfolding judgeBy reply
   by-good there count =
       cond-ind Good (ltb (length p) 2) (λ _ e. absurd (fe-ff _ e)) (λ _.
-      cond-ind Good (lockedOf s (needsOf command.Download)) (λ _ e. absurd (fe-ff _ e)) (λ _. the-good there count))
+      cond-ind Good (lockedBy (needsOf command.Download) (seenOf (u16At p 2) s)) (λ _ e. absurd (fe-ff _ e)) (λ _. the-good there count))
 
   judged-good : getD p 0 0 ≡ 0xF0 → mtaOf s ≡ At Calibration a → getD p 1 0 ≡ n → Good (deedOf p s cal meas)
-  unfolding judge commandOf
-  judged-good code there count = rw code (by-good there count)
+  unfolding judgeOf judge commandOf
+  judged-good code there count =
+      subst (λ (c : ℕ). Good (judgeBy (commandOf c) (numbersOf p) (seenOf (u16At p 2) s) (length cal) (length meas))) (sym code) (by-good there count)
 
 -- ---- UPLOAD
 -- a byte that is not 0 is there
@@ -83,11 +86,11 @@ there-is [] n e z = absurd (z (sym e))
 there-is (x ∷ []) n e z = absurd (z (sym e))
 there-is (x ∷ y ∷ q) n e z = omega arith
 
-upload-judged : (q t : List ℕ) (a n nc nm : ℕ) → getD q 0 0 ≡ 0xF5 → mtaOf t ≡ At Calibration a → getD q 1 0 ≡ n → n ≢ 0 → n ≤ 7 → insideOf a n nc ≡ true
-    → judge q t nc nm ≡ Upload Calibration a n
-unfolding judge judgeBy judgeThe commandOf lockedOf uploadDeed
+upload-judged : (q t : List ℕ) (a n nc nm : ℕ) → getD q 0 0 ≡ 0xF5 → mtaOf t ≡ At Calibration a → getD q 1 0 ≡ n → n ≢ 0 → n ≤ uploadMost → insideOf a n nc ≡ true
+    → judgeOf q t nc nm ≡ Upload Calibration a n
+unfolding judgeOf judge judgeBy judgeThe commandOf uploadDeed
 upload-judged q t a n nc nm code there count z few inside =
-    simp (code, le-ltb (length q) 2 (there-is q n count z), there, count, ne-eqb n 0 z, le-ltb 7 n few, inside)
+    simp (code, le-ltb (length q) 2 (there-is q n count z), there, count, ne-eqb n 0 z, le-ltb uploadMost n few, inside)
 
 upload-says : (a n : ℕ) (t cal meas : List ℕ) → reply (Upload Calibration a n) t cal meas ≡ 0xFF ∷ block cal a n
 unfolding reply
@@ -99,7 +102,7 @@ download-writes a n p cal = refl
 
 -- the bytes that were stored are given back
 uploaded : (t meas : List ℕ) (c : ℕ) (q : List ℕ) (a n : ℕ) → consistent t ≡ true → Uploads t c q a n
-    → (cal xs : List ℕ) → n ≢ 0 → n ≤ 6 → insideOf a n (length cal) ≡ true → length xs ≡ n → a + n ≤ length cal
+    → (cal xs : List ℕ) → n ≢ 0 → n ≤ downloadMost → insideOf a n (length cal) ≡ true → length xs ≡ n → a + n ≤ length cal
     → answerOf (receiveOf t (sets cal a xs) meas c .state) ≡ 0xFF ∷ xs
 uploaded t meas c q a n v up cal xs z few inside long within =
     let mem : List ℕ = sets cal a xs in

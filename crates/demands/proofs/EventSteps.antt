@@ -1,26 +1,30 @@
 -- An event takes the lists one after the other, and each one's step changes its own store alone. Assumes nothing.
-use Prim.Native.Nat.{ℕ, zero, suc, _+_, _-_, _/_, _%_, _≤_, _<_}
+use Prim.Native.Nat.{ℕ, zero, suc, _+_, _-_, _≤_, _<_}
 use mathlib.Core.Path.{_≡_, refl, sym, ap, subst, _∙_}
 use mathlib.Core.Logic.{_≢_}
 use mathlib.Core.Bool.{Bool, true, false, cond}
 use mathlib.Core.List.{List, [], _∷_}
+use native.Mathlib.Nat.{add-zero}
 use native.Mathlib.Omega.{arith}
+use borrow.Author.Tests.{ltb-false}
 use lib.Dec.{eqb, ltb, lit≤}
 use lib.ListN.{length}
 use Rattle.line.proofs.Laws.{cond-ind}
 use Rattle.line.proofs.Stuffed.{false-true}
-use Rattle.session.specs.Layout.{size, entries, sampleAt, firstOdt}
-use Rattle.session.specs.Lists.{runsOf, modeOf, storedLength}
-use Rattle.session.specs.Event.{unsent, samplingOf, gathered, stored, captured, sampledState, sampledBy, missedBy, tally}
-use Rattle.session.specs.declared.Sampling.{Sampling}
-use Rattle.session.specs.declared.Sampling.the-variants.{Idle, Sampled, Missed}
-use Rattle.session.proofs.Entries.{gathered-alike}
+use Rattle.state.specs.Layout.{size, lists, sampleAt, firstOdt, odtCount}
+use Rattle.lists.specs.Lists.{runsOf, modeOf, storedLength, someStored, unsent}
+use Rattle.lists.specs.Event.{samplingOf, contentsOf, stored, capturedOdts, captured, sampledState, sampledBy, missedBy, tally}
+use Rattle.lists.specs.declared.Sampling.{Sampling}
+use Rattle.lists.specs.declared.Sampling.the-variants.{Idle, Sampled, Missed}
+use Rattle.lists.proofs.Entries.{contents-alike}
+use Rattle.lists.proofs.Fitting.{runs-fit}
 use Rattle.fields.proofs.Frames.{Only, only-none, only-then, only-wider}
 use Rattle.fields.proofs.Readers.{Same, before, behind, same-then, runs-reads}
-use Rattle.fields.proofs.Captures.{runs-fits, only-tally}
-use Rattle.demands.specs.Waiting.{waitingOf, sampleOf, isSampled, isMissed}
+use Rattle.fields.proofs.Captures.{only-tally}
+use Rattle.demands.specs.Waiting.{waitingOf, sampleFrom, sampleOf, isSampled, isMissed}
 use Rattle.demands.specs.Demand2.{howMany}
 use Rattle.demands.proofs.Unchanged.{same-sets}
+use Rattle.demands.proofs.Waiting.{Empty, none-from, this-or-other}
 use Rattle.demands.proofs.Samples.{SameStore, sampling-reads, waiting-reads, captured-only, captured-waits}
 
 -- ---- one list
@@ -29,32 +33,37 @@ pub sampled-free : (s : List ℕ) (l event : ℕ) → samplingOf s l event ≡ S
 unfolding samplingOf
 sampled-free s l event =
     let P : Sampling → Type 0 = λ (c : Sampling). c ≡ Sampled → (runsOf s l ≡ true) × (unsent s l ≡ false) in
-    cond-ind P (runsOf s l)
-    (λ r. cond-ind P (eqb (modeOf s l) (event + 1))
-    (λ _. cond-ind P (unsent s l) (λ _ f. absurd (false-true (ap isSampled f))) (λ u _. (r, u)))
+    cond-ind P (eqb (modeOf s l) (event + 1))
+    (λ _. cond-ind P (runsOf s l)
+    (λ r. cond-ind P (unsent s l) (λ _ f. absurd (false-true (ap isSampled f))) (λ u _. (r, u)))
     (λ _ f. absurd (false-true (ap isSampled f))))
     (λ _ f. absurd (false-true (ap isSampled f)))
 
-none-unsent : (s : List ℕ) (l : ℕ) → unsent s l ≡ false → (ltb 0 (storedLength s (firstOdt l)) ≡ false) × (ltb 0 (storedLength s (firstOdt l + 1)) ≡ false)
-unfolding unsent
-none-unsent s l =
-    cond-ind (λ (t : Bool). t ≡ false → (ltb 0 (storedLength s (firstOdt l)) ≡ false) × (ltb 0 (storedLength s (firstOdt l + 1)) ≡ false)) (ltb 0 (storedLength s (firstOdt l)))
-    (λ _ f. absurd (false-true (sym f))) (λ p q. (p, q))
+both-none : (b c : Bool) → cond b true c ≡ false → (b ≡ false) × (c ≡ false)
+both-none true c f = absurd (false-true (sym f))
+both-none false c f = (refl, f)
+
+none-stored : (s : List ℕ) (k n : ℕ) → someStored s k n ≡ false → Empty s k n
+unfolding someStored
+none-stored s k zero e i h = absurd (omega arith)
+none-stored s k (suc n) e i h =
+    let none = both-none (someStored s k n) (ltb 0 (storedLength s (k + n))) e in
+    let last : storedLength s (k + n) ≤ 0 = ltb-false 0 (storedLength s (k + n)) (none .1) in
+    this-or-other i n (λ same. rw same (omega arith)) (λ other. none-stored s k n (none .0) i (omega arith))
 
 pub sampled-empty : (s : List ℕ) (l event : ℕ) → samplingOf s l event ≡ Sampled → waitingOf s l ≡ []
 unfolding waitingOf
 sampled-empty s l event e =
     let free = sampled-free s l event e in
-    let none = none-unsent s l (free .1) in
-    rw (free .0, none .0, none .1)
+    rw (free .0) (none-from s (firstOdt l) (odtCount l) (none-stored s (firstOdt l) (odtCount l) (free .1)))
 
-sampled-only : (s : List ℕ) (l event clock : ℕ) (cal meas : List ℕ) → length s ≡ size → l < 4
-    → Only (sampleAt (firstOdt l)) (sampleAt (firstOdt l) + 16) s (sampledState (samplingOf s l event) s l clock cal meas)
+sampled-only : (s : List ℕ) (l event clock : ℕ) (cal meas : List ℕ) → length s ≡ size → l < lists
+    → Only (sampleAt (firstOdt l)) (sampleAt (firstOdt l + odtCount l)) s (sampledState (samplingOf s l event) s l clock cal meas)
 unfolding sampledState
 sampled-only s l event clock cal meas long h = go (samplingOf s l event) refl where
-  go : (c : Sampling) → samplingOf s l event ≡ c → Only (sampleAt (firstOdt l)) (sampleAt (firstOdt l) + 16) s (sampledState c s l clock cal meas)
+  go : (c : Sampling) → samplingOf s l event ≡ c → Only (sampleAt (firstOdt l)) (sampleAt (firstOdt l + odtCount l)) s (sampledState c s l clock cal meas)
   go Idle e = only-none
-  go Sampled e = captured-only s l clock cal meas long h (runs-fits s l (sampled-free s l event e .0))
+  go Sampled e = captured-only s l clock cal meas long h (runs-fit s l (sampled-free s l event e .0))
   go Missed e = only-none
 
 unsampled : (c : Sampling) (s : List ℕ) (l clock : ℕ) (cal meas : List ℕ) → c ≢ Sampled → sampledState c s l clock cal meas ≡ s
@@ -78,17 +87,34 @@ stored-same : {a b : ℕ} {s t : List ℕ} (k : ℕ) (bs : List ℕ) → Same a 
 unfolding stored
 stored-same k bs w = same-sets (sampleAt k) (length bs ∷ bs) w
 
+-- the same contents give the same sample, and the same stores
+samples-alike : (t s : List ℕ) (clock : ℕ) (cal meas : List ℕ) (k n : ℕ) → ((j : ℕ) → j < n → contentsOf t (k + j) clock cal meas ≡ contentsOf s (k + j) clock cal meas) → sampleFrom t k clock cal meas n ≡ sampleFrom s k clock cal meas n
+unfolding sampleFrom
+samples-alike t s clock cal meas k zero each = refl
+samples-alike t s clock cal meas k (suc n) each =
+    let here : contentsOf t k clock cal meas ≡ contentsOf s k clock cal meas = rw add-zero at (each 0 (omega arith)) in
+    rw (here, samples-alike t s clock cal meas (k + 1) n (λ j h. subst (λ (i : ℕ). contentsOf t i clock cal meas ≡ contentsOf s i clock cal meas) (further j) (each (suc j) (omega arith)))) where
+      further : (j : ℕ) → k + suc j ≡ k + 1 + j
+      further j = omega arith
+
+captures-alike : (t s : List ℕ) (clock : ℕ) (cal meas : List ℕ) (k n : ℕ) {a b : ℕ} → ((j : ℕ) → j < n → contentsOf t (k + j) clock cal meas ≡ contentsOf s (k + j) clock cal meas)
+    → Same a b s t → Same a b (capturedOdts s k clock cal meas n) (capturedOdts t k clock cal meas n)
+unfolding capturedOdts
+captures-alike t s clock cal meas k zero each w = w
+captures-alike t s clock cal meas k (suc n) each w =
+    rw (each n (omega arith)) (stored-same (k + n) (contentsOf s (k + n) clock cal meas) (captures-alike t s clock cal meas k n (λ j h. each j (omega arith)) w))
+
 -- ---- all of them
 module _ (s : List ℕ) (event clock : ℕ) (cal meas : List ℕ) (long : length s ≡ size) where
   -- the state when the first n lists have had their turn
   abbrev upTo : ℕ → List ℕ
   upTo n = tally s event clock cal meas n .state
 
-  upTo-long : (n : ℕ) → n ≤ 4 → length (upTo n) ≡ size
+  upTo-long : (n : ℕ) → n ≤ lists → length (upTo n) ≡ size
   upTo-long n h = only-tally s event clock cal meas n h .long ∙ long
 
   -- the lists from m up to n change their own stores
-  upTo-only : (m d n : ℕ) → m + d ≡ n → n ≤ 4 → Only (sampleAt (firstOdt m)) (sampleAt (firstOdt n)) (upTo m) (upTo n)
+  upTo-only : (m d n : ℕ) → m + d ≡ n → n ≤ lists → Only (sampleAt (firstOdt m)) (sampleAt (firstOdt n)) (upTo m) (upTo n)
   unfolding tally
   upTo-only m zero n e h =
       let same : m ≡ n = omega arith in
@@ -99,52 +125,49 @@ module _ (s : List ℕ) (event clock : ℕ) (cal meas : List ℕ) (long : length
       (only-wider (omega arith) (omega arith) (sampled-only (upTo n) n event clock cal meas (upTo-long n (omega arith)) (omega arith)))
 
   -- before its turn a list finds the session and its store as they were
-  earlier : (l : ℕ) → l < 4 → Only (sampleAt 0) (sampleAt (firstOdt l)) s (upTo l)
+  earlier : (l : ℕ) → l < lists → Only (sampleAt 0) (sampleAt (firstOdt l)) s (upTo l)
   unfolding tally
   earlier l h = upTo-only 0 l l (omega arith) (omega arith)
 
-  front-before : (l : ℕ) → l < 4 → Same 0 161 s (upTo l)
+  front-before : (l : ℕ) → l < lists → Same 0 (sampleAt 0) s (upTo l)
   front-before l h = before (lit≤ tt) (earlier l h)
 
-  store-before : (l : ℕ) → l < 4 → SameStore l s (upTo l)
+  store-before : (l : ℕ) → l < lists → SameStore l s (upTo l)
   store-before l h = behind (omega arith) (earlier l h)
 
-  turn : (l : ℕ) → l < 4 → samplingOf (upTo l) l event ≡ samplingOf s l event
+  turn : (l : ℕ) → l < lists → samplingOf (upTo l) l event ≡ samplingOf s l event
   turn l h = sampling-reads l event h (before (lit≤ tt) (earlier l h)) (store-before l h)
 
   -- and after it they stay
-  later : (l : ℕ) → l < 4 → Only (sampleAt (firstOdt (suc l))) (sampleAt 8) (upTo (suc l)) (upTo 4)
-  later l h = upTo-only (suc l) (3 - l) 4 (omega arith) (omega arith)
+  later : (l : ℕ) → l < lists → Only (sampleAt (firstOdt (suc l))) size (upTo (suc l)) (upTo lists)
+  later l h = upTo-only (suc l) (lists - suc l) lists (omega arith) (omega arith)
 
   -- exactly the lists that are sampled, and those that are missed, are counted
-  pub count-sampled : (n : ℕ) → n ≤ 4 → tally s event clock cal meas n .sampled ≡ howMany (λ l. isSampled (samplingOf s l event)) n
+  pub count-sampled : (n : ℕ) → n ≤ lists → tally s event clock cal meas n .sampled ≡ howMany (λ l. isSampled (samplingOf s l event)) n
   unfolding tally
   count-sampled zero h = refl
   count-sampled (suc n) h = rw (count-sampled n (omega arith), turn n (omega arith), sampled-one (samplingOf s n event))
 
-  pub count-missed : (n : ℕ) → n ≤ 4 → tally s event clock cal meas n .missed ≡ howMany (λ l. isMissed (samplingOf s l event)) n
+  pub count-missed : (n : ℕ) → n ≤ lists → tally s event clock cal meas n .missed ≡ howMany (λ l. isMissed (samplingOf s l event)) n
   unfolding tally
   count-missed zero h = refl
   count-missed (suc n) h = rw (count-missed n (omega arith), turn n (omega arith), missed-one (samplingOf s n event))
 
   -- a list that is not sampled keeps its store
-  pub unsampled-store : (l : ℕ) → l < 4 → samplingOf s l event ≢ Sampled → SameStore l s (upTo 4)
+  pub unsampled-store : (l : ℕ) → l < lists → samplingOf s l event ≢ Sampled → SameStore l s (upTo lists)
   unfolding tally
   unsampled-store l h n =
       let own : upTo (suc l) ≡ upTo l = rw (turn l h) (unsampled (samplingOf s l event) (upTo l) l clock cal meas n) in
       same-then (subst (λ (t : List ℕ). SameStore l s t) (sym own) (store-before l h)) (before (omega arith) (later l h))
 
-  sample-before : (l : ℕ) → l < 4 → sampleOf (upTo l) l clock cal meas ≡ sampleOf s l clock cal meas
-  unfolding sampleOf
-  sample-before l h =
-      let w : Same 0 161 s (upTo l) = front-before l h in
-      rw (
-        gathered-alike (upTo l) s (λ j q. w .byte j (omega arith) q) (firstOdt l) (omega arith) cal meas entries (lit≤ tt),
-        gathered-alike (upTo l) s (λ j q. w .byte j (omega arith) q) (firstOdt l + 1) (omega arith) cal meas entries (lit≤ tt),
-      )
+  contents-before : (l j : ℕ) → l < lists → j < odtCount l → contentsOf (upTo l) (firstOdt l + j) clock cal meas ≡ contentsOf s (firstOdt l + j) clock cal meas
+  contents-before l j h q = contents-alike (upTo l) s (λ i r. front-before l h .byte i (omega arith) r) (firstOdt l + j) (omega arith) clock cal meas
+
+  sample-before : (l : ℕ) → l < lists → sampleOf (upTo l) l clock cal meas ≡ sampleOf s l clock cal meas
+  sample-before l h = samples-alike (upTo l) s clock cal meas (firstOdt l) (odtCount l) (λ j q. contents-before l j h q)
 
   -- a list that is sampled has its sample waiting
-  pub sampled-waits : (l : ℕ) → l < 4 → samplingOf s l event ≡ Sampled → waitingOf (upTo 4) l ≡ sampleOf s l clock cal meas
+  pub sampled-waits : (l : ℕ) → l < lists → samplingOf s l event ≡ Sampled → waitingOf (upTo lists) l ≡ sampleOf s l clock cal meas
   unfolding tally sampledState
   sampled-waits l h e =
       let u : List ℕ = upTo l in
@@ -152,20 +175,15 @@ module _ (s : List ℕ) (event clock : ℕ) (cal meas : List ℕ) (long : length
       let own : upTo (suc l) ≡ captured u l clock cal meas = rw (turn l h, e) refl in
       waiting-reads l h (before (omega arith) (later l h)) (before (omega arith) (later l h))
       ∙ ap (λ (t : List ℕ). waitingOf t l) own
-      ∙ captured-waits u l clock cal meas (upTo-long l (omega arith)) h (runs-fits u l r) r
+      ∙ captured-waits u l clock cal meas (upTo-long l (omega arith)) h (runs-fit u l r) r
       ∙ sample-before l h
 
   -- captured when its turn came or at once, it has the same store
-  captured-before : (l : ℕ) → l < 4 → Same 0 161 s (upTo l) → SameStore l s (upTo l) → SameStore l (captured s l clock cal meas) (captured (upTo l) l clock cal meas)
-  unfolding captured
-  captured-before l h w o =
-      let first = gathered-alike (upTo l) s (λ j q. w .byte j (omega arith) q) (firstOdt l) (omega arith) cal meas entries (lit≤ tt) in
-      let second = gathered-alike (upTo l) s (λ j q. w .byte j (omega arith) q) (firstOdt l + 1) (omega arith) cal meas entries (lit≤ tt) in
-      rw (first, second)
-      (stored-same (firstOdt l + 1) (gathered s (firstOdt l + 1) cal meas entries) (stored-same (firstOdt l) (clock % 256 ∷ clock / 256 % 256 ∷ gathered s (firstOdt l) cal meas entries) o))
+  captured-before : (l : ℕ) → l < lists → SameStore l s (upTo l) → SameStore l (captured s l clock cal meas) (captured (upTo l) l clock cal meas)
+  captured-before l h o = captures-alike (upTo l) s clock cal meas (firstOdt l) (odtCount l) (λ j q. contents-before l j h q) o
 
-  pub sampled-store : (l : ℕ) → l < 4 → samplingOf s l event ≡ Sampled → SameStore l (captured s l clock cal meas) (upTo 4)
+  pub sampled-store : (l : ℕ) → l < lists → samplingOf s l event ≡ Sampled → SameStore l (captured s l clock cal meas) (upTo lists)
   unfolding tally sampledState
   sampled-store l h e =
       let own : upTo (suc l) ≡ captured (upTo l) l clock cal meas = rw (turn l h, e) refl in
-      same-then (subst (λ (t : List ℕ). SameStore l (captured s l clock cal meas) t) (sym own) (captured-before l h (front-before l h) (store-before l h))) (before (omega arith) (later l h))
+      same-then (subst (λ (t : List ℕ). SameStore l (captured s l clock cal meas) t) (sym own) (captured-before l h (store-before l h))) (before (omega arith) (later l h))

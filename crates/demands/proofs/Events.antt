@@ -1,5 +1,5 @@
 -- An event samples and misses the lists that it should, counts them, and changes nothing but the stores of those sampled. Assumes nothing.
-use Prim.Native.Nat.{ℕ, _+_, _≤_, _<_}
+use Prim.Native.Nat.{ℕ, _+_, _≤_, _<_, zero, suc}
 use mathlib.Core.Path.{_≡_, refl, sym, ap, _∙_}
 use mathlib.Core.Logic.{_≢_}
 use mathlib.Core.Bool.{Bool, true, false, cond}
@@ -7,22 +7,22 @@ use mathlib.Core.List.{List, [], _∷_, _++_, append-nil}
 use native.Mathlib.Omega.{arith}
 use borrow.Author.Tests.{lt-ltb, le-ltb, ltb-true, ltb-false}
 use lib.Dec.{ltb, lit≤}
-use lib.ListN.{length}
+use lib.ListN.{length, length-append}
 use Rattle.line.proofs.Stuffed.{false-true}
-use Rattle.session.specs.Layout.{lists, entries, placeAt, sampleAt, firstOdt}
-use Rattle.session.specs.Bytes.{block}
-use Rattle.session.specs.State.{consistent, openOf, waits, answerOf}
-use Rattle.session.specs.Event.{samplingOf, gathered, captured, tally, happened, eventOf}
-use Rattle.session.specs.declared.Sampling.{Sampling}
-use Rattle.session.specs.declared.Sampling.the-variants.{Idle, Sampled, Missed}
-use Rattle.session.specs.declared.Evented.the-variants.{Done}
-use Rattle.session.proofs.Consistent.{consistent-size}
+use Rattle.state.specs.Layout.{lists, entries, placeAt, sampleAt, firstOdt, size, sessionAt, odtCount}
+use Rattle.state.specs.Bytes.{block}
+use Rattle.state.specs.State.{consistent, openOf, waits, answerOf}
+use Rattle.lists.specs.Event.{samplingOf, captured, tally, happened, eventOf, contentsOf}
+use Rattle.lists.specs.declared.Sampling.{Sampling}
+use Rattle.lists.specs.declared.Sampling.the-variants.{Idle, Sampled, Missed}
+use Rattle.words.specs.declared.Evented.the-variants.{Done}
+use Rattle.state.proofs.Consistent.{consistent-size}
 use Rattle.fields.proofs.Frames.{only-take, only-drop}
 use Rattle.fields.proofs.Readers.{Same, apart, same-block, open-reads, waits-reads, answer-reads}
 use Rattle.fields.proofs.Captures.{only-event}
 use Rattle.demands.specs.Slave.{ours}
 use Rattle.demands.specs.Runs.{Event}
-use Rattle.demands.specs.Waiting.{AllBut, waitingOf, second, sampleOf, isSampled, isMissed}
+use Rattle.demands.specs.Waiting.{AllBut, waitingOf, sampleOf, isSampled, isMissed, packetWith, sampleFrom}
 use Rattle.demands.specs.Demand2.{storeSize, howMany}
 use Rattle.demands.specs.Kept.{gains}
 use Rattle.demands.proofs.Samples.{SameStore, waiting-reads}
@@ -42,7 +42,7 @@ pub counts : (s cal meas : List ℕ) (event clock : ℕ) → consistent s ≡ tr
     → ours .event s cal meas event clock .evented ≡ Done (howMany (λ l. isSampled (samplingOf s l event)) lists) (howMany (λ l. isMissed (samplingOf s l event)) lists)
 counts s cal meas event clock c h =
     let long = consistent-size s c in
-    rw (taken s cal meas event clock c h, count-sampled s event clock cal meas long 4 (lit≤ tt), count-missed s event clock cal meas long 4 (lit≤ tt))
+    rw (taken s cal meas event clock c h, count-sampled s event clock cal meas long lists (lit≤ tt), count-missed s event clock cal meas long lists (lit≤ tt))
 
 pub samples : (s cal meas : List ℕ) (event clock l : ℕ) → consistent s ≡ true → event ≤ 1 → l < lists → samplingOf s l event ≡ Sampled
     → waitingOf (ours .event s cal meas event clock .state) l ≡ sampleOf s l clock cal meas
@@ -66,17 +66,17 @@ pub others : (s cal meas : List ℕ) (event clock l : ℕ) → consistent s ≡ 
     → block (ours .event s cal meas event clock .state) (sampleAt (firstOdt l)) storeSize ≡ block s (sampleAt (firstOdt l)) storeSize
 others s cal meas event clock l c q n = same-block (sampleAt (firstOdt l)) storeSize (omega arith) (omega arith) (kept-store s cal meas event clock l c q n)
 
-pub storesOnly : (s cal meas : List ℕ) (event clock : ℕ) → AllBut (sampleAt 0) placeAt s (ours .event s cal meas event clock .state)
+pub storesOnly : (s cal meas : List ℕ) (event clock : ℕ) → AllBut (sampleAt 0) size s (ours .event s cal meas event clock .state)
 storesOnly s cal meas event clock =
     let w = only-event s cal meas event clock in
-    record { long = w .long; front = only-take 161 (lit≤ tt) w; back = only-drop 225 (lit≤ tt) w }
+    record { long = w .long; front = only-take (sampleAt 0) (lit≤ tt) w; back = only-drop size (lit≤ tt) w }
 
 -- all before the stores: the CTR, the list last served, whether the last frame was an answer, the session
-pub event-front : (s cal meas : List ℕ) (event clock : ℕ) → Same 0 161 s (eventOf s cal meas event clock .state)
+pub event-front : (s cal meas : List ℕ) (event clock : ℕ) → Same 0 (sampleAt 0) s (eventOf s cal meas event clock .state)
 event-front s cal meas event clock = apart tt (only-event s cal meas event clock)
 
--- all behind them: the reader and the answer
-pub event-back : (s cal meas : List ℕ) (event clock : ℕ) → Same 225 247 s (eventOf s cal meas event clock .state)
+-- among them the reader and the answer
+pub event-back : (s cal meas : List ℕ) (event clock : ℕ) → Same placeAt sessionAt s (eventOf s cal meas event clock .state)
 event-back s cal meas event clock = apart tt (only-event s cal meas event clock)
 
 pub event-open : (s cal meas : List ℕ) (event clock : ℕ) → openOf (eventOf s cal meas event clock .state) ≡ openOf s
@@ -110,11 +110,17 @@ event-waiting s cal meas event clock l c q = go (ltb 1 event) (isSampled (sampli
       waiting-reads l q (apart tt (only-event s cal meas event clock)) (kept-store s cal meas event clock l c q (not-sampled (samplingOf s l event) f))
       ∙ sym (append-nil (waitingOf s l))
 
--- one packet, or two
-second-few : (k : ℕ) (bs : List ℕ) → length (second k bs) ≤ 1
-second-few k [] = omega arith
-second-few k (b ∷ bs) = omega arith
+-- a packet for each ODT at most
+packet-few : (k : ℕ) (bs : List ℕ) → length (packetWith k bs) ≤ 1
+packet-few k [] = omega arith
+packet-few k (b ∷ bs) = omega arith
 
-pub sample-length : (s : List ℕ) (l clock : ℕ) (cal meas : List ℕ) → length (sampleOf s l clock cal meas) ≤ 2
-unfolding sampleOf
-sample-length s l clock cal meas = omega (arith, second-few (firstOdt l + 1) (gathered s (firstOdt l + 1) cal meas entries))
+samples-few : (s : List ℕ) (k clock : ℕ) (cal meas : List ℕ) (n : ℕ) → length (sampleFrom s k clock cal meas n) ≤ n
+unfolding sampleFrom
+samples-few s k clock cal meas zero = omega arith
+samples-few s k clock cal meas (suc n) =
+    let here : List (List ℕ) = packetWith k (contentsOf s k clock cal meas) in
+    omega (arith, length-append here (sampleFrom s (k + 1) clock cal meas n), packet-few k (contentsOf s k clock cal meas), samples-few s (k + 1) clock cal meas n)
+
+pub sample-length : (s : List ℕ) (l clock : ℕ) (cal meas : List ℕ) → length (sampleOf s l clock cal meas) ≤ odtCount l
+sample-length s l clock cal meas = samples-few s (firstOdt l) clock cal meas (odtCount l)

@@ -2,34 +2,35 @@
 use Prim.{tt}
 use Prim.Native.Nat.{ℕ, _+_}
 use mathlib.Core.Path.{_≡_, refl}
-use mathlib.Core.Bool.{true, false}
+use mathlib.Core.Bool.{Bool, true, false}
 use mathlib.Core.List.{List}
 use borrow.Author.Tests.{not-false}
 use lib.Dec.{eqb, ltb, leb}
 use lib.ListN.{length, getD}
 use Rattle.line.proofs.Laws.{cond-ind}
-use Rattle.session.specs.Layout.{lists, odts, entries, entryMost, addressable, listOf}
-use Rattle.session.specs.Bytes.{u16At, u32At}
-use Rattle.session.specs.Generator.{keyOf}
-use Rattle.session.specs.Memory.{pick, insideOf}
-use Rattle.session.specs.State.{generatorOf, unlockedOf, seedOf, mtaOf, pointerOf}
-use Rattle.session.specs.Lists.{fitOf, runsOf, allFit}
-use Rattle.session.specs.Command.{commandOf, fewest, needsOf, lockedOf}
-use Rattle.session.specs.Judge.{extensionFrom, connectDeed, seedDeed, getSeedDeed, unlockBy, setMtaDeed, uploadDeed, shortUploadDeed, checksumDeed, downloadTo, downloadDeed, clearDeed, pointerDeed, writeBlock, writeDeed, modeDeed, startDeed, startStopDeed, synchDeed, judgeThe, judgeBy, judge}
-use Rattle.session.specs.declared.Command.{Command}
-use Rattle.session.specs.declared.Command.the-variants as command
-use Rattle.session.specs.declared.Resource.{Resource}
-use Rattle.session.specs.declared.Resource.the-variants.{Calibration, Lists}
-use Rattle.session.specs.declared.Extension.{Extension}
-use Rattle.session.specs.declared.Extension.the-variants.{Calibration as CalibrationMemory, Measured}
-use Rattle.session.specs.declared.Seed.{Seed}
-use Rattle.session.specs.declared.Seed.the-variants.{None, For}
-use Rattle.session.specs.declared.Mta.{Mta}
-use Rattle.session.specs.declared.Mta.the-variants.{Unset, At}
-use Rattle.session.specs.declared.Pointer.{Pointer}
-use Rattle.session.specs.declared.Pointer.the-variants.{Unset as NoEntry, At as Entry}
-use Rattle.session.specs.declared.Deed.{Deed}
-use Rattle.session.specs.declared.Deed.the-variants.{Refuse, RefuseSize, WrongKey, Connect, Disconnect, Status, Synch, NoSeed, GiveSeed, Unlock, SetMta, Upload, ShortUpload, Checksum, Download, ClearList, SetPointer, ClearEntry, WriteEntry, SetMode, Stop, Start, KeepRunning, Select, StopAll, StartSelected, StopSelected, ProcessorInfo, ResolutionInfo}
+use Rattle.state.specs.Layout.{lists, events, firstOdt, odtCount, entryCount, entryMost, uploadMost, downloadMost, addressable, listOf}
+use Rattle.state.specs.Bytes.{u16At, u32At}
+use Rattle.state.specs.Generator.{keyOf}
+use Rattle.state.specs.Memory.{pick, insideOf}
+use Rattle.state.specs.State.{generatorOf, unlockedOf, seedOf, mtaOf, pointerOf}
+use Rattle.lists.specs.Lists.{fitOf, runsOf, allFit}
+use Rattle.words.specs.Command.{commandOf, fewest, needsOf}
+use Rattle.judge.specs.Judge.{extensionFrom, connectDeed, seedDeed, getSeedDeed, unlockBy, setMtaDeed, uploadDeed, shortUploadDeed, checksumDeed, downloadTo, downloadDeed, clearDeed, pointerDeed, writeBlock, writeDeed, modeDeed, startDeed, startStopDeed, synchDeed, lockedBy, judgeThe, judgeBy, judge}
+use Rattle.words.specs.declared.Command.{Command}
+use Rattle.words.specs.declared.Command.the-variants as command
+use Rattle.words.specs.declared.Resource.{Resource}
+use Rattle.words.specs.declared.Resource.the-variants.{Calibration, Lists}
+use Rattle.words.specs.declared.Extension.{Extension}
+use Rattle.words.specs.declared.Extension.the-variants.{Calibration as CalibrationMemory, Measured}
+use Rattle.words.specs.declared.Seed.{Seed}
+use Rattle.words.specs.declared.Seed.the-variants.{None, For}
+use Rattle.words.specs.declared.Mta.{Mta}
+use Rattle.words.specs.declared.Mta.the-variants.{Unset, At}
+use Rattle.words.specs.declared.Pointer.{Pointer}
+use Rattle.words.specs.declared.Pointer.the-variants.{Unset as NoEntry, At as Entry}
+use Rattle.judge.specs.declared.Deed.{Deed}
+use Rattle.session.specs.Look.{numbersOf, pointedRuns, seenOf, judgeOf}
+use Rattle.judge.specs.declared.Deed.the-variants.{Refuse, RefuseSize, WrongKey, Connect, Disconnect, Status, Synch, NoSeed, GiveSeed, Unlock, SetMta, Upload, ShortUpload, Checksum, Download, ClearList, SetPointer, ClearEntry, WriteEntry, SetMode, Stop, Start, KeepRunning, Select, StopAll, StartSelected, StopSelected, ProcessorInfo, ResolutionInfo}
 use Rattle.demands.specs.Heard.{bringsKey, keyMatches, wrongKeyBy, wrongKey}
 use Rattle.demands.proofs.Coded.{Coded, coded}
 
@@ -101,18 +102,18 @@ module _ (p s : List ℕ) where
   unfolding connectDeed
   connect-found mode = cond-ind Has (eqb mode 0) (λ _. tt) (λ _. tt)
 
-  seed-found : (r : Resource) → Has (seedDeed s r)
-  seed-found r = cond-ind Has (unlockedOf s r) (λ _. tt) (λ _. tt)
+  seed-found : (unlocked : Bool) (r : Resource) → Has (seedDeed unlocked r)
+  seed-found unlocked r = cond-ind Has unlocked (λ _. tt) (λ _. tt)
 
-  get-seed-found : (mode resource : ℕ) → Has (getSeedDeed s mode resource)
+  get-seed-found : (calibration lists : Bool) (mode resource : ℕ) → Has (getSeedDeed calibration lists mode resource)
   unfolding getSeedDeed
-  get-seed-found mode resource =
+  get-seed-found calibration lists mode resource =
       cond-ind Has (eqb mode 1) (λ _. tt) (λ _.
       cond-ind Has (ltb 1 mode) (λ _. tt) (λ _.
-      cond-ind Has (eqb resource 0x01) (λ _. seed-found Calibration) (λ _.
-      cond-ind Has (eqb resource 0x04) (λ _. seed-found Lists) (λ _. tt))))
+      cond-ind Has (eqb resource 0x01) (λ _. seed-found calibration Calibration) (λ _.
+      cond-ind Has (eqb resource 0x04) (λ _. seed-found lists Lists) (λ _. tt))))
 
-  unlock-found : getD p 0 0 ≡ 0xF7 → (seed : Seed) → seedOf s ≡ seed → Has (unlockBy seed p s)
+  unlock-found : getD p 0 0 ≡ 0xF7 → (seed : Seed) → seedOf s ≡ seed → Has (unlockBy seed (generatorOf s) (getD p 1 0) (length p) (u32At p 2))
   unfolding unlockBy
   unlock-found code None e = tt
   unlock-found code (For r) e =
@@ -132,14 +133,14 @@ module _ (p s : List ℕ) where
   upload-found code (At e a) there nc nm =
       let n : ℕ = getD p 1 0 in
       cond-ind Has (eqb n 0) (λ _. tt) (λ _.
-      cond-ind Has (ltb 7 n) (λ _. tt) (λ _.
+      cond-ind Has (ltb uploadMost n) (λ _. tt) (λ _.
       cond-ind Has (insideOf a n (pick e nc nm)) (λ _. record { place = there; code = code; count = refl }) (λ _. tt)))
 
   short-upload-found : (n ext a nc nm : ℕ) → Has (shortUploadDeed n ext a nc nm)
   unfolding shortUploadDeed
   short-upload-found n ext a nc nm =
       cond-ind Has (eqb n 0) (λ _. tt) (λ _.
-      cond-ind Has (ltb 7 n) (λ _. tt) (λ _.
+      cond-ind Has (ltb uploadMost n) (λ _. tt) (λ _.
       cond-ind Has (ltb 1 ext) (λ _. tt) (λ _.
       cond-ind Has (insideOf a n (pick (extensionFrom ext) nc nm)) (λ _. tt) (λ _. tt))))
 
@@ -163,10 +164,10 @@ module _ (p s : List ℕ) where
   download-found code free (At e a) there len nc =
       let n : ℕ = getD p 1 0 in
       cond-ind Has (eqb n 0) (λ _. tt) (λ _.
-      cond-ind Has (ltb 6 n) (λ _. tt) (λ _.
+      cond-ind Has (ltb downloadMost n) (λ _. tt) (λ _.
       cond-ind Has (ltb len (n + 2)) (λ _. tt) (λ _. download-to-found code free e a nc there)))
 
-  clear-found : (l : ℕ) → Has (clearDeed s l)
+  clear-found : (l : ℕ) → Has (clearDeed (runsOf s l) l)
   unfolding clearDeed
   clear-found l =
       cond-ind Has (leb lists l) (λ _. tt) (λ _.
@@ -176,8 +177,8 @@ module _ (p s : List ℕ) where
   unfolding pointerDeed
   pointer-found l odt e =
       cond-ind Has (leb lists l) (λ _. tt) (λ _.
-      cond-ind Has (leb odts odt) (λ _. tt) (λ _.
-      cond-ind Has (leb entries e) (λ _. tt) (λ _. tt)))
+      cond-ind Has (leb (odtCount l) odt) (λ _. tt) (λ _.
+      cond-ind Has (leb (entryCount (firstOdt l + odt)) e) (λ _. tt) (λ _. tt)))
 
   write-block-found : (k e n : ℕ) (ext : Extension) (a len : ℕ) → runsOf s (listOf k) ≡ false → Has (writeBlock k e n ext a len)
   unfolding writeBlock
@@ -185,7 +186,7 @@ module _ (p s : List ℕ) where
       cond-ind Has (eqb n 0) (λ _. still) (λ _.
       cond-ind Has (insideOf a n len) (λ _. still) (λ _. tt))
 
-  write-found : (at : Pointer) (bit n ext a nc nm : ℕ) → Has (writeDeed at s bit n ext a nc nm)
+  write-found : (at : Pointer) (bit n ext a nc nm : ℕ) → Has (writeDeed at (pointedRuns at s) bit n ext a nc nm)
   unfolding writeDeed
   write-found NoEntry bit n ext a nc nm = tt
   write-found (Entry k e) bit n ext a nc nm =
@@ -195,23 +196,23 @@ module _ (p s : List ℕ) where
       cond-ind Has (runsOf s (listOf k)) (λ _. tt) (λ still.
       write-block-found k e n (extensionFrom ext) a (pick (extensionFrom ext) nc nm) still)))) (λ _. tt)
 
-  mode-found : (mode l event prescaler priority : ℕ) → Has (modeDeed s mode l event prescaler priority)
+  mode-found : (mode l event prescaler priority : ℕ) → Has (modeDeed (runsOf s l) mode l event prescaler priority)
   unfolding modeDeed
   mode-found mode l event prescaler priority =
       cond-ind Has (eqb mode 0x10) (λ _.
       cond-ind Has (leb lists l) (λ _. tt) (λ _.
-      cond-ind Has (ltb 1 event) (λ _. tt) (λ _.
+      cond-ind Has (leb events event) (λ _. tt) (λ _.
       cond-ind Has (eqb prescaler 1) (λ _.
       cond-ind Has (eqb priority 0) (λ _.
       cond-ind Has (runsOf s l) (λ _. tt) (λ still. still)) (λ _. tt)) (λ _. tt)))) (λ _. tt)
 
-  start-found : (l : ℕ) → Has (startDeed s l)
+  start-found : (l : ℕ) → Has (startDeed (runsOf s l) (fitOf s l) l)
   unfolding startDeed
   start-found l =
       cond-ind Has (runsOf s l) (λ _. tt) (λ still.
       cond-ind Has (fitOf s l) (λ _. still) (λ _. tt))
 
-  start-stop-found : (mode l : ℕ) → Has (startStopDeed s mode l)
+  start-stop-found : (mode l : ℕ) → Has (startStopDeed (runsOf s l) (fitOf s l) mode l)
   unfolding startStopDeed
   start-stop-found mode l =
       cond-ind Has (ltb 2 mode) (λ _. tt) (λ _.
@@ -219,27 +220,26 @@ module _ (p s : List ℕ) where
       cond-ind Has (eqb mode 0) (λ _. tt) (λ _.
       cond-ind Has (eqb mode 1) (λ _. start-found l) (λ _. tt))))
 
-  synch-found : (mode : ℕ) → Has (synchDeed s mode)
+  synch-found : (ready : Bool) (mode : ℕ) → Has (synchDeed ready mode)
   unfolding synchDeed
-  synch-found mode =
+  synch-found ready mode =
       cond-ind Has (ltb 2 mode) (λ _. tt) (λ _.
       cond-ind Has (eqb mode 0) (λ _. tt) (λ _.
       cond-ind Has (eqb mode 1) (λ _.
-      cond-ind Has (allFit s lists) (λ _. tt) (λ _. tt)) (λ _. tt)))
+      cond-ind Has ready (λ _. tt) (λ _. tt)) (λ _. tt)))
 
   -- DOWNLOAD that is not locked
-  open-found : lockedOf s (needsOf command.Download) ≡ false → unlockedOf s Calibration ≡ true
-  unfolding lockedOf
+  open-found : lockedBy (needsOf command.Download) (seenOf (u16At p 2) s) ≡ false → unlockedOf s Calibration ≡ true
   open-found e = not-false (unlockedOf s Calibration) e
 
-  the-found : (c : Command) → Coded (getD p 0 0) c → lockedOf s (needsOf c) ≡ false → (nc nm : ℕ) → Has (judgeThe c p s nc nm)
+  the-found : (c : Command) → Coded (getD p 0 0) c → lockedBy (needsOf c) (seenOf (u16At p 2) s) ≡ false → (nc nm : ℕ) → Has (judgeThe c (numbersOf p) (seenOf (u16At p 2) s) nc nm)
   unfolding judgeThe
   the-found command.Unknown code free nc nm = tt
   the-found command.Connect code free nc nm = connect-found (getD p 1 0)
   the-found command.Disconnect code free nc nm = tt
   the-found command.GetStatus code free nc nm = tt
   the-found command.Synch code free nc nm = tt
-  the-found command.GetSeed code free nc nm = get-seed-found (getD p 1 0) (getD p 2 0)
+  the-found command.GetSeed code free nc nm = get-seed-found (unlockedOf s Calibration) (unlockedOf s Lists) (getD p 1 0) (getD p 2 0)
   the-found command.Unlock code free nc nm = unlock-found code (seedOf s) refl
   the-found command.SetMta code free nc nm = set-mta-found (getD p 3 0) (u32At p 4)
   the-found command.Upload code free nc nm = upload-found code (mtaOf s) refl nc nm
@@ -251,16 +251,16 @@ module _ (p s : List ℕ) where
   the-found command.WriteDaq code free nc nm = write-found (pointerOf s) (getD p 1 0) (getD p 2 0) (getD p 3 0) (u32At p 4) nc nm
   the-found command.SetDaqListMode code free nc nm = mode-found (getD p 1 0) (u16At p 2) (u16At p 4) (getD p 6 0) (getD p 7 0)
   the-found command.StartStopDaqList code free nc nm = start-stop-found (getD p 1 0) (u16At p 2)
-  the-found command.StartStopSynch code free nc nm = synch-found (getD p 1 0)
+  the-found command.StartStopSynch code free nc nm = synch-found (allFit s lists) (getD p 1 0)
   the-found command.GetDaqProcessorInfo code free nc nm = tt
   the-found command.GetDaqResolutionInfo code free nc nm = tt
 
-  by-found : (c : Command) → Coded (getD p 0 0) c → (nc nm : ℕ) → Has (judgeBy c p s nc nm)
+  by-found : (c : Command) → Coded (getD p 0 0) c → (nc nm : ℕ) → Has (judgeBy c (numbersOf p) (seenOf (u16At p 2) s) nc nm)
   unfolding judgeBy
   by-found c code nc nm =
       cond-ind Has (ltb (length p) (fewest c)) (λ _. tt) (λ _.
-      cond-ind Has (lockedOf s (needsOf c)) (λ _. tt) (λ free. the-found c code free nc nm))
+      cond-ind Has (lockedBy (needsOf c) (seenOf (u16At p 2) s)) (λ _. tt) (λ free. the-found c code free nc nm))
 
-pub judged : (p s : List ℕ) (nc nm : ℕ) → Found (judge p s nc nm) p s
-unfolding judge
+pub judged : (p s : List ℕ) (nc nm : ℕ) → Found (judgeOf p s nc nm) p s
+unfolding judgeOf judge
 judged p s nc nm = by-found p s (commandOf (getD p 0 0)) (coded (getD p 0 0)) nc nm

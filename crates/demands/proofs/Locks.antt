@@ -7,21 +7,22 @@ use mathlib.Core.Option.{Option}
 use mathlib.Core.List.{List}
 use lib.Dec.{eqb, lit≤}
 use lib.ListN.{length, set}
+use Rattle.state.specs.Layout.{sessionAt, size}
 use Rattle.line.proofs.Stuffed.{false-true}
-use Rattle.session.specs.Bytes.{u32At}
-use Rattle.session.specs.Generator.{keyOf}
-use Rattle.session.specs.State.{consistent, openOf, unlockedOf, seedOf, lockAt, answered}
+use Rattle.state.specs.Bytes.{u32At}
+use Rattle.state.specs.Generator.{keyOf}
+use Rattle.state.specs.State.{consistent, openOf, unlockedOf, seedOf, lockAt, answered}
 use Rattle.session.specs.Perform.{effect, reply, written, after}
 use Rattle.session.specs.Receive.{Step, obeyed, receiveOf}
-use Rattle.session.specs.declared.Resource.{Resource}
-use Rattle.session.specs.declared.Resource.the-variants.{Calibration, Lists}
-use Rattle.session.specs.declared.Seed.the-variants.{None, For}
-use Rattle.session.specs.declared.Deed.{Deed}
-use Rattle.session.specs.declared.Deed.the-variants.{Refuse, RefuseSize, WrongKey, Connect, Disconnect, Status, Synch, NoSeed, GiveSeed, Unlock, SetMta, Upload, ShortUpload, Checksum, Download, ClearList, SetPointer, ClearEntry, WriteEntry, SetMode, Stop, Start, KeepRunning, Select, StopAll, StartSelected, StopSelected, ProcessorInfo, ResolutionInfo}
+use Rattle.words.specs.declared.Resource.{Resource}
+use Rattle.words.specs.declared.Resource.the-variants.{Calibration, Lists}
+use Rattle.words.specs.declared.Seed.the-variants.{None, For}
+use Rattle.judge.specs.declared.Deed.{Deed}
+use Rattle.judge.specs.declared.Deed.the-variants.{Refuse, RefuseSize, WrongKey, Connect, Disconnect, Status, Synch, NoSeed, GiveSeed, Unlock, SetMta, Upload, ShortUpload, Checksum, Download, ClearList, SetPointer, ClearEntry, WriteEntry, SetMode, Stop, Start, KeepRunning, Select, StopAll, StartSelected, StopSelected, ProcessorInfo, ResolutionInfo}
 use Rattle.fields.proofs.Effects.{answering}
 use Rattle.fields.proofs.Fields.{other, lock-same, lock-other}
 use Rattle.fields.proofs.Frames.{only-seed}
-use Rattle.fields.proofs.Readers.{Same, apart, same-part, lock-reads, answered-front}
+use Rattle.fields.proofs.Readers.{Same, apart, same-part, lock-reads, answered-session}
 use Rattle.demands.specs.Slave.{ours}
 use Rattle.demands.specs.Heard.{readBy, Commands, deedOf, bringsKey, keyMatches}
 use Rattle.demands.specs.Demand2.{shut, otherLock}
@@ -98,7 +99,7 @@ unlocked-locks : (r x : Resource) (s cal meas : List ℕ) → unlockedOf (after 
 unlocked-locks r x s cal meas =
     let t : List ℕ = effect (Unlock r) s in
     let bs : List ℕ = reply (Unlock r) s cal meas in
-    let a : Same 0 238 t (answered t bs) = answered-front t bs (answering (Unlock r) s cal meas 0 tt .few) in
+    let a : Same sessionAt size t (answered t bs) = answered-session t bs (answering (Unlock r) s cal meas 0 tt .few) in
     lock-reads x (same-part (lit≤ tt) (lit≤ tt) a) ∙ seed-locks r x s
 
 other-is : (r : Resource) → otherLock r ≡ other r

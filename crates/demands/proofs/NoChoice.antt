@@ -1,5 +1,5 @@
 -- The first and the second demand leave a slave no choice: two slaves that meet them are the same in every call. Assumes nothing.
-use Prim.Native.Nat.{ℕ, _+_, _≤_, _<_}
+use Prim.Native.Nat.{ℕ, _+_, _≤_, _<_, zero, suc}
 use mathlib.Core.Path.{_≡_, refl, sym, ap, _∙_}
 use mathlib.Core.Logic.{_≢_}
 use mathlib.Core.Bool.{Bool, true, false}
@@ -12,20 +12,20 @@ use lib.ListN.{length, take, drop, take-append-drop}
 use lib.Seq.{drop-drop}
 use Rattle.line.specs.Message.{room}
 use Rattle.line.proofs.Stuffed.{false-true}
-use Rattle.session.specs.Layout.{lists, size, placeAt, sampleAt, firstOdt}
-use Rattle.session.specs.Bytes.{block}
-use Rattle.session.specs.State.{consistent}
+use Rattle.state.specs.Layout.{lists, size, placeAt, sampleAt, firstOdt}
+use Rattle.state.specs.Bytes.{block}
+use Rattle.state.specs.State.{consistent}
 use Rattle.session.specs.Receive.{Step}
-use Rattle.session.specs.Event.{Happened, samplingOf}
-use Rattle.session.specs.Slot.{Slot}
+use Rattle.lists.specs.Event.{Happened, samplingOf}
+use Rattle.lists.specs.Slot.{Slot}
 use Rattle.session.specs.PowerUp.{Power}
-use Rattle.session.specs.Number.{eventedNumber, slottedNumber}
-use Rattle.session.specs.declared.Sampling.{Sampling}
-use Rattle.session.specs.declared.Sampling.the-variants.{Idle, Sampled, Missed}
-use Rattle.session.specs.declared.Evented.{Evented}
-use Rattle.session.specs.declared.Evented.the-variants as event
-use Rattle.session.specs.declared.Slotted.{Slotted}
-use Rattle.session.specs.declared.Slotted.the-variants as slot
+use Rattle.words.specs.Number.{eventedNumber, slottedNumber}
+use Rattle.lists.specs.declared.Sampling.{Sampling}
+use Rattle.lists.specs.declared.Sampling.the-variants.{Idle, Sampled, Missed}
+use Rattle.words.specs.declared.Evented.{Evented}
+use Rattle.words.specs.declared.Evented.the-variants as event
+use Rattle.words.specs.declared.Slotted.{Slotted}
+use Rattle.words.specs.declared.Slotted.the-variants as slot
 use Rattle.demands.specs.Slave.{Slave, ours}
 use Rattle.demands.specs.Waiting.{AllBut, isSampled}
 use Rattle.demands.specs.Tight.{Tight}
@@ -79,14 +79,16 @@ from-block : (i n : ℕ) (t u : List ℕ) → block t i n ≡ block u i n → dr
 from-block i n t u e f = whole n (drop i t) (drop i u) e (drop-drop n i t ∙ (f ∙ sym (drop-drop n i u)))
 
 -- the same before the stores, behind them, and in each
-same-stores : (s t u : List ℕ) → AllBut (sampleAt 0) placeAt s t → AllBut (sampleAt 0) placeAt s u
+same-lists : (t u : List ℕ) (n : ℕ) → ((l : ℕ) → l < n → block t (sampleAt (firstOdt l)) storeSize ≡ block u (sampleAt (firstOdt l)) storeSize)
+    → drop (sampleAt (firstOdt n)) t ≡ drop (sampleAt (firstOdt n)) u → drop (sampleAt 0) t ≡ drop (sampleAt 0) u
+same-lists t u zero e f = f
+same-lists t u (suc n) e f =
+    let next : sampleAt (firstOdt n) + storeSize ≡ sampleAt (firstOdt (suc n)) = omega arith in
+    same-lists t u n (λ l h. e l (omega arith)) (from-block (sampleAt (firstOdt n)) storeSize t u (e n (omega arith)) (rw next f))
+
+same-stores : (s t u : List ℕ) → AllBut (sampleAt 0) size s t → AllBut (sampleAt 0) size s u
     → ((l : ℕ) → l < lists → block t (sampleAt (firstOdt l)) storeSize ≡ block u (sampleAt (firstOdt l)) storeSize) → t ≡ u
-same-stores s t u a b e =
-    whole 161 t u (a .front ∙ sym (b .front))
-    (from-block 161 16 t u (e 0 (lit< tt))
-    (from-block 177 16 t u (e 1 (lit< tt))
-    (from-block 193 16 t u (e 2 (lit< tt))
-    (from-block 209 16 t u (e 3 (lit< tt)) (a .back ∙ sym (b .back))))))
+same-stores s t u a b e = whole (sampleAt 0) t u (a .front ∙ sym (b .front)) (same-lists t u lists e (a .back ∙ sym (b .back)))
 
 idle-not : Idle ≢ Sampled
 idle-not e = false-true (ap isSampled e)

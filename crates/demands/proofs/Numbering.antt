@@ -11,16 +11,16 @@ use lib.Dec.{lit≤, lit<}
 use lib.ListN.{length, replicate}
 use lib.Seq.{getD-set-other}
 use Rattle.line.specs.Message.{room, frame}
-use Rattle.session.specs.Layout.{size, mark}
-use Rattle.session.specs.Bytes.{put32}
-use Rattle.session.specs.State.{consistent, setGenerator, ctrOf, answerOf}
-use Rattle.session.specs.Generator.{startOf}
+use Rattle.state.specs.Layout.{size, mark, generatorAt, ctrAt, servedAt, lastList}
+use Rattle.state.specs.Bytes.{put32}
+use Rattle.state.specs.State.{consistent, setGenerator, ctrOf, answerOf}
+use Rattle.state.specs.Generator.{startOf}
 use Rattle.session.specs.Receive.{receiveOf}
-use Rattle.session.specs.Event.{eventOf}
-use Rattle.session.specs.Slot.{turnOf, packetOf, slotOf}
+use Rattle.lists.specs.Event.{eventOf}
+use Rattle.lists.specs.Slot.{turnOf, packetOf, slotOf}
 use Rattle.session.specs.PowerUp.{powered, powerUpOf}
-use Rattle.session.specs.declared.Turn.{Turn}
-use Rattle.session.proofs.Consistent.{consistent-size}
+use Rattle.lists.specs.declared.Turn.{Turn}
+use Rattle.state.proofs.Consistent.{consistent-size}
 use Rattle.fields.proofs.Stores.{put32-out}
 use Rattle.fields.proofs.Kept.{power-consistent, receive-kept, event-kept, slot-kept}
 use Rattle.demands.specs.Slave.{ours}
@@ -55,9 +55,9 @@ by-turn c cs s u i _ h a e k (list j m n) later =
 numbers-on : (c : ℕ) (cs : List Call) → Later c cs
 numbers-on c [] i s h a = refl
 numbers-on c (Byte cal meas b ∷ cs) i s h a =
-    numbers-on c cs i (receiveOf s cal meas b .state) (receive-kept s cal meas b h) (byte-round s cal meas b h .byte 8 (lit≤ tt) (lit< tt) ∙ a)
+    numbers-on c cs i (receiveOf s cal meas b .state) (receive-kept s cal meas b h) (byte-round s cal meas b h .byte ctrAt (lit≤ tt) (lit< tt) ∙ a)
 numbers-on c (Event cal meas event clock ∷ cs) i s h a =
-    numbers-on c cs i (eventOf s cal meas event clock .state) (event-kept s cal meas event clock h) (event-front s cal meas event clock .byte 8 (lit≤ tt) (lit< tt) ∙ a)
+    numbers-on c cs i (eventOf s cal meas event clock .state) (event-kept s cal meas event clock h) (event-front s cal meas event clock .byte ctrAt (lit≤ tt) (lit< tt) ∙ a)
 numbers-on c (Slot out ∷ cs) i s h a = elim (decLe room (length out)) [ yes r ↦ with-room r (numbers-on c cs) | no r ↦ without (lt-of-not-le r) (numbers-on c cs) ] where
   with-room : room ≤ length out → Later c cs → frames ours s (Slot out ∷ cs) ≡ numbered c i (due ours s (Slot out ∷ cs))
   with-room r later =
@@ -82,7 +82,7 @@ power-ctr : (start : ℕ) → ctrOf (powered start) ≡ 0
 unfolding powered setGenerator
 power-ctr start =
     let blank : List ℕ = put32 (replicate size 0) 0 mark in
-    getD-set-other (put32 blank 4 (startOf start)) 9 8 3 0 (omega arith) ∙ put32-out blank 4 8 4 (startOf start) 8 (lit≤ tt) (lit≤ tt) tt ∙ blank-ctr
+    getD-set-other (put32 blank generatorAt (startOf start)) servedAt ctrAt lastList 0 (omega arith) ∙ put32-out blank generatorAt ctrAt generatorAt (startOf start) ctrAt (lit≤ tt) (lit≤ tt) tt ∙ blank-ctr
 
 pub power-up-is : (s : List ℕ) (start : ℕ) → length s ≡ size → powerUpOf s start .state ≡ powered start
 unfolding powerUpOf

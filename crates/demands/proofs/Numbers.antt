@@ -3,18 +3,18 @@ use Prim.Native.Nat.{ℕ}
 use mathlib.Core.Path.{_≡_, refl, sym, ap, _∙_}
 use mathlib.Core.Bool.{cond}
 use lib.Dec.{eqb}
-use Rattle.session.specs.Command.{codeOf}
-use Rattle.session.specs.Number.{receivedNumber, eventedNumber, slottedNumber, poweredUpNumber}
-use Rattle.session.specs.declared.Received.{Received}
-use Rattle.session.specs.declared.Received.the-variants.{Nothing, Answered, Silent, BadLength, BadEscape, BadChecksum, Unread, CutOff, NoState}
-use Rattle.session.specs.declared.Evented.{Evented}
-use Rattle.session.specs.declared.Evented.the-variants as event
-use Rattle.session.specs.declared.Slotted.{Slotted}
-use Rattle.session.specs.declared.Slotted.the-variants as slot
-use Rattle.session.specs.declared.PoweredUp.{PoweredUp}
-use Rattle.session.specs.declared.PoweredUp.the-variants as power
-use Rattle.session.specs.declared.Reason.{Reason}
-use Rattle.session.specs.declared.Reason.the-variants.{Unknown, TooShort, Locked, Sequence, OutOfRange, DataMissing, ListRuns, ReadOnly, NotInside, CannotStart, WrongKey}
+use Rattle.words.specs.Command.{codeOf}
+use Rattle.words.specs.Number.{receivedNumber, eventedNumber, slottedNumber, poweredUpNumber}
+use Rattle.words.specs.declared.Received.{Received}
+use Rattle.words.specs.declared.Received.the-variants.{Nothing, Answered, Silent, BadLength, BadEscape, BadChecksum, Unread, CutOff, NoState}
+use Rattle.words.specs.declared.Evented.{Evented}
+use Rattle.words.specs.declared.Evented.the-variants as event
+use Rattle.words.specs.declared.Slotted.{Slotted}
+use Rattle.words.specs.declared.Slotted.the-variants as slot
+use Rattle.words.specs.declared.PoweredUp.{PoweredUp}
+use Rattle.words.specs.declared.PoweredUp.the-variants as power
+use Rattle.words.specs.declared.Reason.{Reason}
+use Rattle.words.specs.declared.Reason.the-variants.{Unknown, TooShort, Locked, Sequence, OutOfRange, DataMissing, ListRuns, ReadOnly, NotInside, CannotStart, WrongKey}
 use Rattle.demands.specs.Numbers.{eventSort, slotSort, reasonSort}
 
 -- what can be told from its number is the same where the numbers are

@@ -7,9 +7,9 @@ use native.Mathlib.Omega.{arith}
 use borrow.Author.Tests.{ltb-false}
 use lib.Dec.{T, ltb, leb, le→leb, lit≤}
 use lib.ListN.{set}
-use Rattle.session.specs.Layout.{entries}
-use Rattle.session.specs.Bytes.{cleared}
-use Rattle.session.specs.Lists.{sizeOf, bytesOfFirst, odtBytes, modeOf, fitOf, runsOf}
+use Rattle.state.specs.Layout.{entries, size, lists, sessionAt, openAt, calibrationAt, modeAt, selectedAt, runningAt, entriesAt, entryAt, sampleAt, firstOdt, odtCount}
+use Rattle.state.specs.Bytes.{cleared}
+use Rattle.lists.specs.Lists.{sizeOf, bytesOfFirst, odtBytes, modeOf, fitOf, runsOf, bytesOfOdts, odtsFit}
 use Rattle.fields.proofs.Stores.{out}
 use Rattle.fields.proofs.Frames.{Only, only-set, only-cleared}
 use Rattle.fields.proofs.Readers.{Same, same-part, same-then, flag-reads, open-reads}
@@ -17,13 +17,13 @@ use Rattle.demands.specs.Waiting.{waitingOf}
 use Rattle.demands.proofs.Waiting.{waiting-same}
 
 -- ---- t has the bytes of s that list l's waiting packets are read from: whether a session is open, the list's mode and running flag, the entries
--- and the stores of its two ODTs
+-- and the stores of its ODTs
 pub record Own (l : ℕ) (s t : List ℕ) : Type 0 where
-  pub opened : Same 11 12 s t
-  pub mode : Same (21 + 3 * l) (22 + 3 * l) s t
-  pub running : Same (23 + 3 * l) (24 + 3 * l) s t
-  pub entered : Same (33 + 32 * l) (65 + 32 * l) s t
-  pub stores : Same (161 + 16 * l) (177 + 16 * l) s t
+  pub opened : Same openAt calibrationAt s t
+  pub mode : Same (modeAt l) (selectedAt l) s t
+  pub running : Same (runningAt l) (runningAt l + 1) s t
+  pub entered : Same (entriesAt (firstOdt l)) (entriesAt (firstOdt l + odtCount l)) s t
+  pub stores : Same (sampleAt (firstOdt l)) (sampleAt (firstOdt l + odtCount l)) s t
 
 pub own-none : {l : ℕ} {s : List ℕ} → Own l s s
 own-none = record { opened = as-was; mode = as-was; running = as-was; entered = as-was; stores = as-was } where
@@ -31,7 +31,7 @@ own-none = record { opened = as-was; mode = as-was; running = as-was; entered = 
   as-was = record { long = refl; byte = λ j p q. refl }
 
 -- the whole session
-pub own-same : {s t : List ℕ} (l : ℕ) → l < 4 → Same 11 225 s t → Own l s t
+pub own-same : {s t : List ℕ} (l : ℕ) → l < lists → Same sessionAt size s t → Own l s t
 own-same l h w =
     record {
       opened = same-part (lit≤ tt) (lit≤ tt) w;
@@ -56,11 +56,11 @@ Misses lo hi a b = (i : ℕ) → a ≤ i → i < b → lo ≤ i → hi ≤ i
 
 -- of the bytes from lo up to hi none is list l's own; `omega` proves it at once
 pub record Spares (l lo hi : ℕ) : Type 0 where
-  pub opened : Misses lo hi 11 12
-  pub mode : Misses lo hi (21 + 3 * l) (22 + 3 * l)
-  pub running : Misses lo hi (23 + 3 * l) (24 + 3 * l)
-  pub entered : Misses lo hi (33 + 32 * l) (65 + 32 * l)
-  pub stores : Misses lo hi (161 + 16 * l) (177 + 16 * l)
+  pub opened : Misses lo hi openAt calibrationAt
+  pub mode : Misses lo hi (modeAt l) (selectedAt l)
+  pub running : Misses lo hi (runningAt l) (runningAt l + 1)
+  pub entered : Misses lo hi (entriesAt (firstOdt l)) (entriesAt (firstOdt l + odtCount l))
+  pub stores : Misses lo hi (sampleAt (firstOdt l)) (sampleAt (firstOdt l + odtCount l))
 
 -- a byte that does not lie among those from lo up to hi
 aside : (lo hi j : ℕ) → (lo ≤ j → hi ≤ j) → T (out lo hi j)
@@ -89,26 +89,35 @@ own-cleared s i n m = own-only m (only-cleared s i n (omega arith) (omega arith)
 
 -- ---- what is read from them
 module _ {s t : List ℕ} where
-  first-own : (k n : ℕ) → n ≤ entries → Same (33 + 16 * k) (49 + 16 * k) s t → bytesOfFirst t k n ≡ bytesOfFirst s k n
+  first-own : (k n : ℕ) → n ≤ entries → Same (entriesAt k) (entriesAt (k + 1)) s t → bytesOfFirst t k n ≡ bytesOfFirst s k n
   unfolding bytesOfFirst sizeOf
   first-own k zero h w = refl
-  first-own k (suc n) h w = rw (first-own k n (omega arith) w, w .byte (33 + 16 * k + 4 * n) (omega arith) (omega arith))
+  first-own k (suc n) h w = rw (first-own k n (omega arith) w, w .byte (entryAt k n) (omega arith) (omega arith))
 
-  odt-own : (k : ℕ) → Same (33 + 16 * k) (49 + 16 * k) s t → odtBytes t k ≡ odtBytes s k
+  odt-own : (k : ℕ) → Same (entriesAt k) (entriesAt (k + 1)) s t → odtBytes t k ≡ odtBytes s k
   odt-own k w = first-own k entries (lit≤ tt) w
 
   pub mode-own : (l : ℕ) → Own l s t → modeOf t l ≡ modeOf s l
   unfolding modeOf
-  mode-own l w = rw (w .mode .byte (21 + 3 * l) (omega arith) (omega arith))
+  mode-own l w = rw (w .mode .byte (modeAt l) (omega arith) (omega arith))
+
+  bytes-own : (k n : ℕ) → Same (entriesAt k) (entriesAt (k + n)) s t → bytesOfOdts t k n ≡ bytesOfOdts s k n
+  unfolding bytesOfOdts
+  bytes-own k zero w = refl
+  bytes-own k (suc n) w = rw (bytes-own k n (same-part (omega arith) (omega arith) w), odt-own (k + n) (same-part (omega arith) (omega arith) w))
+
+  odts-own : (k n : ℕ) → Same (entriesAt k) (entriesAt (k + n)) s t → odtsFit t k n ≡ odtsFit s k n
+  unfolding odtsFit
+  odts-own k zero w = refl
+  odts-own k (suc n) w = rw (odts-own k n (same-part (omega arith) (omega arith) w), odt-own (k + n) (same-part (omega arith) (omega arith) w))
 
   pub fit-own : (l : ℕ) → Own l s t → fitOf t l ≡ fitOf s l
   unfolding fitOf
-  fit-own l w =
-      rw (mode-own l w, odt-own (2 * l) (same-part (omega arith) (omega arith) (w .entered)), odt-own (2 * l + 1) (same-part (omega arith) (omega arith) (w .entered)))
+  fit-own l w = rw (mode-own l w, bytes-own (firstOdt l) (odtCount l) (w .entered), odts-own (firstOdt l) (odtCount l) (w .entered))
 
   pub runs-own : (l : ℕ) → Own l s t → runsOf t l ≡ runsOf s l
   unfolding runsOf
-  runs-own l w = rw (open-reads (w .opened), flag-reads (23 + 3 * l) (same-part (omega arith) (omega arith) (w .running)), fit-own l w)
+  runs-own l w = rw (open-reads (w .opened), flag-reads (runningAt l) (same-part (omega arith) (omega arith) (w .running)), fit-own l w)
 
   pub waiting-reads : (l : ℕ) → Own l s t → waitingOf t l ≡ waitingOf s l
-  waiting-reads l w = waiting-same l (runs-own l w) (same-part (omega arith) (omega arith) (w .stores)) (same-part (omega arith) (omega arith) (w .stores))
+  waiting-reads l w = waiting-same l (runs-own l w) (w .stores)

@@ -3,7 +3,7 @@ use Prim.Native.Nat.{ℕ}
 use mathlib.Core.Path.{_≡_}
 use mathlib.Core.Bool.{true}
 use mathlib.Core.List.{List, [], _∷_}
-use Rattle.session.specs.State.{consistent}
+use Rattle.state.specs.State.{consistent}
 use Rattle.session.specs.PowerUp.{powered}
 use Rattle.fields.proofs.Kept.{power-consistent, receive-kept, event-kept, slot-kept}
 use Rattle.demands.specs.Slave.{ours}

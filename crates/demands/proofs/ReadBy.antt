@@ -18,20 +18,20 @@ use Rattle.line.proofs.Laws.{cond-ind}
 use Rattle.line.proofs.After.{take-length}
 use Rattle.line.proofs.Unframing.{Takes, begins, passes, escapes, brings, breaks, takes}
 use Rattle.line.proofs.Steps.{Puts, refuses, goes, fills, spoils, puts, take-long}
-use Rattle.session.specs.Layout.{placeAt, answerAt, size}
-use Rattle.session.specs.State.{consistent, generatorOf, openOf, unlockedOf, seedOf, mtaOf, placeOf, messageOf, waits, answerOf}
-use Rattle.session.specs.Lists.{runsOf}
+use Rattle.state.specs.Layout.{placeAt, answerAt, size, lists, messageAt}
+use Rattle.state.specs.State.{consistent, generatorOf, openOf, unlockedOf, seedOf, mtaOf, placeOf, messageOf, waits, answerOf}
+use Rattle.lists.specs.Lists.{runsOf}
 use Rattle.session.specs.Receive.{fedOf}
-use Rattle.session.specs.declared.Resource.{Resource}
-use Rattle.session.proofs.Consistent.{consistent-size}
+use Rattle.words.specs.declared.Resource.{Resource}
+use Rattle.state.proofs.Consistent.{consistent-size}
 use Rattle.fields.proofs.Frames.{Only, only-readOn}
 use Rattle.fields.proofs.Readers.{apart, consistent-reads, generator-reads, open-reads, lock-reads, seed-reads, mta-reads, runs-reads, waits-reads, answer-reads}
-use Rattle.session.proofs.Sets.{block-length}
+use Rattle.state.proofs.Sets.{block-length}
 use Rattle.demands.specs.Heard.{readBy}
 
 message-length : (s : List ℕ) → length s ≡ size → length (messageOf s) ≡ longest
 unfolding messageOf
-message-length s h = block-length s 227 11 (omega arith)
+message-length s h = block-length s messageAt longest (omega arith)
 
 fed-length : (s : List ℕ) (b : ℕ) → length s ≡ size → length (fedOf s b .message) ≡ longest
 fed-length s b h = take-length (placeOf s) (messageOf s) b ∙ message-length s h
@@ -62,7 +62,7 @@ module _ (s : List ℕ) (b : ℕ) (c : consistent s ≡ true) where
   pub read-mta : mtaOf (readBy s b) ≡ mtaOf s
   read-mta = mta-reads (apart tt read-only)
 
-  pub read-runs : (l : ℕ) → l < 4 → runsOf (readBy s b) l ≡ runsOf s l
+  pub read-runs : (l : ℕ) → l < lists → runsOf (readBy s b) l ≡ runsOf s l
   read-runs l h = runs-reads l h (apart tt read-only)
 
   pub read-waits : waits (readBy s b) ≡ waits s

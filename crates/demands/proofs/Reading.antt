@@ -29,24 +29,24 @@ use Rattle.line.proofs.RoundTrip.{round-trip}
 use Rattle.line.proofs.Runs.{run-append}
 use Rattle.line.proofs.Steps.{put-within}
 use Rattle.line.proofs.Stuffed.{message-length}
-use Rattle.session.specs.Layout.{size}
-use Rattle.session.specs.Bytes.{block}
-use Rattle.session.specs.State.{consistent, placeOf, messageOf, setMessage}
+use Rattle.state.specs.Layout.{size, placeAt, messageAt, answerAt}
+use Rattle.state.specs.Bytes.{block}
+use Rattle.state.specs.State.{consistent, placeOf, messageOf, setMessage}
 use Rattle.session.specs.Receive.{Step, fedOf, readOn, receiveOf}
 use Rattle.session.specs.Perform.{effect, reply, after}
-use Rattle.session.specs.Event.{eventOf}
-use Rattle.session.specs.Slot.{turnOf, slotOf}
-use Rattle.session.specs.declared.Turn.{Turn}
-use Rattle.session.specs.declared.Deed.{Deed}
-use Rattle.session.proofs.Sets.{block-length}
-use Rattle.session.proofs.Consistent.{consistent-size}
+use Rattle.lists.specs.Event.{eventOf}
+use Rattle.lists.specs.Slot.{turnOf, slotOf}
+use Rattle.lists.specs.declared.Turn.{Turn}
+use Rattle.judge.specs.declared.Deed.{Deed}
+use Rattle.state.proofs.Sets.{block-length}
+use Rattle.state.proofs.Consistent.{consistent-size}
 use Rattle.fields.proofs.Fields.{Counted, Answering, place-same}
 use Rattle.fields.proofs.Frames.{only-place, only-message, only-answered}
 use Rattle.fields.proofs.Readers.{Same, apart, same-part, place-reads, message-reads}
-use Rattle.fields.proofs.Served.{answerSent-session, packetSent-rest}
+use Rattle.fields.proofs.Served.{answerSent-reader, packetSent-rest}
 use Rattle.fields.proofs.Effects.{answering, effect-place, effect-message}
 use Rattle.fields.proofs.Kept.{receive-kept, event-kept, slot-kept}
-use Rattle.session.specs.Doable.{Doable}
+use Rattle.judge.specs.Doable.{Doable}
 use Rattle.demands.specs.Slave.{ours}
 use Rattle.demands.specs.Runs.{Call, Byte, Event, Slot, Elsewhere, run, received}
 use Rattle.demands.specs.Heard.{packetBy, packetEnded, readBy}
@@ -65,11 +65,11 @@ counted-place (Escaped k) m e = let h : k < longest = put-within k (getD m 0 0) 
 
 message-long : (s : List ℕ) → length s ≡ size → length (messageOf s) ≡ longest
 unfolding messageOf
-message-long s h = block-length s 227 11 (omega arith)
+message-long s h = block-length s messageAt longest (omega arith)
 
 message-set : (s m : List ℕ) → length s ≡ size → length m ≡ longest → messageOf (setMessage s m) ≡ m
 unfolding messageOf setMessage
-message-set s m h k = rw (drop-at (take 227 s) (m ++ drop 238 s) 227 (length-take-le 227 s (omega arith))) (take-at m (drop 238 s) 11 k)
+message-set s m h k = rw (drop-at (take messageAt s) (m ++ drop answerAt s) messageAt (length-take-le messageAt s (omega arith))) (take-at m (drop answerAt s) longest k)
 
 -- what the reader of a state holds: its place, and the message so far
 pub record Holds (t : List ℕ) (p : Place) (m : List ℕ) : Type 0 where
@@ -119,7 +119,7 @@ byte-holds : (s cal meas : List ℕ) (b : ℕ) → consistent s ≡ true → Fed
 byte-holds s cal meas b c = byte-by (consistent-size s c) (byte.received s cal meas b c)
 
 -- ---- events and slots leave the reader
-same-holds : {s t : List ℕ} → Same 225 238 s t → Holds t (placeOf s) (messageOf s)
+same-holds : {s t : List ℕ} → Same placeAt answerAt s t → Holds t (placeOf s) (messageOf s)
 same-holds w = record { place = place-reads (same-part (lit≤ tt) (lit≤ tt) w); message = message-reads (same-part (lit≤ tt) (lit≤ tt) w) }
 
 event-holds : (s cal meas : List ℕ) (event clock : ℕ) → Holds (eventOf s cal meas event clock .state) (placeOf s) (messageOf s)
@@ -127,8 +127,8 @@ event-holds s cal meas event clock = same-holds (same-part (lit≤ tt) (lit≤ t
 
 turned-holds : (s : List ℕ) (t : Turn) → Fair s t → Holds (turned t s) (placeOf s) (messageOf s)
 turned-holds s _ nobody = record { place = refl; message = refl }
-turned-holds s _ (answer w) = same-holds (same-part (lit≤ tt) (lit≤ tt) (answerSent-session s))
-turned-holds s _ (list j k n) = same-holds (same-part (lit≤ tt) (lit≤ tt) (packetSent-rest s k (n .odt)))
+turned-holds s _ (answer w) = same-holds (answerSent-reader s)
+turned-holds s _ (list j k n) = same-holds (same-part (lit≤ tt) (lit≤ tt) (packetSent-rest s k))
 
 slot-holds : (s out : List ℕ) → consistent s ≡ true → Holds (slotOf s out .state) (placeOf s) (messageOf s)
 slot-holds s out c =

@@ -12,17 +12,17 @@ use Rattle.line.specs.declared.Outcome.{Outcome}
 use Rattle.line.specs.declared.Outcome.the-variants as line
 use Rattle.line.proofs.Laws.{cond-ind}
 use Rattle.line.proofs.Stuffed.{false-true}
-use Rattle.session.specs.Bytes.{block}
-use Rattle.session.specs.State.{consistent, openOf, waits, answerOf}
+use Rattle.state.specs.Bytes.{block}
+use Rattle.state.specs.State.{consistent, openOf, waits, answerOf}
 use Rattle.session.specs.Perform.{reply}
-use Rattle.session.specs.Doable.{Doable}
+use Rattle.judge.specs.Doable.{Doable}
 use Rattle.session.specs.Receive.{Step, only, obeyed, goodConnect, heeded, meant, fedOf, receivedBy, receiveOf}
-use Rattle.session.specs.Number.{receivedNumber}
-use Rattle.session.specs.declared.Deed.{Deed}
-use Rattle.session.specs.declared.Deed.the-variants.{Connect}
-use Rattle.session.specs.declared.Received.{Received}
-use Rattle.session.specs.declared.Received.the-variants.{Nothing, Silent, BadLength, BadEscape, BadChecksum, Unread, CutOff}
-use Rattle.session.proofs.Doable.{judge-doable}
+use Rattle.words.specs.Number.{receivedNumber}
+use Rattle.judge.specs.declared.Deed.{Deed}
+use Rattle.judge.specs.declared.Deed.the-variants.{Connect}
+use Rattle.words.specs.declared.Received.{Received}
+use Rattle.words.specs.declared.Received.the-variants.{Nothing, Silent, BadLength, BadEscape, BadChecksum, Unread, CutOff}
+use Rattle.session.proofs.Looked.{judged-doable}
 use Rattle.fields.proofs.Effects.{after-answer}
 use Rattle.demands.specs.Heard.{packetBy, packetEnded, readBy, Commands, deedOf, heeds, doneAt}
 use Rattle.demands.proofs.Judged.{Found, judged}
@@ -59,7 +59,7 @@ module _ (s cal meas : List ℕ) (b : ℕ) (c : consistent s ≡ true) where
             acts (deedOf p t cal meas) p (record {
               ended = e;
               free = u;
-              can = judge-doable p t (length cal) (length meas);
+              can = judged-doable p t (length cal) (length meas);
               found = judged p t (length cal) (length meas);
               opened = λ _. refl;
               closed = λ n. absurd (false-true (sym n ∙ v));
@@ -153,4 +153,4 @@ pub command-answer : (s cal meas : List ℕ) (b : ℕ) (p : List ℕ) → consis
 command-answer s cal meas b p c w =
     let t : List ℕ = readBy s b in
     ap (λ (o : Step). answerOf (o .state)) (commanded s cal meas b p c w)
-    ∙ after-answer (deedOf p t cal meas) t cal meas (length p) (read-length s b c) (judge-doable p t (length cal) (length meas))
+    ∙ after-answer (deedOf p t cal meas) t cal meas (length p) (read-length s b c) (judged-doable p t (length cal) (length meas))

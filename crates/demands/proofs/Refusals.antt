@@ -10,15 +10,16 @@ use lib.Dec.{eqb, ltb}
 use lib.ListN.{length, getD}
 use Rattle.line.proofs.Laws.{cond-ind}
 use Rattle.line.proofs.Stuffed.{false-true}
-use Rattle.session.specs.State.{seedOf}
-use Rattle.session.specs.Command.{commandOf, lockedOf}
-use Rattle.session.specs.Judge.{unlockBy, judgeThe, judgeBy, judge}
+use Rattle.state.specs.State.{seedOf}
+use Rattle.words.specs.Command.{commandOf}
+use Rattle.judge.specs.Judge.{unlockBy, judgeThe, judgeBy, judge}
+use Rattle.session.specs.Look.{judgeOf}
 use Rattle.session.specs.Perform.{effect, reply, written}
-use Rattle.session.specs.declared.Resource.{Resource}
-use Rattle.session.specs.declared.Seed.{Seed}
-use Rattle.session.specs.declared.Seed.the-variants.{None, For}
-use Rattle.session.specs.declared.Deed.{Deed}
-use Rattle.session.specs.declared.Deed.the-variants.{Refuse, RefuseSize, WrongKey, Connect, Disconnect, Status, Synch, NoSeed, GiveSeed, Unlock, SetMta, Upload, ShortUpload, Checksum, Download, ClearList, SetPointer, ClearEntry, WriteEntry, SetMode, Stop, Start, KeepRunning, Select, StopAll, StartSelected, StopSelected, ProcessorInfo, ResolutionInfo}
+use Rattle.words.specs.declared.Resource.{Resource}
+use Rattle.words.specs.declared.Seed.{Seed}
+use Rattle.words.specs.declared.Seed.the-variants.{None, For}
+use Rattle.judge.specs.declared.Deed.{Deed}
+use Rattle.judge.specs.declared.Deed.the-variants.{Refuse, RefuseSize, WrongKey, Connect, Disconnect, Status, Synch, NoSeed, GiveSeed, Unlock, SetMta, Upload, ShortUpload, Checksum, Download, ClearList, SetPointer, ClearEntry, WriteEntry, SetMode, Stop, Start, KeepRunning, Select, StopAll, StartSelected, StopSelected, ProcessorInfo, ResolutionInfo}
 use Rattle.demands.specs.Heard.{bringsKey, keyMatches, wrongKeyBy, wrongKey}
 
 -- ---- what is answered FE
@@ -81,8 +82,8 @@ keyed p =
     (λ _ f. absurd (false-true f))
 
 -- with a key for the seed that is out, whether it matches is all that is left
-pub key-judged : (p s : List ℕ) (r : Resource) (nc nm : ℕ) → bringsKey p ≡ true → seedOf s ≡ For r → judge p s nc nm ≡ cond (keyMatches p r s) (Unlock r) WrongKey
-unfolding judge judgeBy judgeThe commandOf lockedOf unlockBy
+pub key-judged : (p s : List ℕ) (r : Resource) (nc nm : ℕ) → bringsKey p ≡ true → seedOf s ≡ For r → judgeOf p s nc nm ≡ cond (keyMatches p r s) (Unlock r) WrongKey
+unfolding judgeOf judge judgeBy judgeThe commandOf unlockBy
 key-judged p s r nc nm k e =
     let w : Keyed p = keyed p k in
     let long : 6 ≤ length p = w .long in
@@ -103,14 +104,14 @@ wrong-by (For r) p s e =
     (λ k n. record { resource = r; out = refl; key = k; wrong = not-true (keyMatches p r s) n })
     (λ _ f. absurd (false-true f)) e
 
-pub wrong-judged : (p s : List ℕ) (nc nm : ℕ) → wrongKey p s ≡ true → judge p s nc nm ≡ WrongKey
+pub wrong-judged : (p s : List ℕ) (nc nm : ℕ) → wrongKey p s ≡ true → judgeOf p s nc nm ≡ WrongKey
 wrong-judged p s nc nm e =
     let w : Wrong p s (seedOf s) = wrong-by (seedOf s) p s e in
     key-judged p s (w .resource) nc nm (w .key) (w .out) ∙ rw (w .wrong)
 
 -- ---- DISCONNECT
-pub disconnect-judged : (q s : List ℕ) (nc nm : ℕ) → getD q 0 0 ≡ 0xFE → judge q s nc nm ≡ Disconnect
-unfolding judge judgeBy judgeThe commandOf lockedOf
+pub disconnect-judged : (q s : List ℕ) (nc nm : ℕ) → getD q 0 0 ≡ 0xFE → judgeOf q s nc nm ≡ Disconnect
+unfolding judgeOf judge judgeBy judgeThe commandOf
 disconnect-judged [] s nc nm e = absurd (let z : _≡_ {A = ℕ} 0 0xFE = e in omega arith)
 disconnect-judged (x ∷ q) s nc nm e =
     let h : x ≡ 0xFE = e in

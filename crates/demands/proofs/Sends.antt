@@ -15,16 +15,16 @@ use Rattle.line.proofs.Fronts.{take-front, drop-front}
 use Rattle.line.proofs.Laws.{cond-ind, length-front}
 use Rattle.line.proofs.RoundTrip.{round-trip}
 use Rattle.line.proofs.Stuffed.{frame-short}
-use Rattle.session.specs.Layout.{size, listOf}
-use Rattle.session.specs.State.{consistent, ctrOf, waits, answerLength, answerKind, answerOf}
-use Rattle.session.specs.Slot.{Slot, turnOf, packetOf, sentAs, nextCtr, answerSent, packetSent, sentBy, slotOf}
-use Rattle.session.specs.Number.{slottedValue}
-use Rattle.session.specs.declared.Slotted.the-variants.{NoRoom}
-use Rattle.session.specs.declared.Turn.{Turn}
-use Rattle.session.specs.declared.Turn.the-variants.{Nobody, Answer, Packet}
-use Rattle.session.proofs.Consistent.{consistent-size}
+use Rattle.state.specs.Layout.{size, listOf, allOdts, ctrAt, servedAt, lastAt, answerAt, answerBytesAt, sampleAt}
+use Rattle.state.specs.State.{consistent, ctrOf, waits, answerLength, answerKind, answerOf}
+use Rattle.lists.specs.Slot.{Slot, turnOf, packetOf, sentAs, nextCtr, answerSent, packetSent, sentBy, slotOf}
+use Rattle.words.specs.Number.{slottedValue}
+use Rattle.words.specs.declared.Slotted.the-variants.{NoRoom}
+use Rattle.lists.specs.declared.Turn.{Turn}
+use Rattle.lists.specs.declared.Turn.the-variants.{Nobody, Answer, Packet}
+use Rattle.state.proofs.Consistent.{consistent-size}
 use Rattle.fields.proofs.Readers.{answer-most}
-use Rattle.session.proofs.Sets.{block-length}
+use Rattle.state.proofs.Sets.{block-length}
 use Rattle.demands.specs.Slave.{ours}
 use Rattle.demands.specs.Runs.{frameIn, sends}
 use Rattle.demands.specs.Runs as call
@@ -63,7 +63,7 @@ slot-state s out c h = ap (λ (o : Slot). o .state) (slot-is s out c h) ∙ sent
 -- ---- what a frame is made of
 pub answer-length : (s : List ℕ) → length s ≡ size → length (answerOf s) ≡ answerLength s
 unfolding answerOf
-answer-length s h = block-length (set s 239 (answerKind s)) 239 (answerLength s) (rw length-set (omega (arith, answer-most s)))
+answer-length s h = block-length (set s answerBytesAt (answerKind s)) answerBytesAt (answerLength s) (rw length-set (omega (arith, answer-most s)))
 
 -- 1 to 8 bytes
 pub record Packed (p : List ℕ) : Type 0 where
@@ -75,7 +75,7 @@ answer-packed s h w =
     let n : 0 < answerLength s = ltb-true 0 (answerLength s) w in
     record { some = rw (answer-length s h) n; few = rw (answer-length s h) (answer-most s) }
 
-pub packet-packed : (s : List ℕ) (k : ℕ) → length s ≡ size → k < 8 → Packed (packetOf s k)
+pub packet-packed : (s : List ℕ) (k : ℕ) → length s ≡ size → k < allOdts → Packed (packetOf s k)
 packet-packed s k h q = record { some = rw (packet-length s k h q) (omega arith); few = rw (packet-length s k h q) (omega (arith, stored-most s k)) }
 
 written-frame : (p out : List ℕ) (c : ℕ) → Packed p → room ≤ length out → writeOf p c out ≡ record { written = Frame (length (frame c p)); out = atFront (frame c p) out }
@@ -122,17 +122,17 @@ slot-silent s out c h = ap (λ (o : Slot). frameIn (o .slotted) (o .out)) (slot-
 pub answer-ctr : (s : List ℕ) → length s ≡ size → ctrOf (answerSent s) ≡ nextCtr s
 unfolding answerSent
 answer-ctr s h =
-    let s₂ : List ℕ = set (set s 239 (answerKind s)) 238 0 in
-    let l : 8 < length s₂ = simp length-set (omega arith) in
-    getD-set-other (set s₂ 8 (nextCtr s)) 10 8 1 0 (omega arith) ∙ getD-set-same s₂ 8 (nextCtr s) 0 l
+    let s₂ : List ℕ = set (set s answerBytesAt (answerKind s)) answerAt 0 in
+    let l : ctrAt < length s₂ = simp length-set (omega arith) in
+    getD-set-other (set s₂ ctrAt (nextCtr s)) lastAt ctrAt 1 0 (omega arith) ∙ getD-set-same s₂ ctrAt (nextCtr s) 0 l
 
 pub packet-ctr : (s : List ℕ) (k : ℕ) → length s ≡ size → ctrOf (packetSent s k) ≡ nextCtr s
 unfolding packetSent
 packet-ctr s k h =
-    let s₁ : List ℕ = set s (161 + 8 * k) 0 in
-    let l : 8 < length s₁ = simp length-set (omega arith) in
-    getD-set-other (set (set s₁ 8 (nextCtr s)) 9 (listOf k)) 10 8 0 0 (omega arith)
-    ∙ getD-set-other (set s₁ 8 (nextCtr s)) 9 8 (listOf k) 0 (omega arith) ∙ getD-set-same s₁ 8 (nextCtr s) 0 l
+    let s₁ : List ℕ = set s (sampleAt k) 0 in
+    let l : ctrAt < length s₁ = simp length-set (omega arith) in
+    getD-set-other (set (set s₁ ctrAt (nextCtr s)) servedAt (listOf k)) lastAt ctrAt 0 0 (omega arith)
+    ∙ getD-set-other (set s₁ ctrAt (nextCtr s)) servedAt ctrAt (listOf k) 0 (omega arith) ∙ getD-set-same s₁ ctrAt (nextCtr s) 0 l
 
 -- ---- a slot's frame reads back
 reads-back : (s : List ℕ) (t : Turn) → turnOf s ≡ t → length s ≡ size → Fair s t → ReadsBack (framesOf (ctrOf s) (packetFor t s)) s

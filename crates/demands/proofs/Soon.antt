@@ -11,14 +11,14 @@ use lib.Dec.{leb, lit≤}
 use lib.ListN.{length, getD}
 use Rattle.line.specs.Message.{room, frame}
 use Rattle.line.proofs.Laws.{cond-ind}
-use Rattle.session.specs.Layout.{size, lists, lastAt, servedAt}
-use Rattle.session.specs.State.{consistent, flagOf, ctrOf, waits, answerOf}
+use Rattle.state.specs.Layout.{size, lists, lastAt, servedAt, placeAt, sampleAt}
+use Rattle.state.specs.State.{consistent, flagOf, ctrOf, waits, answerOf}
 use Rattle.session.specs.Receive.{receiveOf}
-use Rattle.session.specs.Event.{eventOf}
-use Rattle.session.specs.Slot.{packetIn, orElse, roundFrom, turnOf, packetOf, packetSent, slotOf}
-use Rattle.session.specs.declared.Turn.{Turn}
-use Rattle.session.specs.declared.Turn.the-variants.{Answer, Packet}
-use Rattle.session.proofs.Consistent.{consistent-size}
+use Rattle.lists.specs.Event.{eventOf}
+use Rattle.lists.specs.Slot.{packetIn, orElse, roundFrom, turnOf, packetOf, packetSent, slotOf}
+use Rattle.lists.specs.declared.Turn.{Turn}
+use Rattle.lists.specs.declared.Turn.the-variants.{Answer, Packet}
+use Rattle.state.proofs.Consistent.{consistent-size}
 use Rattle.fields.proofs.Readers.{Same, same-part, flag-reads, waits-reads, answer-reads}
 use Rattle.fields.proofs.Served.{answerSent-waits, packetSent-rest}
 use Rattle.fields.proofs.Kept.{receive-kept, event-kept, slot-kept}
@@ -125,7 +125,7 @@ slot-by cs a last s out w r h later _ e (next j k n f) =
     let c : consistent s ≡ true = w .fit in
     let z : length s ≡ size = consistent-size s c in
     let st : slotOf s out .state ≡ packetSent s k = slot-state s out c r ∙ ap (λ t. turned t s) e in
-    let y : Same 225 247 s (packetSent s k) = packetSent-rest s k (n .odt) in
+    let y : Same placeAt (sampleAt 0) s (packetSent s k) = packetSent-rest s k in
     let u : Waits a false (slotOf s out .state) =
     record {
       fit = slot-kept s out c;
@@ -149,7 +149,7 @@ goes (Byte cal meas b ∷ cs) a last s w h =
       fit = receive-kept s cal meas b c;
       waits = k .0;
       answer = k .1 ∙ w .answer;
-      flag = flag-reads 10 (same-part (lit≤ tt) (lit≤ tt) (byte-round s cal meas b c)) ∙ w .flag;
+      flag = flag-reads lastAt (same-part (lit≤ tt) (lit≤ tt) (byte-round s cal meas b c)) ∙ w .flag;
     }) h)
     (omega arith) refl
 goes (Event cal meas event clock ∷ cs) a last s w h =
@@ -160,7 +160,7 @@ goes (Event cal meas event clock ∷ cs) a last s w h =
       fit = event-kept s cal meas event clock c;
       waits = event-waits s cal meas event clock ∙ w .waits;
       answer = event-answer s cal meas event clock ∙ w .answer;
-      flag = flag-reads 10 (same-part (lit≤ tt) (lit≤ tt) (event-front s cal meas event clock)) ∙ w .flag;
+      flag = flag-reads lastAt (same-part (lit≤ tt) (lit≤ tt) (event-front s cal meas event clock)) ∙ w .flag;
     }) h)
     (omega arith) refl
 goes (Slot out ∷ cs) a last s w h = elim (decLe room (length out)) [ yes r ↦ with-room r (goes cs) | no r ↦ without (lt-of-not-le r) (goes cs) ] where

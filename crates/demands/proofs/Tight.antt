@@ -10,18 +10,18 @@ use Rattle.line.specs.declared.Place.{Place}
 use Rattle.line.specs.declared.Taken.{Taken}
 use Rattle.line.specs.declared.Outcome.{Outcome}
 use Rattle.line.specs.declared.Written.{Written}
-use Rattle.session.specs.Layout.{size}
+use Rattle.state.specs.Layout.{size}
 use Rattle.session.specs.Receive.{Receives, receiveOf}
-use Rattle.session.specs.Event.{Happens, eventOf}
-use Rattle.session.specs.Slot.{Sends, slotOf}
+use Rattle.lists.specs.Event.{Happens, eventOf}
+use Rattle.lists.specs.Slot.{Sends, slotOf}
 use Rattle.session.specs.PowerUp.{Powers, powerUpOf}
-use Rattle.session.specs.Number.{receivedNumber, eventedNumber, slottedNumber, poweredUpNumber, receivedC, eventedC, slottedC, poweredUpC}
-use Rattle.session.specs.Generator.{startOf, nextOf}
-use Rattle.session.specs.declared.Generator.{Generator}
-use Rattle.session.specs.declared.Received.{Received}
-use Rattle.session.specs.declared.Evented.{Evented}
-use Rattle.session.specs.declared.Slotted.{Slotted}
-use Rattle.session.specs.declared.PoweredUp.{PoweredUp}
+use Rattle.words.specs.Number.{receivedNumber, eventedNumber, slottedNumber, poweredUpNumber, receivedC, eventedC, slottedC, poweredUpC}
+use Rattle.state.specs.Generator.{startOf, nextOf}
+use Rattle.state.specs.declared.Generator.{Generator}
+use Rattle.words.specs.declared.Received.{Received}
+use Rattle.words.specs.declared.Evented.{Evented}
+use Rattle.words.specs.declared.Slotted.{Slotted}
+use Rattle.words.specs.declared.PoweredUp.{PoweredUp}
 use Rattle.slave.specs.Returns as c
 use Rattle.demands.specs.Tight.{Tight}
 

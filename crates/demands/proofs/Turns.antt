@@ -1,31 +1,32 @@
 -- Whose turn it is has something waiting, and with a packet of a list waiting its turn comes. Assumes nothing.
-use Prim.Native.Nat.{ℕ, suc, _+_, _-_, _%_, _≤_, _<_}
+use borrow.Author.Tests.{ltb-false}
+use Prim.Native.Nat.{ℕ, suc, _+_, _-_, _%_, _≤_, _<_, zero}
 use mathlib.Core.Path.{_≡_, refl, sym, ap, _∙_, subst}
 use mathlib.Core.Logic.{_≢_}
-use mathlib.Core.Bool.{true, false}
+use mathlib.Core.Bool.{true, false, Bool}
 use mathlib.Core.List.{List, [], _∷_}
 use native.Mathlib.Omega.{arith}
 use native.Mathlib.Nat.{mod-lt}
 use native.Mathlib.Decide.{ℕ-discrete}
-use lib.Dec.{ltb, lit<}
+use lib.Dec.{ltb, lit<, eqb}
 use lib.ListN.{length, getD}
 use Rattle.line.proofs.Laws.{cond-ind}
-use Rattle.session.specs.Layout.{size, lists, servedAt, lastAt, firstOdt, listOf}
-use Rattle.session.specs.State.{flagOf, waits}
-use Rattle.session.specs.Lists.{runsOf, storedLength}
-use Rattle.session.specs.Slot.{packetIn, orElse, roundFrom, turnOf, packetOf, packetSent}
-use Rattle.session.specs.declared.Turn.{Turn}
-use Rattle.session.specs.declared.Turn.the-variants.{Nobody, Answer, Packet}
-use Rattle.session.proofs.Round.{or-holds, round-holds}
-use Rattle.demands.specs.Waiting.{packetAt, waitingOf}
+use Rattle.state.specs.Layout.{size, lists, servedAt, lastAt, firstOdt, listOf, allOdts, odtCount}
+use Rattle.state.specs.State.{flagOf, waits}
+use Rattle.lists.specs.Lists.{runsOf, storedLength}
+use Rattle.lists.specs.Slot.{packetIn, orElse, roundFrom, turnOf, packetOf, packetSent, firstStored}
+use Rattle.lists.specs.declared.Turn.{Turn}
+use Rattle.lists.specs.declared.Turn.the-variants.{Nobody, Answer, Packet}
+use Rattle.lists.proofs.Round.{or-holds, round-holds}
+use Rattle.demands.specs.Waiting.{packetsFrom, waitingOf}
 use Rattle.demands.proofs.Round.{packet-some, round-finds, Far, nearer}
-use Rattle.demands.proofs.Waiting.{sent-others, sent-first, sent-second}
+use Rattle.demands.proofs.Waiting.{Empty, none-from, sent-others, first-waits, first-sent, this-or-other}
 
 -- ODT k's packet is the next one of list j: what waits of the list, and what waits of it and of the others once it is sent
 pub record Next (s : List ℕ) (j k : ℕ) : Type 0 where
   pub list : listOf k ≡ j
   pub inside : j < lists
-  pub odt : k < 8
+  pub odt : k < allOdts
   pub some : ltb 0 (storedLength s k) ≡ true
   pub rest : List (List ℕ)
   pub waiting : waitingOf s j ≡ packetOf s k ∷ rest
@@ -38,50 +39,50 @@ pub data Has (s : List ℕ) (j : ℕ) : Turn → Type 0 where
   packet : (k : ℕ) → Next s j k → Has s j (Packet k)
 
 module _ (s : List ℕ) (h : length s ≡ size) (j : ℕ) (q : j < lists) where
-  first : runsOf s j ≡ true → ltb 0 (storedLength s (firstOdt j)) ≡ true → Next s j (firstOdt j)
-  first r a =
-      let w = sent-first s j h q r a in
+  next : runsOf s j ≡ true → (d n : ℕ) → d + suc n ≡ odtCount j → Empty s (firstOdt j) d → ltb 0 (storedLength s (firstOdt j + d)) ≡ true → Next s j (firstOdt j + d)
+  next r d n e none a =
       record {
         list = omega arith;
         inside = q;
         odt = omega arith;
         some = a;
-        rest = packetAt s (firstOdt j + 1);
-        waiting = w .0;
-        left = w .1;
-        others = λ l m n. sent-others s (firstOdt j) l m (omega arith) (omega arith);
+        rest = packetsFrom s (firstOdt j + d + 1) n;
+        waiting = first-waits s j d n h q r e none a;
+        left = first-sent s j d n h q r e none;
+        others = λ l m z. sent-others s (firstOdt j + d) l m (λ f. z (omega arith));
       }
 
-  second : runsOf s j ≡ true → ltb 0 (storedLength s (firstOdt j)) ≡ false → ltb 0 (storedLength s (firstOdt j + 1)) ≡ true → Next s j (firstOdt j + 1)
-  second r a b =
-      let w = sent-second s j h q r a b in
-      record {
-        list = omega arith;
-        inside = q;
-        odt = omega arith;
-        some = b;
-        rest = [];
-        waiting = w .0;
-        left = w .1;
-        others = λ l m n. sent-others s (firstOdt j + 1) l m (omega arith) (omega arith);
-      }
-
-  none-stored : runsOf s j ≡ true → ltb 0 (storedLength s (firstOdt j)) ≡ false → ltb 0 (storedLength s (firstOdt j + 1)) ≡ false → waitingOf s j ≡ []
+  none-stored : runsOf s j ≡ true → Empty s (firstOdt j) (odtCount j) → waitingOf s j ≡ []
   unfolding waitingOf
-  none-stored r a b = rw (r, a, b)
+  none-stored r none = rw r (none-from s (firstOdt j) (odtCount j) none)
 
   none-runs : runsOf s j ≡ false → waitingOf s j ≡ []
   unfolding waitingOf
   none-runs r = rw r
 
+  -- one ODT more without a packet
+  more : (d : ℕ) → Empty s (firstOdt j) d → ltb 0 (storedLength s (firstOdt j + d)) ≡ false → Empty s (firstOdt j) (suc d)
+  more d none a i z =
+      let last : storedLength s (firstOdt j + d) ≤ 0 = ltb-false 0 (storedLength s (firstOdt j + d)) a in
+      this-or-other i d (λ e. rw e (omega arith)) (λ other. none i (omega arith))
+
+  from : runsOf s j ≡ true → (d n : ℕ) → d + n ≡ odtCount j → Empty s (firstOdt j) d → Has s j (firstStored s (firstOdt j + d) n)
+  unfolding firstStored
+  from r d zero e none = nothing (none-stored r (let f : d ≡ odtCount j = omega arith in rw f at none))
+  from r d (suc n) e none =
+      let there : firstOdt j + suc d ≡ firstOdt j + d + 1 = omega arith in
+      cond-ind (Has s j) (ltb 0 (storedLength s (firstOdt j + d)))
+      (λ a. packet (firstOdt j + d) (next r d n e none a))
+      (λ a. rw there at (from r (suc d) n (omega arith) (more d none a)))
+
   pub has : Has s j (packetIn s j)
   unfolding packetIn
   has =
-      cond-ind (Has s j) (runsOf s j)
-      (λ r. cond-ind (Has s j) (ltb 0 (storedLength s (firstOdt j)))
-      (λ a. packet (firstOdt j) (first r a))
-      (λ a. cond-ind (Has s j) (ltb 0 (storedLength s (firstOdt j + 1))) (λ b. packet (firstOdt j + 1) (second r a b)) (λ b. nothing (none-stored r a b))))
-      (λ r. nothing (none-runs r))
+      let here : firstOdt j + 0 ≡ firstOdt j = omega arith in
+      cond-ind (Has s j) (runsOf s j) (λ r. rw here at (from r 0 (odtCount j) (omega arith) (λ i z. absurd (nothing-below i z)))) (λ r. nothing (none-runs r))
+    where
+      nothing-below : (i : ℕ) → i < 0 → ⊥
+      nothing-below i z = omega arith
 
 -- ---- whose turn it is has something waiting
 pub data Fair (s : List ℕ) : Turn → Type 0 where

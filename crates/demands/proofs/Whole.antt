@@ -10,16 +10,16 @@ use lib.Dec.{ltb, lit≤, lit<}
 use lib.ListN.{length, getD}
 use Rattle.line.specs.Message.{room}
 use Rattle.line.proofs.Laws.{cond-ind}
-use Rattle.session.specs.Layout.{size, lists, lastAt, servedAt}
-use Rattle.session.specs.State.{consistent, flagOf, ctrOf, answerOf}
+use Rattle.state.specs.Layout.{size, lists, lastAt, servedAt, ctrAt, placeAt, odtCount}
+use Rattle.state.specs.State.{consistent, flagOf, ctrOf, answerOf}
 use Rattle.session.specs.Receive.{receiveOf}
-use Rattle.session.specs.Event.{samplingOf, eventOf}
-use Rattle.session.specs.Slot.{turnOf, packetOf, answerSent, packetSent, slotOf}
-use Rattle.session.specs.declared.Sampling.{Sampling}
-use Rattle.session.specs.declared.Sampling.the-variants.{Idle, Sampled, Missed}
-use Rattle.session.specs.declared.Turn.{Turn}
-use Rattle.session.specs.declared.Turn.the-variants.{Answer, Packet}
-use Rattle.session.proofs.Consistent.{consistent-size}
+use Rattle.lists.specs.Event.{samplingOf, eventOf}
+use Rattle.lists.specs.Slot.{turnOf, packetOf, answerSent, packetSent, slotOf}
+use Rattle.lists.specs.declared.Sampling.{Sampling}
+use Rattle.lists.specs.declared.Sampling.the-variants.{Idle, Sampled, Missed}
+use Rattle.lists.specs.declared.Turn.{Turn}
+use Rattle.lists.specs.declared.Turn.the-variants.{Answer, Packet}
+use Rattle.state.proofs.Consistent.{consistent-size}
 use Rattle.fields.proofs.Readers.{Same, same-part, flag-reads}
 use Rattle.fields.proofs.Kept.{receive-kept, event-kept, slot-kept}
 use Rattle.demands.specs.Slave.{ours}
@@ -51,13 +51,13 @@ Later l cs = (far : ℕ) (last : Bool) (q : List (List ℕ)) (s : List ℕ) → 
     → Proceeds lists q far last (slots cs) (packetsIn l (frames ours s cs))
 
 -- a call that leaves the round and the list's packets
-seen-on : {l far : ℕ} {last : Bool} {q : List (List ℕ)} {s t : List ℕ} → consistent t ≡ true → Same 8 11 s t → waitingOf t l ≡ waitingOf s l → Seen l far last q s → Seen l far last q t
+seen-on : {l far : ℕ} {last : Bool} {q : List (List ℕ)} {s t : List ℕ} → consistent t ≡ true → Same ctrAt placeAt s t → waitingOf t l ≡ waitingOf s l → Seen l far last q s → Seen l far last q t
 seen-on {far = far} {s = s} {t = t} c r w x =
     record {
       fit = c;
       waiting = w ∙ x .waiting;
-      flag = flag-reads 10 (same-part (lit≤ tt) (lit≤ tt) r) ∙ x .flag;
-      turn = rw (r .byte 9 (lit≤ tt) (lit< tt)) (x .turn);
+      flag = flag-reads lastAt (same-part (lit≤ tt) (lit≤ tt) r) ∙ x .flag;
+      turn = rw (r .byte servedAt (lit≤ tt) (lit< tt)) (x .turn);
     }
 
 -- ---- a list with packets waiting gains none
@@ -177,12 +177,12 @@ leaves-all s l cs c h k e =
     (goes-so l h cs (f .far) (flagOf s lastAt) (waitingOf s l) s (record { fit = c; waiting = refl; flag = refl; turn = f .turn }) (f .some) (f .most) k)
     (f .some) (f .most) e
 
--- a sample is two packets at most
+-- a sample is a packet for each ODT at most
 pub sample-leaves : (s cal meas : List ℕ) (event clock l : ℕ) (cs : List Call) → consistent s ≡ true → event ≤ 1 → l < lists → samplingOf s l event ≡ Sampled
     → Undisturbed ours l (eventOf s cal meas event clock .state) cs → 16 ≤ slots cs
     → Begins (sampleOf s l clock cal meas) (packetsIn l (frames ours (eventOf s cal meas event clock .state) cs))
 sample-leaves s cal meas event clock l cs c one h x k e =
     let g : waitingOf (eventOf s cal meas event clock .state) l ≡ sampleOf s l clock cal meas = samples s cal meas event clock l c one h x in
-    let n : length (sampleOf s l clock cal meas) ≤ 2 = sample-length s l clock cal meas in
-    let m : length (waitingOf (eventOf s cal meas event clock .state) l) ≤ 2 = rw g n in
+    let n : length (sampleOf s l clock cal meas) ≤ odtCount l = sample-length s l clock cal meas in
+    let m : length (waitingOf (eventOf s cal meas event clock .state) l) ≤ odtCount l = rw g n in
     rw g at (leaves-all (eventOf s cal meas event clock .state) l cs (event-kept s cal meas event clock c) h k (omega arith))

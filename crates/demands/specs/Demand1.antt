@@ -5,11 +5,11 @@ use mathlib.Core.Path.{_≡_}
 use mathlib.Core.Logic.{_≢_}
 use mathlib.Core.Bool.{true, false}
 use mathlib.Core.List.{List}
-use lib.ListN.{length, getD, take}
+use lib.ListN.{length, getD}
 use Rattle.line.specs.Message.{room}
-use Rattle.session.specs.Layout.{placeAt, answerAt, size}
-use Rattle.session.specs.State.{consistent, closed, answerOf}
-use Rattle.session.specs.Number.{receivedNumber, eventedNumber, slottedNumber, poweredUpNumber}
+use Rattle.state.specs.Layout.{placeAt, answerAt, size, sessionAt}
+use Rattle.state.specs.State.{consistent, closed, answerOf}
+use Rattle.words.specs.Number.{receivedNumber, eventedNumber, slottedNumber, poweredUpNumber}
 use Rattle.demands.specs.Slave.{Slave}
 use Rattle.demands.specs.Heard.{readBy, Commands, wrongKey, wrongKeyAt}
 use Rattle.demands.specs.Waiting.{AllBut}
@@ -26,14 +26,14 @@ pub record Refused (v : Slave) (s cal meas : List ℕ) (b : ℕ) : Type 0 where
 
 pub record Demand1 (v : Slave) : Type 0 where
   -- a refused command, a wrong key apart, changes the reader's place and the answer alone
-  pub refused : (s cal meas : List ℕ) (b : ℕ) → consistent s ≡ true → Refused v s cal meas b → wrongKeyAt s b ≡ false → ChangesOnly placeAt size v s cal meas b
+  pub refused : (s cal meas : List ℕ) (b : ℕ) → consistent s ≡ true → Refused v s cal meas b → wrongKeyAt s b ≡ false → ChangesOnly placeAt sessionAt v s cal meas b
   -- after a wrong key every state byte but the answer is DISCONNECT's, which closes the session; and no memory byte has changed
   pub wrongKeyEnds : (s cal meas : List ℕ) (b : ℕ) (p : List ℕ) → consistent s ≡ true → Commands s b p → wrongKey p s ≡ true
-      → AllBut answerAt size (closed (readBy s b)) (v .receive s cal meas b .state) × (v .receive s cal meas b .cal ≡ cal)
-  -- so it leaves the session as DISCONNECT itself does; in the reader's place are the command's own bytes
-  pub asDisconnect : (s t cal meas cal′ meas′ : List ℕ) (b c : ℕ) (p q : List ℕ) → consistent s ≡ true → consistent t ≡ true → take placeAt s ≡ take placeAt t
+      → AllBut answerAt sessionAt (closed (readBy s b)) (v .receive s cal meas b .state) × (v .receive s cal meas b .cal ≡ cal)
+  -- so it leaves all as DISCONNECT itself does, but for the reader's place, where the command's own bytes are, and the answer
+  pub asDisconnect : (s t cal meas cal′ meas′ : List ℕ) (b c : ℕ) (p q : List ℕ) → consistent s ≡ true → consistent t ≡ true → AllBut placeAt sessionAt s t
       → Commands s b p → wrongKey p s ≡ true → Commands t c q → getD q 0 0 ≡ 0xFE
-      → take placeAt (v .receive s cal meas b .state) ≡ take placeAt (v .receive t cal′ meas′ c .state)
+      → AllBut placeAt sessionAt (v .receive s cal meas b .state) (v .receive t cal′ meas′ c .state)
   -- the numbers 0 and 2 to 7 of a byte change the reader's place alone
   pub unanswered : (s cal meas : List ℕ) (b : ℕ) → consistent s ≡ true → receivedNumber (v .receive s cal meas b .received) ≢ 1 → ChangesOnly placeAt answerAt v s cal meas b
   -- 10 is for a state that is not consistent, and changes nothing

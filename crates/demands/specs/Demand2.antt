@@ -11,21 +11,21 @@ use Rattle.line.specs.Message.{longest, room, frame}
 use Rattle.line.specs.Run as line
 use Rattle.line.specs.Wire.{heard}
 use Rattle.line.specs.declared.Place.{Place}
-use Rattle.session.specs.Layout.{lists, odts, addressable, sampleSize, placeAt, sampleAt, firstOdt, size}
-use Rattle.session.specs.Bytes.{block}
-use Rattle.session.specs.State.{consistent, ctrOf, openOf, unlockedOf, seedOf, mtaOf, answerOf}
+use Rattle.state.specs.Layout.{lists, odts, addressable, sampleSize, sampleAt, firstOdt, size}
+use Rattle.state.specs.Bytes.{block}
+use Rattle.state.specs.State.{consistent, ctrOf, openOf, unlockedOf, seedOf, mtaOf, answerOf}
 use Rattle.session.specs.Receive.{Step, fedOf, receivedBy}
-use Rattle.session.specs.Event.{samplingOf, captured}
-use Rattle.session.specs.Slot.{turnOf, sentBy}
+use Rattle.lists.specs.Event.{samplingOf, captured}
+use Rattle.lists.specs.Slot.{turnOf, sentBy}
 use Rattle.session.specs.PowerUp.{powered}
-use Rattle.session.specs.Number.{slottedValue}
-use Rattle.session.specs.declared.Resource.{Resource}
-use Rattle.session.specs.declared.Resource.the-variants.{Calibration, Lists}
-use Rattle.session.specs.declared.Extension.the-variants.{Calibration as CalibrationMemory}
-use Rattle.session.specs.declared.Mta.the-variants.{At}
-use Rattle.session.specs.declared.Seed.the-variants.{For}
-use Rattle.session.specs.declared.Sampling.the-variants.{Sampled}
-use Rattle.session.specs.declared.Evented.the-variants.{Done}
+use Rattle.words.specs.Number.{slottedValue}
+use Rattle.words.specs.declared.Resource.{Resource}
+use Rattle.words.specs.declared.Resource.the-variants.{Calibration, Lists}
+use Rattle.words.specs.declared.Extension.the-variants.{Calibration as CalibrationMemory}
+use Rattle.words.specs.declared.Mta.the-variants.{At}
+use Rattle.words.specs.declared.Seed.the-variants.{For}
+use Rattle.lists.specs.declared.Sampling.the-variants.{Sampled}
+use Rattle.words.specs.declared.Evented.the-variants.{Done}
 use Rattle.demands.specs.Slave.{Slave}
 use Rattle.demands.specs.Runs.{Call, Byte, Event, Slot, Elsewhere, sends, each, frames}
 use Rattle.demands.specs.Heard.{Commands, bringsKey, keyMatches}
@@ -130,4 +130,4 @@ pub record Demand2 (v : Slave) : Type 0 where
   -- no other byte of the state changes
   pub others : (s cal meas : List ℕ) (event clock l : ℕ) → consistent s ≡ true → l < lists → samplingOf s l event ≢ Sampled
       → block (v .event s cal meas event clock .state) (sampleAt (firstOdt l)) storeSize ≡ block s (sampleAt (firstOdt l)) storeSize
-  pub storesOnly : (s cal meas : List ℕ) (event clock : ℕ) → AllBut (sampleAt 0) placeAt s (v .event s cal meas event clock .state)
+  pub storesOnly : (s cal meas : List ℕ) (event clock : ℕ) → AllBut (sampleAt 0) size s (v .event s cal meas event clock .state)

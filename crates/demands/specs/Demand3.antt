@@ -6,11 +6,11 @@ use mathlib.Core.Option.{some}
 use mathlib.Core.List.{List, [], _∷_, _++_}
 use lib.ListN.{length}
 use Rattle.line.specs.Message.{most, room, frame}
-use Rattle.session.specs.Layout.{lists, placeAt, answerAt}
-use Rattle.session.specs.State.{consistent, ctrOf, openOf, waits, answerOf}
-use Rattle.session.specs.Event.{samplingOf}
-use Rattle.session.specs.declared.Received.the-variants.{Answered, Unread}
-use Rattle.session.specs.declared.Sampling.the-variants.{Sampled}
+use Rattle.state.specs.Layout.{lists, placeAt, answerAt}
+use Rattle.state.specs.State.{consistent, ctrOf, openOf, waits, answerOf}
+use Rattle.lists.specs.Event.{samplingOf}
+use Rattle.words.specs.declared.Received.the-variants.{Answered, Unread}
+use Rattle.lists.specs.declared.Sampling.the-variants.{Sampled}
 use Rattle.demands.specs.Slave.{Slave}
 use Rattle.demands.specs.Runs.{Call, Byte, Event, Slot, Elsewhere, after, run, frames, sends, slots, received}
 use Rattle.demands.specs.Heard.{packetEnded, readBy, answerTo, stopsAt}

@@ -8,18 +8,18 @@ use lib.Dec.{eqb, ltb}
 use lib.ListN.{length, getD}
 use Rattle.line.specs.declared.Outcome.{Outcome}
 use Rattle.line.specs.declared.Outcome.the-variants.{Nothing, Good, BadLength, BadEscape, BadChecksum, CutOff, ShortBuffer}
-use Rattle.session.specs.Layout.{selectedAt}
-use Rattle.session.specs.Bytes.{block, u32At}
-use Rattle.session.specs.Generator.{keyOf}
-use Rattle.session.specs.State.{flagOf, openOf, generatorOf, seedOf, waits}
-use Rattle.session.specs.Judge.{judge}
+use Rattle.state.specs.Layout.{selectedAt}
+use Rattle.state.specs.Bytes.{block, u32At}
+use Rattle.state.specs.Generator.{keyOf}
+use Rattle.state.specs.State.{flagOf, openOf, generatorOf, seedOf, waits}
+use Rattle.session.specs.Look.{judgeOf}
 use Rattle.session.specs.Perform.{reply}
 use Rattle.session.specs.Receive.{goodConnect, fedOf, readOn}
-use Rattle.session.specs.declared.Resource.{Resource}
-use Rattle.session.specs.declared.Seed.{Seed}
-use Rattle.session.specs.declared.Seed.the-variants.{None, For}
-use Rattle.session.specs.declared.Deed.{Deed}
-use Rattle.session.specs.declared.Deed.the-variants.{Refuse, RefuseSize, WrongKey, Connect, Disconnect, Status, Synch, NoSeed, GiveSeed, Unlock, SetMta, Upload, ShortUpload, Checksum, Download, ClearList, SetPointer, ClearEntry, WriteEntry, SetMode, Stop, Start, KeepRunning, Select, StopAll, StartSelected, StopSelected, ProcessorInfo, ResolutionInfo}
+use Rattle.words.specs.declared.Resource.{Resource}
+use Rattle.words.specs.declared.Seed.{Seed}
+use Rattle.words.specs.declared.Seed.the-variants.{None, For}
+use Rattle.judge.specs.declared.Deed.{Deed}
+use Rattle.judge.specs.declared.Deed.the-variants.{Refuse, RefuseSize, WrongKey, Connect, Disconnect, Status, Synch, NoSeed, GiveSeed, Unlock, SetMta, Upload, ShortUpload, Checksum, Download, ClearList, SetPointer, ClearEntry, WriteEntry, SetMode, Stop, Start, KeepRunning, Select, StopAll, StartSelected, StopSelected, ProcessorInfo, ResolutionInfo}
 
 -- the packet of a good message that has just ended
 abbrev pub packetBy : Outcome → List ℕ → Option (List ℕ)
@@ -46,7 +46,7 @@ pub record Commands (s : List ℕ) (b : ℕ) (p : List ℕ) : Type 0 where
 
 -- what command p is judged to lead to, and its answer
 abbrev pub deedOf : List ℕ → List ℕ → List ℕ → List ℕ → Deed
-deedOf p s cal meas = judge p s (length cal) (length meas)
+deedOf p s cal meas = judgeOf p s (length cal) (length meas)
 
 abbrev pub answerTo : List ℕ → List ℕ → List ℕ → List ℕ → List ℕ
 answerTo p s cal meas = reply (deedOf p s cal meas) s cal meas

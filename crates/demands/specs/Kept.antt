@@ -4,11 +4,11 @@ use mathlib.Core.Path.{_≡_}
 use mathlib.Core.Bool.{true, cond}
 use mathlib.Core.List.{List, [], _∷_, _++_}
 use lib.Dec.{ltb}
-use Rattle.session.specs.Layout.{lists}
-use Rattle.session.specs.State.{consistent, answerOf}
-use Rattle.session.specs.Event.{samplingOf}
-use Rattle.session.specs.declared.Received.{Received}
-use Rattle.session.specs.declared.Received.the-variants.{Nothing, Answered, Silent, BadLength, BadEscape, BadChecksum, Unread, CutOff, NoState}
+use Rattle.state.specs.Layout.{lists}
+use Rattle.state.specs.State.{consistent, answerOf}
+use Rattle.lists.specs.Event.{samplingOf}
+use Rattle.words.specs.declared.Received.{Received}
+use Rattle.words.specs.declared.Received.the-variants.{Nothing, Answered, Silent, BadLength, BadEscape, BadChecksum, Unread, CutOff, NoState}
 use Rattle.demands.specs.Slave.{Slave}
 use Rattle.demands.specs.Runs.{Call, Byte, Event, Slot, Elsewhere, run, sends, each, frames}
 use Rattle.demands.specs.Heard.{stopsAt}

@@ -1,7 +1,6 @@
 -- The customer's three demands, of any slave. `Slave`: what a slave is; `Runs`: calls in any order. `Heard`: what a received byte means.
 -- `Waiting`: what waits, and what a sample is. `Numbers`: which answers share a number. `Demand1`, `Demand2`, `Demand3`: what the letter demands;
--- `Ranking`: what the bound of a sample rests on; `Kept`: that nothing is lost and nothing invented; `Tight`: how tight a promise is. `Wrong`: slaves
--- that fail one of these. `Exchange`: commands on the bench. `Table`: the bench sheet.
+-- `Ranking`: what the bound of a sample rests on; `Kept`: that nothing is lost and nothing invented; `Tight`: how tight a promise is.
 pub mod Slave
 pub mod Runs
 pub mod Heard
@@ -13,6 +12,3 @@ pub mod Demand3
 pub mod Ranking
 pub mod Kept
 pub mod Tight
-pub mod Exchange
-pub mod Wrong
-pub mod Table

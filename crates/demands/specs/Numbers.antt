@@ -1,10 +1,10 @@
 -- Which answers of one call share a number, and which reasons of a refusal share a code: those of one sort, and no others.
-use Rattle.session.specs.declared.Evented.{Evented}
-use Rattle.session.specs.declared.Evented.the-variants as event
-use Rattle.session.specs.declared.Slotted.{Slotted}
-use Rattle.session.specs.declared.Slotted.the-variants as slot
-use Rattle.session.specs.declared.Reason.{Reason}
-use Rattle.session.specs.declared.Reason.the-variants.{Unknown, TooShort, Locked, Sequence, OutOfRange, DataMissing, ListRuns, ReadOnly, NotInside, CannotStart, WrongKey}
+use Rattle.words.specs.declared.Evented.{Evented}
+use Rattle.words.specs.declared.Evented.the-variants as event
+use Rattle.words.specs.declared.Slotted.{Slotted}
+use Rattle.words.specs.declared.Slotted.the-variants as slot
+use Rattle.words.specs.declared.Reason.{Reason}
+use Rattle.words.specs.declared.Reason.the-variants.{Unknown, TooShort, Locked, Sequence, OutOfRange, DataMissing, ListRuns, ReadOnly, NotInside, CannotStart, WrongKey}
 
 -- an event that is done, whatever it counted
 abbrev pub eventSort : Evented → Evented

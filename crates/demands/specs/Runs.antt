@@ -5,8 +5,8 @@ use mathlib.Core.List.{List, [], _∷_, _++_}
 use lib.Dec.{leb}
 use lib.ListN.{length, take}
 use Rattle.line.specs.Message.{room}
-use Rattle.session.specs.declared.Slotted.{Slotted}
-use Rattle.session.specs.declared.Slotted.the-variants.{Idle, Sent, NoRoom, NoState}
+use Rattle.words.specs.declared.Slotted.{Slotted}
+use Rattle.words.specs.declared.Slotted.the-variants.{Idle, Sent, NoRoom, NoState}
 use Rattle.demands.specs.Slave.{Slave}
 
 -- a call: a byte or an event, with the calibration and the measured memory that are lent to it; a slot, with the bytes lent to it; or any

@@ -2,8 +2,8 @@
 use Prim.Native.Nat.{ℕ}
 use mathlib.Core.List.{List}
 use Rattle.session.specs.Receive.{Step, receiveOf}
-use Rattle.session.specs.Event.{Happened, eventOf}
-use Rattle.session.specs.Slot.{Slot, slotOf}
+use Rattle.lists.specs.Event.{Happened, eventOf}
+use Rattle.lists.specs.Slot.{Slot, slotOf}
 use Rattle.session.specs.PowerUp.{Power, powerUpOf}
 
 pub record Slave : Type 0 where

@@ -1,21 +1,21 @@
 -- What waits to be sent, what a frame carries, and what a sample is.
-use Prim.Native.Nat.{ℕ, _+_, _/_, _%_}
+use Prim.Native.Nat.{ℕ, zero, suc, _+_}
 use mathlib.Core.Path.{_≡_}
 use mathlib.Core.Bool.{Bool, true, false, cond}
 use mathlib.Core.List.{List, [], _∷_, _++_}
 use lib.Dec.{eqb, ltb, leb}
 use lib.ListN.{length, getD, take, drop}
 use Rattle.line.specs.Wire.{unstuff}
-use Rattle.session.specs.Layout.{firstOdt, listOf, entryCount}
-use Rattle.session.specs.Bytes.{block}
-use Rattle.session.specs.State.{waits, answerOf}
-use Rattle.session.specs.Lists.{runsOf, storedLength}
-use Rattle.session.specs.Event.{gathered}
-use Rattle.session.specs.Slot.{packetOf}
-use Rattle.session.specs.declared.Sampling.{Sampling}
-use Rattle.session.specs.declared.Sampling.the-variants.{Idle, Sampled, Missed}
-use Rattle.session.specs.declared.Turn.{Turn}
-use Rattle.session.specs.declared.Turn.the-variants.{Nobody, Answer, Packet}
+use Rattle.state.specs.Layout.{firstOdt, odtCount, listOf}
+use Rattle.state.specs.Bytes.{block}
+use Rattle.state.specs.State.{waits, answerOf}
+use Rattle.lists.specs.Lists.{runsOf, storedLength}
+use Rattle.lists.specs.Event.{contentsOf}
+use Rattle.lists.specs.Slot.{packetOf}
+use Rattle.lists.specs.declared.Sampling.{Sampling}
+use Rattle.lists.specs.declared.Sampling.the-variants.{Idle, Sampled, Missed}
+use Rattle.lists.specs.declared.Turn.{Turn}
+use Rattle.lists.specs.declared.Turn.the-variants.{Nobody, Answer, Packet}
 
 -- t is s, but for the bytes from lo up to hi
 pub record AllBut (lo hi : ℕ) (s t : List ℕ) : Type 0 where
@@ -31,9 +31,14 @@ waitingAnswer s = cond (waits s) (answerOf s ∷ []) []
 abbrev pub packetAt : List ℕ → ℕ → List (List ℕ)
 packetAt s k = cond (ltb 0 (storedLength s k)) (packetOf s k ∷ []) []
 
+-- those of the n ODTs from k on
+unfoldable pub packetsFrom : List ℕ → ℕ → ℕ → List (List ℕ)
+packetsFrom s k zero = []
+packetsFrom s k (suc n) = packetAt s k ++ packetsFrom s (k + 1) n
+
 -- the packets of list l that wait, in the order in which they leave
 unfoldable pub waitingOf : List ℕ → ℕ → List (List ℕ)
-waitingOf s l = cond (runsOf s l) (packetAt s (firstOdt l) ++ packetAt s (firstOdt l + 1)) []
+waitingOf s l = cond (runsOf s l) (packetsFrom s (firstOdt l) (odtCount l)) []
 
 -- the packet of whose turn it is
 abbrev pub packetFor : Turn → List ℕ → List (List ℕ)
@@ -41,16 +46,18 @@ packetFor Nobody s = []
 packetFor Answer s = answerOf s ∷ []
 packetFor (Packet k) s = packetOf s k ∷ []
 
--- ---- a sample of list l: the packet of ODT 0 is twice the list's number, the clock, and its bytes in entry order; that of ODT 1, only if it has
--- bytes, is that number plus 1 and its bytes; each byte as the memories hold it, 0 if not inside
-abbrev pub second : ℕ → List ℕ → List (List ℕ)
-second k [] = []
-second k (b ∷ bs) = (k ∷ b ∷ bs) ∷ []
+-- ---- a sample of list l, a packet for each of its ODTs that has something to send: the ODT's number, in the first ODT the clock, and the bytes in
+-- entry order, each as the memories hold it, 0 if not inside. So the first ODT always has one, a later one only if it has bytes
+abbrev pub packetWith : ℕ → List ℕ → List (List ℕ)
+packetWith k [] = []
+packetWith k (b ∷ bs) = (k ∷ b ∷ bs) ∷ []
 
-unfoldable pub sampleOf : List ℕ → ℕ → ℕ → List ℕ → List ℕ → List (List ℕ)
-sampleOf s l clock cal meas =
-    (firstOdt l ∷ clock % 256 ∷ clock / 256 % 256 ∷ gathered s (firstOdt l) cal meas (entryCount (firstOdt l)))
-    ∷ second (firstOdt l + 1) (gathered s (firstOdt l + 1) cal meas (entryCount (firstOdt l + 1)))
+unfoldable pub sampleFrom : List ℕ → ℕ → ℕ → List ℕ → List ℕ → ℕ → List (List ℕ)
+sampleFrom s k clock cal meas zero = []
+sampleFrom s k clock cal meas (suc n) = packetWith k (contentsOf s k clock cal meas) ++ sampleFrom s (k + 1) clock cal meas n
+
+abbrev pub sampleOf : List ℕ → ℕ → ℕ → List ℕ → List ℕ → List (List ℕ)
+sampleOf s l clock cal meas = sampleFrom s (firstOdt l) clock cal meas (odtCount l)
 
 abbrev pub isSampled : Sampling → Bool
 isSampled Idle = false

@@ -1,14 +1,14 @@
 // The customer's three demands, as theorems over every run of calls. Here each public call of the session
 // is tied to `ours`, the slave of which they are proved.
 ghost use Rattle.session.specs.Receive.{Receives};
-ghost use Rattle.session.specs.Event.{Happens};
-ghost use Rattle.session.specs.Slot.{Sends};
+ghost use Rattle.lists.specs.Event.{Happens};
+ghost use Rattle.lists.specs.Slot.{Sends};
 ghost use Rattle.session.specs.PowerUp.{Powers};
 ghost use Rattle.demands.specs.Slave.{ours};
-use session::Evented;
-use session::PoweredUp;
-use session::Received;
-use session::Slotted;
+use words::Evented;
+use words::PoweredUp;
+use words::Received;
+use words::Slotted;
 
 pub fn power_up(state: &mut [u8], start: u32) -> PoweredUp
     ensures { λ r. ⌜ Powers (ours .powerUp (now (state .entry)) start) r (now (state .exit)) ⌝ }

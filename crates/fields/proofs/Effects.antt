@@ -1,5 +1,5 @@
 -- What a deed changes of the state, and that its answer is read as it was given. Assumes nothing.
-use Prim.Native.Nat.{ℕ, zero, suc, _+_, _*_, _≤_, _<_}
+use Prim.Native.Nat.{ℕ, zero, suc, _+_, _*_, _%_, _≤_, _<_}
 use mathlib.Core.Path.{_≡_, _∙_}
 use mathlib.Core.Bool.{Bool, true, cond}
 use mathlib.Core.List.{List, _∷_}
@@ -7,55 +7,57 @@ use native.Mathlib.Omega.{arith}
 use lib.Dec.{T, leb, lit≤}
 use lib.ListN.{length, getD, set, length-take}
 use Rattle.line.proofs.Laws.{cond-ind}
-use Rattle.session.specs.Layout.{size, modeAt, selectedAt, runningAt, entriesAt, entryAt, sampleAt, firstOdt, listOf, lists, entries, allOdts, packetMost, uploadMost, listSize, entrySize, odtSize, odts}
-use Rattle.session.specs.Bytes.{block, cleared}
-use Rattle.session.specs.Generator.{nextOf}
-use Rattle.session.specs.Memory.{pick}
-use Rattle.session.specs.State.{flagOf, generatorOf, setGenerator, lockAt, setSeed, setMta, setPointer, placeOf, messageOf, waits, answerOf}
-use Rattle.session.specs.Lists.{runsOf, switched, listCleared, modeSet, tagOf, entryCleared, entrySet, stopEach, startOne, startSelected, stopSelected}
-use Rattle.session.specs.Doable.{Doable}
+use Rattle.state.specs.Layout.{size, generatorAt, ctrAt, sessionAt, seedAt, mtaAt, modeAt, selectedAt, runningAt, entriesAt, entryAt, sampleAt, firstOdt, odtCount, listOf, lists, entryCount, allOdts, packetMost, uploadMost, listSize, entrySize, odtSize}
+use Rattle.state.specs.Bytes.{block, cleared}
+use Rattle.state.specs.Generator.{nextOf}
+use Rattle.state.specs.Memory.{pick}
+use Rattle.state.specs.State.{flagOf, generatorOf, setGenerator, lockAt, setSeed, setMta, setPointer, placeOf, messageOf, waits, answerOf}
+use Rattle.lists.specs.Lists.{runsOf, dropped, switched, listCleared, modeSet, tagOf, entryCleared, entrySet, stopEach, startOne, startSelected, stopSelected}
+use Rattle.judge.specs.Doable.{Doable}
 use Rattle.session.specs.Perform.{nextEntry, effect, reply, after}
-use Rattle.session.specs.declared.Extension.{Extension}
-use Rattle.session.specs.declared.Seed.the-variants.{None, For}
-use Rattle.session.specs.declared.Mta.{Mta}
-use Rattle.session.specs.declared.Pointer.{Pointer}
-use Rattle.session.specs.declared.Deed.{Deed}
-use Rattle.session.specs.declared.Deed.the-variants.{Refuse, RefuseSize, WrongKey, Connect, Disconnect, Status, Synch, NoSeed, GiveSeed, Unlock, SetMta, Upload, ShortUpload, Checksum, Download, ClearList, SetPointer, ClearEntry, WriteEntry, SetMode, Stop, Start, KeepRunning, Select, StopAll, StartSelected, StopSelected, ProcessorInfo, ResolutionInfo}
+use Rattle.words.specs.declared.Extension.{Extension}
+use Rattle.words.specs.declared.Seed.the-variants.{None, For}
+use Rattle.words.specs.declared.Mta.{Mta}
+use Rattle.words.specs.declared.Pointer.{Pointer}
+use Rattle.judge.specs.declared.Deed.{Deed}
+use Rattle.judge.specs.declared.Deed.the-variants.{Refuse, RefuseSize, WrongKey, Connect, Disconnect, Status, Synch, NoSeed, GiveSeed, Unlock, SetMta, Upload, ShortUpload, Checksum, Download, ClearList, SetPointer, ClearEntry, WriteEntry, SetMode, Stop, Start, KeepRunning, Select, StopAll, StartSelected, StopSelected, ProcessorInfo, ResolutionInfo}
 use Rattle.fields.proofs.Fields.{kindly, Answering, answer-same, waits-answered}
 use Rattle.fields.proofs.Frames.{Only, only-none, only-then, only-wider, only-set, only-put16, only-cleared, only-generator, only-lock, only-seed, only-mta, only-pointer, only-closed, only-fresh}
-use Rattle.fields.proofs.Readers.{Same, apart, same-then, place-reads, message-reads}
+use Rattle.fields.proofs.Readers.{Same, apart, same-then, same-part, place-reads, message-reads}
 
 -- ---- the lists' changes
 only-cond : {lo hi : ℕ} {s t u : List ℕ} (b : Bool) → Only lo hi s t → Only lo hi s u → Only lo hi s (cond b t u)
 only-cond {lo} {hi} {s} b p q = cond-ind (Only lo hi s) b (λ _. p) (λ _. q)
 
-pub only-switched : (s : List ℕ) (l on : ℕ) → l < lists → Only 21 225 s (switched s l on)
+only-dropped : (s : List ℕ) (k n : ℕ) → k + n ≤ allOdts → Only (modeAt 0) size s (dropped s k n)
+unfolding dropped
+only-dropped s k zero h = only-none
+only-dropped s k (suc n) h = only-then (only-dropped s k n (omega arith)) (only-set (dropped s k n) (sampleAt (k + n)) 0 (omega arith) (omega arith))
+
+pub only-switched : (s : List ℕ) (l on : ℕ) → l < lists → Only (modeAt 0) size s (switched s l on)
 unfolding switched
 only-switched s l on h =
-    let s₁ : List ℕ = set s (runningAt l) on in
-    let s₂ : List ℕ = set s₁ (sampleAt (firstOdt l)) 0 in
-    only-then (only-set s (runningAt l) on (omega arith) (omega arith))
-    (only-then (only-set s₁ (sampleAt (firstOdt l)) 0 (omega arith) (omega arith)) (only-set s₂ (sampleAt (firstOdt l + 1)) 0 (omega arith) (omega arith)))
+    only-then (only-set s (runningAt l) on (omega arith) (omega arith)) (only-dropped (set s (runningAt l) on) (firstOdt l) (odtCount l) (omega arith))
 
-only-deselected : {s t : List ℕ} (l : ℕ) → l < lists → Only 21 225 s t → Only 21 225 s (set t (selectedAt l) 0)
+only-deselected : {s t : List ℕ} (l : ℕ) → l < lists → Only (modeAt 0) size s t → Only (modeAt 0) size s (set t (selectedAt l) 0)
 only-deselected {s} {t} l h w = only-then w (only-set t (selectedAt l) 0 (omega arith) (omega arith))
 
-pub only-listCleared : (s : List ℕ) (l : ℕ) → l < lists → Only 21 161 s (listCleared s l)
+pub only-listCleared : (s : List ℕ) (l : ℕ) → l < lists → Only (modeAt 0) (sampleAt 0) s (listCleared s l)
 unfolding listCleared
 only-listCleared s l h =
-    only-then (only-cleared s (modeAt l) listSize (omega arith) (omega arith)) (only-cleared (cleared s (modeAt l) listSize) (entriesAt (firstOdt l)) (odts * odtSize) (omega arith) (omega arith))
+    only-then (only-cleared s (modeAt l) listSize (omega arith) (omega arith)) (only-cleared (cleared s (modeAt l) listSize) (entriesAt (firstOdt l)) (odtCount l * odtSize) (omega arith) (omega arith))
 
-pub only-modeSet : (s : List ℕ) (l event : ℕ) → l < lists → Only 21 33 s (modeSet s l event)
+pub only-modeSet : (s : List ℕ) (l event : ℕ) → l < lists → Only (modeAt 0) (entriesAt 0) s (modeSet s l event)
 unfolding modeSet
 only-modeSet s l event h =
-    only-then (only-set s (modeAt l) (event + 1) (omega arith) (omega arith)) (only-set (set s (modeAt l) (event + 1)) (runningAt l) 0 (omega arith) (omega arith))
+    only-then (only-set s (modeAt l) ((event + 1) % 256) (omega arith) (omega arith)) (only-set (set s (modeAt l) ((event + 1) % 256)) (runningAt l) 0 (omega arith) (omega arith))
 
-pub only-entryCleared : (s : List ℕ) (l k e : ℕ) → l < lists → k < allOdts → e < entries → Only 21 161 s (entryCleared s l k e)
+pub only-entryCleared : (s : List ℕ) (l k e : ℕ) → l < lists → k < allOdts → e < entryCount k → Only (modeAt 0) (sampleAt 0) s (entryCleared s l k e)
 unfolding entryCleared
 only-entryCleared s l k e h p q =
     only-then (only-set s (runningAt l) 0 (omega arith) (omega arith)) (only-cleared (set s (runningAt l) 0) (entryAt k e) entrySize (omega arith) (omega arith))
 
-pub only-entrySet : (s : List ℕ) (l k e n : ℕ) (x : Extension) (a : ℕ) → l < lists → k < allOdts → e < entries → Only 21 161 s (entrySet s l k e n x a)
+pub only-entrySet : (s : List ℕ) (l k e n : ℕ) (x : Extension) (a : ℕ) → l < lists → k < allOdts → e < entryCount k → Only (modeAt 0) (sampleAt 0) s (entrySet s l k e n x a)
 unfolding entrySet
 only-entrySet s l k e n x a h p q =
     let s₁ : List ℕ = set s (runningAt l) 0 in
@@ -65,22 +67,22 @@ only-entrySet s l k e n x a h p q =
     (only-then (only-set s₁ (entryAt k e) n (omega arith) (omega arith))
     (only-then (only-set s₂ (entryAt k e + 1) (tagOf x) (omega arith) (omega arith)) (only-put16 s₃ (entryAt k e + 2) a (omega arith) (omega arith))))
 
-pub only-stopEach : (s : List ℕ) (n : ℕ) → n ≤ lists → Only 21 225 s (stopEach s n)
+pub only-stopEach : (s : List ℕ) (n : ℕ) → n ≤ lists → Only (modeAt 0) size s (stopEach s n)
 unfolding stopEach
 only-stopEach s zero h = only-none
 only-stopEach s (suc n) h =
     only-deselected n (omega arith) (only-then (only-stopEach s n (omega arith)) (only-switched (stopEach s n) n 0 (omega arith)))
 
-only-startOne : (s : List ℕ) (l : ℕ) → l < lists → Only 21 225 s (startOne s l)
+only-startOne : (s : List ℕ) (l : ℕ) → l < lists → Only (modeAt 0) size s (startOne s l)
 only-startOne s l h = only-cond (flagOf s (selectedAt l)) (only-cond (runsOf s l) only-none (only-switched s l 1 h)) only-none
 
-pub only-startSelected : (s : List ℕ) (n : ℕ) → n ≤ lists → Only 21 225 s (startSelected s n)
+pub only-startSelected : (s : List ℕ) (n : ℕ) → n ≤ lists → Only (modeAt 0) size s (startSelected s n)
 unfolding startSelected
 only-startSelected s zero h = only-none
 only-startSelected s (suc n) h =
     only-deselected n (omega arith) (only-then (only-startSelected s n (omega arith)) (only-startOne (startSelected s n) n (omega arith)))
 
-pub only-stopSelected : (s : List ℕ) (n : ℕ) → n ≤ lists → Only 21 225 s (stopSelected s n)
+pub only-stopSelected : (s : List ℕ) (n : ℕ) → n ≤ lists → Only (modeAt 0) size s (stopSelected s n)
 unfolding stopSelected
 only-stopSelected s zero h = only-none
 only-stopSelected s (suc n) h =
@@ -91,12 +93,12 @@ only-stopSelected s (suc n) h =
 -- ---- the deeds
 -- t differs from s in the generator and the session alone: not in the mark, the CTR, the round, the reader or the answer
 pub record Effected (s t : List ℕ) : Type 0 where
-  pub range : Only 4 225 s t
-  pub round : Same 8 11 s t
+  pub range : Only generatorAt size s t
+  pub between : Same ctrAt sessionAt s t
 
 -- the session alone
-within : {s t : List ℕ} → Only 11 225 s t → Effected s t
-within w = record { range = only-wider (lit≤ tt) (lit≤ tt) w; round = apart tt w }
+within : {s t : List ℕ} → Only sessionAt size s t → Effected s t
+within w = record { range = only-wider (lit≤ tt) (lit≤ tt) w; between = apart tt w }
 
 none : {s : List ℕ} → Effected s s
 none = within only-none
@@ -104,11 +106,11 @@ none = within only-none
 mta : (s : List ℕ) (m : Mta) → Effected s (setMta s m)
 mta s m = within (only-wider (lit≤ tt) (lit≤ tt) (only-mta s m))
 
-pointer : {s t : List ℕ} (p : Pointer) → Only 21 161 s t → Effected s (setPointer t p)
+pointer : {s t : List ℕ} (p : Pointer) → Only (modeAt 0) (sampleAt 0) s t → Effected s (setPointer t p)
 pointer {s} {t} p w = within (only-then (only-wider (lit≤ tt) (lit≤ tt) w) (only-wider (lit≤ tt) (lit≤ tt) (only-pointer t p)))
 
 -- the lists alone
-listed : {s t : List ℕ} → Only 21 225 s t → Effected s t
+listed : {s t : List ℕ} → Only (modeAt 0) size s t → Effected s t
 listed w = within (only-wider (lit≤ tt) (lit≤ tt) w)
 
 pub effected : (d : Deed) (s : List ℕ) (n nc nm : ℕ) → Doable d n nc nm → Effected s (effect d s)
@@ -123,9 +125,9 @@ effected Synch s n nc nm h = none
 effected NoSeed s n nc nm h = none
 effected (GiveSeed r) s n nc nm h =
     let x : ℕ = nextOf (generatorOf s) in
-    let g : Only 4 8 s (setGenerator s x) = only-generator s x in
-    let e : Only 14 15 (setGenerator s x) (setSeed (setGenerator s x) (For r)) = only-seed (setGenerator s x) (For r) in
-    record { range = only-then (only-wider (lit≤ tt) (lit≤ tt) g) (only-wider (lit≤ tt) (lit≤ tt) e); round = same-then (apart tt g) (apart tt e) }
+    let g : Only generatorAt ctrAt s (setGenerator s x) = only-generator s x in
+    let e : Only seedAt mtaAt (setGenerator s x) (setSeed (setGenerator s x) (For r)) = only-seed (setGenerator s x) (For r) in
+    record { range = only-then (only-wider (lit≤ tt) (lit≤ tt) g) (only-wider (lit≤ tt) (lit≤ tt) e); between = same-then (apart tt g) (apart tt e) }
 effected (Unlock r) s n nc nm h =
     within (only-then (only-wider (lit≤ tt) (lit≤ tt) (only-lock s r 1)) (only-wider (lit≤ tt) (lit≤ tt) (only-seed (set s (lockAt r) 1) None)))
 effected (SetMta e a) s n nc nm h = mta s _
@@ -153,10 +155,10 @@ effected ProcessorInfo s n nc nm h = none
 effected ResolutionInfo s n nc nm h = none
 
 pub effect-place : (d : Deed) (s : List ℕ) (n nc nm : ℕ) → Doable d n nc nm → placeOf (effect d s) ≡ placeOf s
-effect-place d s n nc nm h = place-reads (apart tt (effected d s n nc nm h .range))
+effect-place d s n nc nm h = place-reads (same-part (lit≤ tt) (lit≤ tt) (effected d s n nc nm h .between))
 
 pub effect-message : (d : Deed) (s : List ℕ) (n nc nm : ℕ) → Doable d n nc nm → messageOf (effect d s) ≡ messageOf s
-effect-message d s n nc nm h = message-reads (apart tt (effected d s n nc nm h .range))
+effect-message d s n nc nm h = message-reads (same-part (lit≤ tt) (lit≤ tt) (effected d s n nc nm h .between))
 
 -- ---- the answers
 -- one that is written out

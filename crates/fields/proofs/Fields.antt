@@ -1,33 +1,33 @@
 -- A field of the state reads as it was set; what a closed session and a fresh one hold. Assumes nothing.
-use Prim.Native.Nat.{ℕ, zero, suc, _+_, _*_, _-_, _/_, _%_, _^_, _≤_, _<_}
+use Prim.Native.Nat.{ℕ, zero, suc, _+_, _-_, _%_, _^_, _≤_, _<_}
 use mathlib.Core.Path.{_≡_, refl, sym, ap, _∙_}
 use mathlib.Core.Bool.{Bool, true, false, cond}
 use mathlib.Core.List.{List, _∷_}
 use native.Mathlib.Omega.{arith}
 use native.Mathlib.Nat.{mod-eq-of-lt}
-use borrow.Author.Tests.{eqb-true, ne-eqb, lt-ltb, le-ltb}
+use borrow.Author.Tests.{eqb-true, ne-eqb, lt-ltb, le-ltb, lt-leb}
 use lib.Dec.{T, eqb, ltb, lit<, lit≤}
 use lib.ListN.{length, getD, set, length-set}
 use lib.Seq.{sets, getD-set-same, getD-set-other, set-getD}
 use Rattle.line.specs.declared.Place.{Place}
 use Rattle.line.specs.declared.Place.the-variants.{Outside, Inside, Escaped}
 use Rattle.line.proofs.Laws.{cond-ind}
-use Rattle.session.specs.Layout.{size, generatorAt, sessionAt, sessionSize, openAt, calibrationAt, listsAt, seedAt, pointerAt, mtaAt, addressAt, runningAt, sampleAt, placeAt, countAt, answerAt, lists, entries, allOdts, allEntries, packetMost}
-use Rattle.session.specs.Bytes.{u32At, put32, block}
-use Rattle.session.specs.Generator.{startOf}
-use Rattle.session.specs.State.{flagOf, generatorOf, setGenerator, openOf, lockAt, unlockedOf, seedOf, setSeed, mtaTag, mtaOf, setMta, pointerOf, setPointer, Pointed, closed, fresh, placeOf, setPlace, answerLength, waits, answerKind, answerOf, answered}
-use Rattle.session.specs.Lists.{runsOf, anyRuns, leastOf, storedLength}
-use Rattle.session.specs.declared.Resource.{Resource}
-use Rattle.session.specs.declared.Resource.the-variants.{Calibration, Lists}
-use Rattle.session.specs.declared.Extension.{Extension}
-use Rattle.session.specs.declared.Extension.the-variants.{Calibration as CalibrationMemory, Measured}
-use Rattle.session.specs.declared.Seed.{Seed}
-use Rattle.session.specs.declared.Seed.the-variants.{None, For}
-use Rattle.session.specs.declared.Mta.{Mta}
-use Rattle.session.specs.declared.Mta.the-variants.{Unset, At}
-use Rattle.session.specs.declared.Pointer.{Pointer}
-use Rattle.session.specs.declared.Pointer.the-variants.{Unset as NoEntry, At as Entry}
-use Rattle.session.proofs.Sets.{cleared-length}
+use Rattle.state.specs.Layout.{size, generatorAt, sessionAt, sessionSize, openAt, calibrationAt, listsAt, seedAt, pointerAt, pointerEntryAt, mtaAt, addressAt, runningAt, sampleAt, placeAt, countAt, messageAt, answerAt, answerBytesAt, lists, entryCount, allOdts, packetMost}
+use Rattle.state.specs.Bytes.{u32At, put32, block}
+use Rattle.state.specs.Generator.{startOf}
+use Rattle.state.specs.State.{bitOf, flagOf, generatorOf, setGenerator, openOf, lockAt, unlockedOf, seedOf, setSeed, mtaTag, mtaOf, setMta, pointerOf, setPointer, Pointed, closed, fresh, placeOf, setPlace, answerLength, waits, answerKind, answerOf, answered}
+use Rattle.lists.specs.Lists.{runsOf, anyRuns, leastOf, storedLength}
+use Rattle.words.specs.declared.Resource.{Resource}
+use Rattle.words.specs.declared.Resource.the-variants.{Calibration, Lists}
+use Rattle.words.specs.declared.Extension.{Extension}
+use Rattle.words.specs.declared.Extension.the-variants.{Calibration as CalibrationMemory, Measured}
+use Rattle.words.specs.declared.Seed.{Seed}
+use Rattle.words.specs.declared.Seed.the-variants.{None, For}
+use Rattle.words.specs.declared.Mta.{Mta}
+use Rattle.words.specs.declared.Mta.the-variants.{Unset, At}
+use Rattle.words.specs.declared.Pointer.{Pointer}
+use Rattle.words.specs.declared.Pointer.the-variants.{Unset as NoEntry, At as Entry}
+use Rattle.state.proofs.Sets.{cleared-length}
 use Rattle.fields.proofs.Stores.{set-out, put32-out, put32-same, sets-in, block-sets, cleared-in}
 
 -- ---- a field reads as it was set
@@ -38,34 +38,35 @@ Addressed (At e a) = a < 2 ^ 32
 
 mta-tagged : (s : List ℕ) (e : Extension) (a : ℕ) → length s ≡ size → getD (put32 (set s mtaAt (mtaTag e)) addressAt a) mtaAt 0 ≡ mtaTag e
 mta-tagged s e a h =
-    put32-out (set s mtaAt (mtaTag e)) 16 20 16 a 15 (lit≤ tt) (lit≤ tt) tt ∙ getD-set-same s mtaAt (mtaTag e) 0 (omega arith)
+    put32-out (set s mtaAt (mtaTag e)) addressAt pointerAt addressAt a mtaAt (lit≤ tt) (lit≤ tt) tt ∙ getD-set-same s mtaAt (mtaTag e) 0 (omega arith)
 
 mta-addressed : (s : List ℕ) (e : Extension) (a : ℕ) → length s ≡ size → a < 2 ^ 32 → u32At (put32 (set s mtaAt (mtaTag e)) addressAt a) addressAt ≡ a
 mta-addressed s e a h l = put32-same (set s mtaAt (mtaTag e)) addressAt a (simp length-set (omega arith)) l
 
 pub mta-same : (s : List ℕ) (m : Mta) → length s ≡ size → Addressed m → mtaOf (setMta s m) ≡ m
 unfolding setMta mtaOf
-mta-same s Unset h l = simp (getD-set-same s 15 0 0 (omega arith))
+mta-same s Unset h l = simp (getD-set-same s mtaAt 0 0 (omega arith))
 mta-same s (At CalibrationMemory a) h l = simp (mta-tagged s CalibrationMemory a h, mta-addressed s CalibrationMemory a h l)
 mta-same s (At Measured a) h l = simp (mta-tagged s Measured a h, mta-addressed s Measured a h l)
 
-pointer-number : (k e : ℕ) → k < allOdts → e < entries → ((entries * k + e + 1 - 1) / entries ≡ k) × ((entries * k + e + 1 - 1) % entries ≡ e)
-pointer-number k e p q = (omega arith, omega arith)
-
 pub pointer-same : (s : List ℕ) (p : Pointer) → length s ≡ size → Pointed p → pointerOf (setPointer s p) ≡ p
 unfolding setPointer pointerOf
-pointer-same s NoEntry h l = simp (getD-set-same s 20 0 0 (omega arith))
+pointer-same s NoEntry h l = simp (getD-set-same s pointerAt 0 0 (omega arith))
 pointer-same s (Entry k e) h l =
     let kl : k < allOdts = l .0 in
-    let el : e < entries = l .1 in
-    let n = pointer-number k e kl el in
-    simp (getD-set-same s 20 (entries * k + e + 1) 0 (omega arith), ne-eqb (entries * k + e + 1) 0 (omega arith), le-ltb allEntries (entries * k + e + 1) (omega arith), n .0, n .1)
+    let m : (k + 1) % 256 ≡ k + 1 = mod-eq-of-lt (omega arith) in
+    let back : k + 1 - 1 ≡ k = omega arith in
+    let odt : getD (set (set s pointerAt (k + 1)) pointerEntryAt e) pointerAt 0 ≡ k + 1
+    = getD-set-other (set s pointerAt (k + 1)) pointerEntryAt pointerAt e 0 (omega arith) ∙ getD-set-same s pointerAt (k + 1) 0 (omega arith) in
+    let entry : getD (set (set s pointerAt (k + 1)) pointerEntryAt e) pointerEntryAt 0 ≡ e
+    = getD-set-same (set s pointerAt (k + 1)) pointerEntryAt e 0 (rw length-set (omega arith)) in
+    simp (m, odt, entry, back, ne-eqb (k + 1) 0 (omega arith), le-ltb allOdts (k + 1) (omega arith), lt-leb (entryCount k) e (l .1))
 
 pub seed-same : (s : List ℕ) (x : Seed) → length s ≡ size → seedOf (setSeed s x) ≡ x
 unfolding setSeed seedOf
-seed-same s None h = simp (getD-set-same s 14 0 0 (omega arith))
-seed-same s (For Calibration) h = simp (getD-set-same s 14 1 0 (omega arith))
-seed-same s (For Lists) h = simp (getD-set-same s 14 4 0 (omega arith))
+seed-same s None h = simp (getD-set-same s seedAt 0 0 (omega arith))
+seed-same s (For Calibration) h = simp (getD-set-same s seedAt (bitOf Calibration) 0 (omega arith))
+seed-same s (For Lists) h = simp (getD-set-same s seedAt (bitOf Lists) 0 (omega arith))
 
 -- a count that a byte holds
 abbrev pub Counted : Place → Type 0
@@ -74,14 +75,14 @@ Counted (Inside k) = k < 256
 Counted (Escaped k) = k < 256
 
 place-tagged : (s : List ℕ) (t k : ℕ) → length s ≡ size → getD (set (set s placeAt t) countAt k) placeAt 0 ≡ t
-place-tagged s t k h = set-out (set s placeAt t) 226 227 226 k 225 (lit≤ tt) (lit< tt) tt ∙ getD-set-same s placeAt t 0 (omega arith)
+place-tagged s t k h = set-out (set s placeAt t) countAt messageAt countAt k placeAt (lit≤ tt) (lit< tt) tt ∙ getD-set-same s placeAt t 0 (omega arith)
 
 place-counted : (s : List ℕ) (t k : ℕ) → length s ≡ size → k < 256 → getD (set (set s placeAt t) countAt (k % 256)) countAt 0 ≡ k
 place-counted s t k h l = getD-set-same (set s placeAt t) countAt (k % 256) 0 (simp length-set (omega arith)) ∙ mod-eq-of-lt l
 
 pub place-same : (s : List ℕ) (p : Place) → length s ≡ size → Counted p → placeOf (setPlace s p) ≡ p
 unfolding setPlace placeOf
-place-same s Outside h l = simp (getD-set-same s 225 0 0 (omega arith))
+place-same s Outside h l = simp (getD-set-same s placeAt 0 0 (omega arith))
 place-same s (Inside k) h l = simp (place-tagged s 1 (k % 256) h, place-counted s 1 k h l)
 place-same s (Escaped k) h l = simp (place-tagged s 2 (k % 256) h, place-counted s 2 k h l)
 
@@ -96,13 +97,13 @@ other Lists = Calibration
 
 pub lock-same : (s : List ℕ) (r : Resource) → length s ≡ size → unlockedOf (set s (lockAt r) 1) r ≡ true
 unfolding flagOf
-lock-same s Calibration h = simp (getD-set-same s 12 1 0 (omega arith))
-lock-same s Lists h = simp (getD-set-same s 13 1 0 (omega arith))
+lock-same s Calibration h = simp (getD-set-same s calibrationAt 1 0 (omega arith))
+lock-same s Lists h = simp (getD-set-same s listsAt 1 0 (omega arith))
 
 pub lock-other : (s : List ℕ) (r : Resource) (v : ℕ) → unlockedOf (set s (lockAt r) v) (other r) ≡ unlockedOf s (other r)
 unfolding flagOf
-lock-other s Calibration v = simp (set-out s 12 13 12 v 13 (lit≤ tt) (lit< tt) tt)
-lock-other s Lists v = simp (set-out s 13 14 13 v 12 (lit≤ tt) (lit< tt) tt)
+lock-other s Calibration v = simp (set-out s calibrationAt listsAt calibrationAt v listsAt (lit≤ tt) (lit< tt) tt)
+lock-other s Lists v = simp (set-out s listsAt seedAt listsAt v calibrationAt (lit≤ tt) (lit< tt) tt)
 
 -- ---- the answer
 -- an answer of 1 to 8 bytes that begins with FF, or with FE if its length is 2 or 8
@@ -135,20 +136,20 @@ kind-as-it-is n b = go (eqb b 0xFF) (eqb b 0xFE) (eqb n 2) (eqb n 8) refl refl w
   go false true true eight p q o = sym (eqb-true b 0xFE q)
   go false true false true p q o = sym (eqb-true b 0xFE q)
 
-first-answered : (s bs : List ℕ) → length s ≡ size → 1 ≤ length bs → length bs ≤ packetMost → getD (answered s bs) 239 0 ≡ getD bs 0 0
+first-answered : (s bs : List ℕ) → length s ≡ size → 1 ≤ length bs → length bs ≤ packetMost → getD (answered s bs) answerBytesAt 0 ≡ getD bs 0 0
 unfolding answered
 first-answered s bs h p q = sets-in s answerAt (length bs ∷ bs) 1 (omega arith) (omega arith)
 
-kind-answered : (s bs : List ℕ) → length s ≡ size → Answering bs → answerKind (answered s bs) ≡ getD (answered s bs) (answerAt + 1) 0
+kind-answered : (s bs : List ℕ) → length s ≡ size → Answering bs → answerKind (answered s bs) ≡ getD (answered s bs) answerBytesAt 0
 unfolding answerKind
 kind-answered s bs h a =
     let n = length-answered s bs h (a .some) (a .few) in
-    let b : getD (answered s bs) 239 0 ≡ getD bs 0 0 = first-answered s bs h (a .some) (a .few) in
+    let b : getD (answered s bs) answerBytesAt 0 ≡ getD bs 0 0 = first-answered s bs h (a .some) (a .few) in
     simp (n, b) (kind-as-it-is (length bs) (getD bs 0 0) (a .kind))
 
-bytes-answered : (s bs : List ℕ) → length s ≡ size → length bs ≤ packetMost → block (answered s bs) 239 (length bs) ≡ bs
+bytes-answered : (s bs : List ℕ) → length s ≡ size → length bs ≤ packetMost → block (answered s bs) answerBytesAt (length bs) ≡ bs
 unfolding answered
-bytes-answered s bs h q = block-sets (set s answerAt (length bs)) 239 bs (rw length-set (omega arith))
+bytes-answered s bs h q = block-sets (set s answerAt (length bs)) answerBytesAt bs (rw length-set (omega arith))
 
 pub answer-same : (s bs : List ℕ) → length s ≡ size → Answering bs → answerOf (answered s bs) ≡ bs
 unfolding answerOf
@@ -157,7 +158,7 @@ answer-same s bs h a =
 
 -- ---- a session of which nothing is set: every byte of it is 0, but perhaps the first, whether it is open
 abbrev pub Bare : List ℕ → Type 0
-Bare s = (j : ℕ) → calibrationAt ≤ j → j < placeAt → getD s j 0 ≡ 0
+Bare s = (j : ℕ) → calibrationAt ≤ j → j < size → getD s j 0 ≡ 0
 
 pub bare-locked : (s : List ℕ) (r : Resource) → Bare s → unlockedOf s r ≡ false
 unfolding flagOf
@@ -203,7 +204,7 @@ pub closed-length : (s : List ℕ) → length (closed s) ≡ length s
 unfolding closed
 closed-length s = cleared-length s sessionAt sessionSize
 
-closed-zero : (s : List ℕ) (j : ℕ) → length s ≡ size → sessionAt ≤ j → j < placeAt → getD (closed s) j 0 ≡ 0
+closed-zero : (s : List ℕ) (j : ℕ) → length s ≡ size → sessionAt ≤ j → j < size → getD (closed s) j 0 ≡ 0
 unfolding closed
 closed-zero s j h p q = cleared-in s sessionAt sessionSize j (omega arith) p (omega arith)
 

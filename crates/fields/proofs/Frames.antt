@@ -8,24 +8,25 @@ use borrow.Author.Tests.{lt-ltb, ltb-true}
 use lib.Dec.{T, ltb, leb, leb→le, le→leb, lit<, lit≤}
 use lib.ListN.{length, getD, set, take, drop, length-set, length-take, length-drop, length-append}
 use lib.Seq.{sets, length-sets, length-take-le, take-at, drop-at, getD-take, getD-drop, ext-getD}
+use Rattle.line.specs.Message.{longest}
 use Rattle.line.specs.Unstuffing.{Fed}
 use Rattle.line.specs.declared.Place.{Place}
 use Rattle.line.specs.declared.Place.the-variants.{Outside, Inside, Escaped}
 use Rattle.line.proofs.Laws.{cond-ind}
-use Rattle.session.specs.Layout.{size, placeAt, answerAt, entries, packetMost}
-use Rattle.session.specs.Bytes.{put16, put32, cleared}
-use Rattle.session.specs.State.{setGenerator, lockAt, setSeed, mtaTag, setMta, setPointer, closed, fresh, setPlace, setMessage, answered}
+use Rattle.state.specs.Layout.{size, generatorAt, ctrAt, placeAt, countAt, messageAt, answerAt, sessionAt, sessionSize, openAt, calibrationAt, listsAt, seedAt, mtaAt, addressAt, pointerAt, pointerEntryAt, modeAt, packetMost}
+use Rattle.state.specs.Bytes.{put16, put32, cleared}
+use Rattle.state.specs.State.{setGenerator, lockAt, bitOf, setSeed, mtaTag, setMta, setPointer, closed, fresh, setPlace, setMessage, answered}
 use Rattle.session.specs.Receive.{readOn}
-use Rattle.session.specs.declared.Resource.{Resource}
-use Rattle.session.specs.declared.Resource.the-variants.{Calibration, Lists}
-use Rattle.session.specs.declared.Seed.{Seed}
-use Rattle.session.specs.declared.Seed.the-variants.{None, For}
-use Rattle.session.specs.declared.Mta.{Mta}
-use Rattle.session.specs.declared.Mta.the-variants.{Unset, At}
-use Rattle.session.specs.declared.Pointer.{Pointer}
-use Rattle.session.specs.declared.Pointer.the-variants.{Unset as NoEntry, At as Entry}
-use Rattle.session.proofs.Sets.{put16-length, put32-length, cleared-length}
-use Rattle.fields.proofs.Stores.{out, set-out, put16-out, put32-out, sets-out, cleared-out, take-sets}
+use Rattle.words.specs.declared.Resource.{Resource}
+use Rattle.words.specs.declared.Resource.the-variants.{Calibration, Lists}
+use Rattle.words.specs.declared.Seed.{Seed}
+use Rattle.words.specs.declared.Seed.the-variants.{None, For}
+use Rattle.words.specs.declared.Mta.{Mta}
+use Rattle.words.specs.declared.Mta.the-variants.{Unset, At}
+use Rattle.words.specs.declared.Pointer.{Pointer}
+use Rattle.words.specs.declared.Pointer.the-variants.{Unset as NoEntry, At as Entry}
+use Rattle.state.proofs.Sets.{put16-length, put32-length, cleared-length}
+use Rattle.fields.proofs.Stores.{out, set-out, put16-out, put32-out, sets-out, cleared-out}
 
 -- ---- t differs from s in the bytes from lo up to hi alone
 pub record Only (lo hi : ℕ) (s t : List ℕ) : Type 0 where
@@ -98,72 +99,67 @@ only-between {s} {t} lo hi e p q = record { long = e; bytes = λ j o. go j (ltb 
       rw d at (sym (getD-drop hi t (j - hi) 0) ∙ ap (λ (l : List ℕ). getD l (j - hi) 0) q ∙ getD-drop hi s (j - hi) 0)
 
 -- ---- the writers
-pub only-generator : (s : List ℕ) (x : ℕ) → Only 4 8 s (setGenerator s x)
+pub only-generator : (s : List ℕ) (x : ℕ) → Only generatorAt ctrAt s (setGenerator s x)
 unfolding setGenerator
-only-generator s x = only-put32 s 4 x (lit≤ tt) (lit≤ tt)
+only-generator s x = only-put32 s generatorAt x (lit≤ tt) (lit≤ tt)
 
-pub only-lock : (s : List ℕ) (r : Resource) (v : ℕ) → Only 12 14 s (set s (lockAt r) v)
-only-lock s Calibration v = only-set s 12 v (lit≤ tt) (lit< tt)
-only-lock s Lists v = only-set s 13 v (lit≤ tt) (lit< tt)
+pub only-lock : (s : List ℕ) (r : Resource) (v : ℕ) → Only calibrationAt seedAt s (set s (lockAt r) v)
+only-lock s Calibration v = only-set s calibrationAt v (lit≤ tt) (lit< tt)
+only-lock s Lists v = only-set s listsAt v (lit≤ tt) (lit< tt)
 
-pub only-seed : (s : List ℕ) (x : Seed) → Only 14 15 s (setSeed s x)
+pub only-seed : (s : List ℕ) (x : Seed) → Only seedAt mtaAt s (setSeed s x)
 unfolding setSeed
-only-seed s None = only-set s 14 0 (lit≤ tt) (lit< tt)
-only-seed s (For Calibration) = only-set s 14 1 (lit≤ tt) (lit< tt)
-only-seed s (For Lists) = only-set s 14 4 (lit≤ tt) (lit< tt)
+only-seed s None = only-set s seedAt 0 (lit≤ tt) (lit< tt)
+only-seed s (For r) = only-set s seedAt (bitOf r) (lit≤ tt) (lit< tt)
 
-pub only-mta : (s : List ℕ) (m : Mta) → Only 15 20 s (setMta s m)
+pub only-mta : (s : List ℕ) (m : Mta) → Only mtaAt pointerAt s (setMta s m)
 unfolding setMta
-only-mta s Unset = only-set s 15 0 (lit≤ tt) (lit< tt)
-only-mta s (At e a) = only-then (only-set s 15 (mtaTag e) (lit≤ tt) (lit< tt)) (only-put32 (set s 15 (mtaTag e)) 16 a (lit≤ tt) (lit≤ tt))
+only-mta s Unset = only-set s mtaAt 0 (lit≤ tt) (lit< tt)
+only-mta s (At e a) = only-then (only-set s mtaAt (mtaTag e) (lit≤ tt) (lit< tt)) (only-put32 (set s mtaAt (mtaTag e)) addressAt a (lit≤ tt) (lit≤ tt))
 
-pub only-pointer : (s : List ℕ) (p : Pointer) → Only 20 21 s (setPointer s p)
+pub only-pointer : (s : List ℕ) (p : Pointer) → Only pointerAt (modeAt 0) s (setPointer s p)
 unfolding setPointer
-only-pointer s NoEntry = only-set s 20 0 (lit≤ tt) (lit< tt)
-only-pointer s (Entry k e) = only-set s 20 (entries * k + e + 1) (lit≤ tt) (lit< tt)
+only-pointer s NoEntry = only-set s pointerAt 0 (lit≤ tt) (lit< tt)
+only-pointer s (Entry k e) =
+    only-then (only-set s pointerAt ((k + 1) % 256) (lit≤ tt) (lit< tt)) (only-set (set s pointerAt ((k + 1) % 256)) pointerEntryAt e (lit≤ tt) (lit< tt))
 
-pub only-closed : (s : List ℕ) → Only 11 225 s (closed s)
+pub only-closed : (s : List ℕ) → Only sessionAt size s (closed s)
 unfolding closed
-only-closed s = only-cleared s 11 214 (lit≤ tt) (lit≤ tt)
+only-closed s = only-cleared s sessionAt sessionSize (lit≤ tt) (lit≤ tt)
 
-pub only-fresh : (s : List ℕ) → Only 11 225 s (fresh s)
+pub only-fresh : (s : List ℕ) → Only sessionAt size s (fresh s)
 unfolding fresh
-only-fresh s = only-then (only-closed s) (only-set (closed s) 11 1 (lit≤ tt) (lit< tt))
+only-fresh s = only-then (only-closed s) (only-set (closed s) openAt 1 (lit≤ tt) (lit< tt))
 
-pub only-place : (s : List ℕ) (p : Place) → Only 225 227 s (setPlace s p)
+pub only-place : (s : List ℕ) (p : Place) → Only placeAt messageAt s (setPlace s p)
 unfolding setPlace
-only-place s Outside = only-set s 225 0 (lit≤ tt) (lit< tt)
-only-place s (Inside k) = only-then (only-set s 225 1 (lit≤ tt) (lit< tt)) (only-set (set s 225 1) 226 (k % 256) (lit≤ tt) (lit< tt))
-only-place s (Escaped k) = only-then (only-set s 225 2 (lit≤ tt) (lit< tt)) (only-set (set s 225 2) 226 (k % 256) (lit≤ tt) (lit< tt))
+only-place s Outside = only-set s placeAt 0 (lit≤ tt) (lit< tt)
+only-place s (Inside k) = only-then (only-set s placeAt 1 (lit≤ tt) (lit< tt)) (only-set (set s placeAt 1) countAt (k % 256) (lit≤ tt) (lit< tt))
+only-place s (Escaped k) = only-then (only-set s placeAt 2 (lit≤ tt) (lit< tt)) (only-set (set s placeAt 2) countAt (k % 256) (lit≤ tt) (lit< tt))
 
-pub only-message : (s m : List ℕ) → length s ≡ size → length m ≡ 11 → Only 227 238 s (setMessage s m)
+pub only-message : (s m : List ℕ) → length s ≡ size → length m ≡ longest → Only messageAt answerAt s (setMessage s m)
 unfolding setMessage
 only-message s m h k =
-    let front : length (take 227 s) ≡ 227 = length-take-le 227 s (omega arith) in
-    let both : length (take 227 s ++ m) ≡ 238 = rw (length-append, front) (omega arith) in
-    let rest : length (drop 238 s) ≡ 9 = rw length-drop (omega arith) in
-    only-between 227 238
+    let front : length (take messageAt s) ≡ messageAt = length-take-le messageAt s (omega arith) in
+    let both : length (take messageAt s ++ m) ≡ answerAt = rw (length-append, front) (omega arith) in
+    let rest : length (drop answerAt s) ≡ size - answerAt = rw length-drop (omega arith) in
+    only-between messageAt answerAt
     (rw (length-append, length-append, front, rest) (omega arith))
-    (take-at (take 227 s) (m ++ drop 238 s) 227 front)
-    (ap (drop 238) (sym (append-assoc (take 227 s) m (drop 238 s))) ∙ drop-at (take 227 s ++ m) (drop 238 s) 238 both)
+    (take-at (take messageAt s) (m ++ drop answerAt s) messageAt front)
+    (ap (drop answerAt) (sym (append-assoc (take messageAt s) m (drop answerAt s))) ∙ drop-at (take messageAt s ++ m) (drop answerAt s) answerAt both)
 
-pub only-readOn : (s : List ℕ) (f : Fed) → length s ≡ size → length (f .message) ≡ 11 → Only 225 238 s (readOn s f)
+pub only-readOn : (s : List ℕ) (f : Fed) → length s ≡ size → length (f .message) ≡ longest → Only placeAt answerAt s (readOn s f)
 unfolding readOn
 only-readOn s f h k =
     only-then (only-wider (lit≤ tt) (lit≤ tt) (only-message s (f .message) h k))
     (only-wider (lit≤ tt) (lit≤ tt) (only-place (setMessage s (f .message)) (f .taken .place)))
 
-pub readOn-before : (s : List ℕ) (f : Fed) → length s ≡ size → length (f .message) ≡ 11 → take placeAt (readOn s f) ≡ take placeAt s
-readOn-before s f h k = only-take 225 (lit≤ tt) (only-readOn s f h k)
+pub readOn-before : (s : List ℕ) (f : Fed) → length s ≡ size → length (f .message) ≡ longest → take placeAt (readOn s f) ≡ take placeAt s
+readOn-before s f h k = only-take placeAt (lit≤ tt) (only-readOn s f h k)
 
-pub readOn-after : (s : List ℕ) (f : Fed) → length s ≡ size → length (f .message) ≡ 11 → drop answerAt (readOn s f) ≡ drop answerAt s
-readOn-after s f h k = only-drop 238 (lit≤ tt) (only-readOn s f h k)
+pub readOn-after : (s : List ℕ) (f : Fed) → length s ≡ size → length (f .message) ≡ longest → drop answerAt (readOn s f) ≡ drop answerAt s
+readOn-after s f h k = only-drop answerAt (lit≤ tt) (only-readOn s f h k)
 
-pub only-answered : (s bs : List ℕ) → length bs ≤ packetMost → Only 238 247 s (answered s bs)
+pub only-answered : (s bs : List ℕ) → length bs ≤ packetMost → Only answerAt sessionAt s (answered s bs)
 unfolding answered
-only-answered s bs h = only-sets s 238 (length bs ∷ bs) (lit≤ tt) (omega arith)
-
--- whatever the answer's length
-pub answered-before : (s bs : List ℕ) → take answerAt (answered s bs) ≡ take answerAt s
-unfolding answered
-answered-before s bs = take-sets 238 s 238 (length bs ∷ bs) (lit≤ tt)
+only-answered s bs h = only-sets s answerAt (length bs ∷ bs) (lit≤ tt) (omega arith)

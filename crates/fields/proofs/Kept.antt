@@ -8,76 +8,76 @@ use borrow.Author.Tests.{eq-eqb}
 use lib.Dec.{ltb, leb, lit<, lit≤}
 use lib.ListN.{length, getD, set, take, replicate, length-set}
 use lib.Seq.{sets, length-sets, getD-take, take-set-le}
-use Rattle.line.specs.Message.{room}
+use Rattle.line.specs.Message.{longest, room}
 use Rattle.line.specs.Unstuffing.{Fed}
 use Rattle.line.specs.declared.Outcome.{Outcome}
 use Rattle.line.specs.declared.Outcome.the-variants as line
 use Rattle.line.proofs.Laws.{cond-ind}
 use Rattle.line.proofs.After.{take-length}
-use Rattle.session.specs.Layout.{mark, size, lists, modeAt, selectedAt, runningAt, entriesAt, entryAt, sampleAt, firstOdt, listOf, events, listSize, entrySize, odtSize, odts, lastList}
-use Rattle.session.specs.Bytes.{u32At, put16, put32, block, cleared}
-use Rattle.session.specs.Generator.{startOf, nextOf}
-use Rattle.session.specs.State.{consistent, flagOf, openOf, generatorOf, setGenerator, lockAt, setSeed, setMta, setPointer, placeOf, messageOf, waits, answerKind, answered}
-use Rattle.session.specs.Lists.{runsOf, switched, listCleared, modeSet, tagOf, entryCleared, entrySet, stopEach, startOne, startSelected, stopSelected}
-use Rattle.session.specs.Judge.{judge}
+use Rattle.state.specs.Layout.{mark, markAt, size, generatorAt, ctrAt, servedAt, lastAt, messageAt, answerAt, answerBytesAt, lists, modeAt, selectedAt, runningAt, entriesAt, entryAt, sampleAt, firstOdt, odtCount, listOf, events, listSize, entrySize, odtSize, lastList}
+use Rattle.state.specs.Bytes.{u32At, put16, put32, block, cleared}
+use Rattle.state.specs.Generator.{startOf, nextOf}
+use Rattle.state.specs.State.{consistent, flagOf, openOf, generatorOf, setGenerator, lockAt, setSeed, setMta, setPointer, placeOf, messageOf, waits, answerKind, answered}
+use Rattle.lists.specs.Lists.{runsOf, dropped, switched, listCleared, modeSet, tagOf, entryCleared, entrySet, stopEach, startOne, startSelected, stopSelected}
+use Rattle.session.specs.Look.{judgeOf}
 use Rattle.session.specs.Perform.{nextEntry, effect, reply, after}
 use Rattle.session.specs.Receive.{Step, goodConnect, heeded, meant, readOn, fedOf, receiveOf}
-use Rattle.session.specs.Event.{stored, captured, samplingOf, sampledState, tally, Happened, eventOf}
-use Rattle.session.specs.Slot.{Slot, turnOf, nextCtr, answerSent, packetSent, sentBy, slotOf}
+use Rattle.lists.specs.Event.{stored, capturedOdts, captured, samplingOf, sampledState, tally, Happened, eventOf}
+use Rattle.lists.specs.Slot.{Slot, turnOf, nextCtr, answerSent, packetSent, sentBy, slotOf}
 use Rattle.session.specs.PowerUp.{powered, powerUpOf}
-use Rattle.session.specs.declared.Extension.{Extension}
-use Rattle.session.specs.declared.Seed.{Seed}
-use Rattle.session.specs.declared.Seed.the-variants.{None, For}
-use Rattle.session.specs.declared.Mta.{Mta}
-use Rattle.session.specs.declared.Pointer.{Pointer}
-use Rattle.session.specs.declared.Sampling.{Sampling}
-use Rattle.session.specs.declared.Sampling.the-variants.{Idle, Sampled, Missed}
-use Rattle.session.specs.declared.Turn.{Turn}
-use Rattle.session.specs.declared.Turn.the-variants.{Nobody, Answer, Packet}
-use Rattle.session.specs.declared.Deed.{Deed}
-use Rattle.session.specs.declared.Deed.the-variants.{Refuse, RefuseSize, WrongKey, Connect, Disconnect, Status, Synch, NoSeed, GiveSeed, Unlock, SetMta, Upload, ShortUpload, Checksum, Download, ClearList, SetPointer, ClearEntry, WriteEntry, SetMode, Stop, Start, KeepRunning, Select, StopAll, StartSelected, StopSelected, ProcessorInfo, ResolutionInfo}
-use Rattle.session.proofs.Sets.{block-length}
-use Rattle.session.proofs.Consistent.{consistent-size}
+use Rattle.words.specs.declared.Extension.{Extension}
+use Rattle.words.specs.declared.Seed.{Seed}
+use Rattle.words.specs.declared.Seed.the-variants.{None, For}
+use Rattle.words.specs.declared.Mta.{Mta}
+use Rattle.words.specs.declared.Pointer.{Pointer}
+use Rattle.lists.specs.declared.Sampling.{Sampling}
+use Rattle.lists.specs.declared.Sampling.the-variants.{Idle, Sampled, Missed}
+use Rattle.lists.specs.declared.Turn.{Turn}
+use Rattle.lists.specs.declared.Turn.the-variants.{Nobody, Answer, Packet}
+use Rattle.judge.specs.declared.Deed.{Deed}
+use Rattle.judge.specs.declared.Deed.the-variants.{Refuse, RefuseSize, WrongKey, Connect, Disconnect, Status, Synch, NoSeed, GiveSeed, Unlock, SetMta, Upload, ShortUpload, Checksum, Download, ClearList, SetPointer, ClearEntry, WriteEntry, SetMode, Stop, Start, KeepRunning, Select, StopAll, StartSelected, StopSelected, ProcessorInfo, ResolutionInfo}
+use Rattle.state.proofs.Sets.{block-length}
+use Rattle.state.proofs.Consistent.{consistent-size}
 use Rattle.fields.proofs.Stores.{take-sets}
 use Rattle.fields.proofs.Frames.{Only, only-take, only-generator, only-lock, only-seed, only-mta, only-pointer, only-closed, only-fresh, only-readOn}
 
--- ---- t has the length of s and its first four bytes
+-- ---- t has the length of s and its first bytes, the mark
 pub record Marked (s t : List ℕ) : Type 0 where
   pub long : length t ≡ length s
-  pub four : take 4 t ≡ take 4 s
+  pub front : take generatorAt t ≡ take generatorAt s
 
 pub marked-none : {s : List ℕ} → Marked s s
-marked-none = record { long = refl; four = refl }
+marked-none = record { long = refl; front = refl }
 
 pub marked-then : {s t u : List ℕ} → Marked s t → Marked t u → Marked s u
-marked-then p q = record { long = q .long ∙ p .long; four = q .four ∙ p .four }
+marked-then p q = record { long = q .long ∙ p .long; front = q .front ∙ p .front }
 
 marked-cond : {s t u : List ℕ} (b : Bool) → Marked s t → Marked s u → Marked s (cond b t u)
 marked-cond {s} b p q = cond-ind (Marked s) b (λ _. p) (λ _. q)
 
 -- any change behind them
-marked-only : {lo hi : ℕ} {s t : List ℕ} → 4 ≤ lo → Only lo hi s t → Marked s t
-marked-only h w = record { long = w .long; four = only-take 4 h w }
+marked-only : {lo hi : ℕ} {s t : List ℕ} → generatorAt ≤ lo → Only lo hi s t → Marked s t
+marked-only h w = record { long = w .long; front = only-take generatorAt h w }
 
-marked-set : (s : List ℕ) (i a : ℕ) → 4 ≤ i → Marked s (set s i a)
-marked-set s i a h = record { long = length-set s i a; four = take-set-le 4 s i a h }
+marked-set : (s : List ℕ) (i a : ℕ) → generatorAt ≤ i → Marked s (set s i a)
+marked-set s i a h = record { long = length-set s i a; front = take-set-le generatorAt s i a h }
 
-marked-sets : (s : List ℕ) (i : ℕ) (xs : List ℕ) → 4 ≤ i → Marked s (sets s i xs)
-marked-sets s i xs h = record { long = length-sets s i xs; four = take-sets 4 s i xs h }
+marked-sets : (s : List ℕ) (i : ℕ) (xs : List ℕ) → generatorAt ≤ i → Marked s (sets s i xs)
+marked-sets s i xs h = record { long = length-sets s i xs; front = take-sets generatorAt s i xs h }
 
-marked-cleared : (s : List ℕ) (i n : ℕ) → 4 ≤ i → Marked s (cleared s i n)
+marked-cleared : (s : List ℕ) (i n : ℕ) → generatorAt ≤ i → Marked s (cleared s i n)
 unfolding cleared
 marked-cleared s i n h = marked-sets s i (replicate n 0) h
 
-marked-put16 : (s : List ℕ) (i x : ℕ) → 4 ≤ i → Marked s (put16 s i x)
+marked-put16 : (s : List ℕ) (i x : ℕ) → generatorAt ≤ i → Marked s (put16 s i x)
 unfolding put16
 marked-put16 s i x h = marked-then (marked-set s i (x % 256) h) (marked-set (set s i (x % 256)) (i + 1) (x / 256 % 256) (omega arith))
 
 -- the mark, so whether a state is consistent, lies in them
-first-same : {s t : List ℕ} (j : ℕ) → j < 4 → Marked s t → getD t j 0 ≡ getD s j 0
-first-same {s} {t} j h m = sym (getD-take 4 t j 0 h) ∙ ap (λ (l : List ℕ). getD l j 0) (m .four) ∙ getD-take 4 s j 0 h
+first-same : {s t : List ℕ} (j : ℕ) → j < generatorAt → Marked s t → getD t j 0 ≡ getD s j 0
+first-same {s} {t} j h m = sym (getD-take generatorAt t j 0 h) ∙ ap (λ (l : List ℕ). getD l j 0) (m .front) ∙ getD-take generatorAt s j 0 h
 
-mark-same : {s t : List ℕ} → Marked s t → u32At t 0 ≡ u32At s 0
+mark-same : {s t : List ℕ} → Marked s t → u32At t markAt ≡ u32At s markAt
 unfolding u32At
 mark-same m = simp (first-same 0 (lit< tt) m, first-same 1 (lit< tt) m, first-same 2 (lit< tt) m, first-same 3 (lit< tt) m)
 
@@ -89,15 +89,15 @@ pub kept : {s t : List ℕ} → Marked s t → consistent s ≡ true → consist
 kept m h = marked-consistent m ∙ h
 
 -- ---- power-up
-marked-blank : consistent (put32 (replicate size 0) 0 mark) ≡ true
+marked-blank : consistent (put32 (replicate size 0) markAt mark) ≡ true
 unfolding consistent u32At put32
 marked-blank = refl
 
 pub power-consistent : (start : ℕ) → consistent (powered start) ≡ true
 unfolding powered
 power-consistent start =
-    let blank : List ℕ = put32 (replicate size 0) 0 mark in
-    kept (marked-then (marked-only (lit≤ tt) (only-generator blank (startOf start))) (marked-set (setGenerator blank (startOf start)) 9 lastList (lit≤ tt))) marked-blank
+    let blank : List ℕ = put32 (replicate size 0) markAt mark in
+    kept (marked-then (marked-only (lit≤ tt) (only-generator blank (startOf start))) (marked-set (setGenerator blank (startOf start)) servedAt lastList (lit≤ tt))) marked-blank
 
 -- a state of the right size is consistent after power-up, whatever it was
 pub power-up-consistent : (s : List ℕ) (start : ℕ) → length s ≡ size → consistent (powerUpOf s start .state) ≡ true
@@ -105,13 +105,14 @@ unfolding powerUpOf
 power-up-consistent s start h = simp (eq-eqb (length s) size h) (power-consistent start)
 
 -- ---- the lists' changes
+marked-dropped : (s : List ℕ) (k n : ℕ) → Marked s (dropped s k n)
+unfolding dropped
+marked-dropped s k zero = marked-none
+marked-dropped s k (suc n) = marked-then (marked-dropped s k n) (marked-set (dropped s k n) (sampleAt (k + n)) 0 (omega arith))
+
 marked-switched : (s : List ℕ) (l on : ℕ) → Marked s (switched s l on)
 unfolding switched
-marked-switched s l on =
-    let s₁ : List ℕ = set s (runningAt l) on in
-    let s₂ : List ℕ = set s₁ (sampleAt (firstOdt l)) 0 in
-    marked-then (marked-set s (runningAt l) on (omega arith))
-    (marked-then (marked-set s₁ (sampleAt (firstOdt l)) 0 (omega arith)) (marked-set s₂ (sampleAt (firstOdt l + 1)) 0 (omega arith)))
+marked-switched s l on = marked-then (marked-set s (runningAt l) on (omega arith)) (marked-dropped (set s (runningAt l) on) (firstOdt l) (odtCount l))
 
 marked-deselected : {s t : List ℕ} (l : ℕ) → Marked s t → Marked s (set t (selectedAt l) 0)
 marked-deselected {s} {t} l m = marked-then m (marked-set t (selectedAt l) 0 (omega arith))
@@ -119,12 +120,12 @@ marked-deselected {s} {t} l m = marked-then m (marked-set t (selectedAt l) 0 (om
 marked-listCleared : (s : List ℕ) (l : ℕ) → Marked s (listCleared s l)
 unfolding listCleared
 marked-listCleared s l =
-    marked-then (marked-cleared s (modeAt l) listSize (omega arith)) (marked-cleared (cleared s (modeAt l) listSize) (entriesAt (firstOdt l)) (odts * odtSize) (omega arith))
+    marked-then (marked-cleared s (modeAt l) listSize (omega arith)) (marked-cleared (cleared s (modeAt l) listSize) (entriesAt (firstOdt l)) (odtCount l * odtSize) (omega arith))
 
 marked-modeSet : (s : List ℕ) (l event : ℕ) → Marked s (modeSet s l event)
 unfolding modeSet
 marked-modeSet s l event =
-    marked-then (marked-set s (modeAt l) (event + 1) (omega arith)) (marked-set (set s (modeAt l) (event + 1)) (runningAt l) 0 (omega arith))
+    marked-then (marked-set s (modeAt l) ((event + 1) % 256) (omega arith)) (marked-set (set s (modeAt l) ((event + 1) % 256)) (runningAt l) 0 (omega arith))
 
 marked-entryCleared : (s : List ℕ) (l k e : ℕ) → Marked s (entryCleared s l k e)
 unfolding entryCleared
@@ -209,7 +210,7 @@ marked-effect ResolutionInfo s = marked-none
 
 pub marked-answered : (s bs : List ℕ) → Marked s (answered s bs)
 unfolding answered
-marked-answered s bs = marked-sets s 238 (length bs ∷ bs) (lit≤ tt)
+marked-answered s bs = marked-sets s answerAt (length bs ∷ bs) (lit≤ tt)
 
 pub marked-after : (d : Deed) (s cal meas : List ℕ) → Marked s (after d s cal meas)
 marked-after d s cal meas = marked-then (marked-effect d s) (marked-answered (effect d s) (reply d s cal meas))
@@ -220,7 +221,7 @@ unfolding heeded
 marked-heeded p s cal meas =
     let Good : Step → Type 0 = λ (o : Step). Marked s (o .state) in
     cond-ind Good (waits s) (λ _. marked-none)
-    (λ _. cond-ind Good (openOf s) (λ _. marked-after (judge p s (length cal) (length meas)) s cal meas)
+    (λ _. cond-ind Good (openOf s) (λ _. marked-after (judgeOf p s (length cal) (length meas)) s cal meas)
     (λ _. cond-ind Good (goodConnect p) (λ _. marked-after Connect s cal meas)
     (λ _. marked-none)))
 
@@ -234,9 +235,9 @@ marked-meant line.BadChecksum m s cal meas = marked-none
 marked-meant line.CutOff m s cal meas = marked-none
 marked-meant line.ShortBuffer m s cal meas = marked-none
 
-fed-length : (s : List ℕ) (b : ℕ) → length s ≡ size → length (fedOf s b .message) ≡ 11
+fed-length : (s : List ℕ) (b : ℕ) → length s ≡ size → length (fedOf s b .message) ≡ longest
 unfolding messageOf
-fed-length s b h = take-length (placeOf s) (block s 227 11) b ∙ block-length s 227 11 (omega arith)
+fed-length s b h = take-length (placeOf s) (block s messageAt longest) b ∙ block-length s messageAt longest (omega arith)
 
 marked-receive : (s cal meas : List ℕ) (b : ℕ) → Marked s (receiveOf s cal meas b .state)
 unfolding receiveOf
@@ -255,9 +256,13 @@ marked-stored : (s : List ℕ) (k : ℕ) (bs : List ℕ) → Marked s (stored s 
 unfolding stored
 marked-stored s k bs = marked-sets s (sampleAt k) (length bs ∷ bs) (omega arith)
 
+marked-odts : (s : List ℕ) (k clock : ℕ) (cal meas : List ℕ) (n : ℕ) → Marked s (capturedOdts s k clock cal meas n)
+unfolding capturedOdts
+marked-odts s k clock cal meas zero = marked-none
+marked-odts s k clock cal meas (suc n) = marked-then (marked-odts s k clock cal meas n) (marked-stored (capturedOdts s k clock cal meas n) (k + n) _)
+
 marked-captured : (s : List ℕ) (l clock : ℕ) (cal meas : List ℕ) → Marked s (captured s l clock cal meas)
-unfolding captured
-marked-captured s l clock cal meas = marked-then (marked-stored s (firstOdt l) _) (marked-stored _ (firstOdt l + 1) _)
+marked-captured s l clock cal meas = marked-odts s (firstOdt l) clock cal meas (odtCount l)
 
 marked-sampled : (c : Sampling) (s : List ℕ) (l clock : ℕ) (cal meas : List ℕ) → Marked s (sampledState c s l clock cal meas)
 unfolding sampledState
@@ -287,22 +292,22 @@ event-kept s cal meas event clock h = kept (marked-event s cal meas event clock)
 marked-answerSent : (s : List ℕ) → Marked s (answerSent s)
 unfolding answerSent
 marked-answerSent s =
-    let s₁ : List ℕ = set s 239 (answerKind s) in
-    let s₂ : List ℕ = set s₁ 238 0 in
-    let s₃ : List ℕ = set s₂ 8 (nextCtr s) in
-    marked-then (marked-set s 239 (answerKind s) (lit≤ tt))
-    (marked-then (marked-set s₁ 238 0 (lit≤ tt))
-    (marked-then (marked-set s₂ 8 (nextCtr s) (lit≤ tt)) (marked-set s₃ 10 1 (lit≤ tt))))
+    let s₁ : List ℕ = set s answerBytesAt (answerKind s) in
+    let s₂ : List ℕ = set s₁ answerAt 0 in
+    let s₃ : List ℕ = set s₂ ctrAt (nextCtr s) in
+    marked-then (marked-set s answerBytesAt (answerKind s) (lit≤ tt))
+    (marked-then (marked-set s₁ answerAt 0 (lit≤ tt))
+    (marked-then (marked-set s₂ ctrAt (nextCtr s) (lit≤ tt)) (marked-set s₃ lastAt 1 (lit≤ tt))))
 
 marked-packetSent : (s : List ℕ) (k : ℕ) → Marked s (packetSent s k)
 unfolding packetSent
 marked-packetSent s k =
     let s₁ : List ℕ = set s (sampleAt k) 0 in
-    let s₂ : List ℕ = set s₁ 8 (nextCtr s) in
-    let s₃ : List ℕ = set s₂ 9 (listOf k) in
+    let s₂ : List ℕ = set s₁ ctrAt (nextCtr s) in
+    let s₃ : List ℕ = set s₂ servedAt (listOf k) in
     marked-then (marked-set s (sampleAt k) 0 (omega arith))
-    (marked-then (marked-set s₁ 8 (nextCtr s) (lit≤ tt))
-    (marked-then (marked-set s₂ 9 (listOf k) (lit≤ tt)) (marked-set s₃ 10 0 (lit≤ tt))))
+    (marked-then (marked-set s₁ ctrAt (nextCtr s) (lit≤ tt))
+    (marked-then (marked-set s₂ servedAt (listOf k) (lit≤ tt)) (marked-set s₃ lastAt 0 (lit≤ tt))))
 
 marked-sent : (t : Turn) (s out : List ℕ) → Marked s (sentBy t s out .state)
 unfolding sentBy

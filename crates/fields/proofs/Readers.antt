@@ -8,16 +8,17 @@ use borrow.Author.Tests.{leb-true, ltb-true, ltb-false, eqb-true, eqb-false}
 use lib.Dec.{T, eqb, ltb, leb, leb→le, lit<, lit≤}
 use lib.ListN.{length, getD, drop, set, length-take, length-drop, length-set}
 use lib.Seq.{getD-take, getD-drop, ext-getD, getD-set-same, getD-set-other, set-out}
+use Rattle.line.specs.Message.{longest}
 use Rattle.line.specs.Unstuffing.{Fed}
 use Rattle.line.proofs.Laws.{cond-ind}
-use Rattle.session.specs.Layout.{size, entries, allOdts, packetMost}
-use Rattle.session.specs.Bytes.{u16At, u32At, block}
-use Rattle.session.specs.State.{consistent, flagOf, generatorOf, openOf, unlockedOf, maskOf, seedOf, mtaOf, pointerOf, placeOf, messageOf, answerLength, waits, answerKind, answerOf, answered, setSeed}
-use Rattle.session.specs.Lists.{sizeOf, extensionOf, addressOf, bytesOfFirst, odtBytes, modeOf, fitOf, runsOf, anyRuns, storedLength}
+use Rattle.state.specs.Layout.{size, lists, entries, allOdts, packetMost, markAt, generatorAt, ctrAt, placeAt, countAt, messageAt, answerAt, answerBytesAt, sessionAt, openAt, calibrationAt, listsAt, seedAt, mtaAt, addressAt, pointerAt, pointerEntryAt, modeAt, runningAt, entriesAt, entryAt, sampleAt, firstOdt, odtCount}
+use Rattle.state.specs.Bytes.{u16At, u32At, block}
+use Rattle.state.specs.State.{consistent, flagOf, generatorOf, openOf, unlockedOf, maskOf, seedOf, mtaOf, pointerOf, placeOf, messageOf, answerLength, waits, answerKind, answerOf, answered, setSeed}
+use Rattle.lists.specs.Lists.{sizeOf, extensionOf, addressOf, bytesOfFirst, odtBytes, bytesOfOdts, odtsFit, modeOf, fitOf, runsOf, anyRuns, storedLength}
 use Rattle.session.specs.Receive.{readOn}
-use Rattle.session.specs.declared.Seed.{Seed}
-use Rattle.session.specs.declared.Resource.{Resource}
-use Rattle.session.specs.declared.Resource.the-variants.{Calibration, Lists}
+use Rattle.words.specs.declared.Seed.{Seed}
+use Rattle.words.specs.declared.Resource.{Resource}
+use Rattle.words.specs.declared.Resource.the-variants.{Calibration, Lists}
 use Rattle.fields.proofs.Frames.{Only, out-below, out-above, only-seed, only-readOn, only-answered}
 
 -- ---- t is as long as s and has its bytes from a up to b
@@ -73,8 +74,8 @@ same-set {a} {b} {s} {t} i v w = record { long = simp (length-set, w .long); byt
 pub answer-most : (s : List ℕ) → answerLength s ≤ packetMost
 unfolding answerLength
 answer-most s =
-    cond-ind (λ (n : ℕ). n ≤ packetMost) (eqb (getD s 238 0) 0) (λ _. omega arith)
-    (λ _. cond-ind (λ (n : ℕ). n ≤ packetMost) (ltb packetMost (getD s 238 0)) (λ _. omega arith) (λ h. ltb-false packetMost (getD s 238 0) h))
+    cond-ind (λ (n : ℕ). n ≤ packetMost) (eqb (getD s answerAt 0) 0) (λ _. omega arith)
+    (λ _. cond-ind (λ (n : ℕ). n ≤ packetMost) (ltb packetMost (getD s answerAt 0)) (λ _. omega arith) (λ h. ltb-false packetMost (getD s answerAt 0) h))
 
 -- ---- the readers
 module _ {s t : List ℕ} where
@@ -87,116 +88,132 @@ module _ {s t : List ℕ} where
   unfolding flagOf
   flag-reads i w = rw (w .byte i (omega arith) (omega arith))
 
-  pub consistent-reads : Same 0 4 s t → consistent t ≡ consistent s
+  pub consistent-reads : Same markAt generatorAt s t → consistent t ≡ consistent s
   unfolding consistent
-  consistent-reads w = rw (w .long, u32-reads 0 w)
+  consistent-reads w = rw (w .long, u32-reads markAt w)
 
-  pub generator-reads : Same 4 8 s t → generatorOf t ≡ generatorOf s
+  pub generator-reads : Same generatorAt ctrAt s t → generatorOf t ≡ generatorOf s
   unfolding generatorOf
-  generator-reads w = rw (u32-reads 4 w)
+  generator-reads w = rw (u32-reads generatorAt w)
 
-  pub open-reads : Same 11 12 s t → openOf t ≡ openOf s
-  open-reads w = flag-reads 11 w
+  pub open-reads : Same openAt calibrationAt s t → openOf t ≡ openOf s
+  open-reads w = flag-reads openAt w
 
-  pub lock-reads : (r : Resource) → Same 12 14 s t → unlockedOf t r ≡ unlockedOf s r
-  lock-reads Calibration w = flag-reads 12 (same-part (lit≤ tt) (lit≤ tt) w)
-  lock-reads Lists w = flag-reads 13 (same-part (lit≤ tt) (lit≤ tt) w)
+  pub lock-reads : (r : Resource) → Same calibrationAt seedAt s t → unlockedOf t r ≡ unlockedOf s r
+  lock-reads Calibration w = flag-reads calibrationAt (same-part (lit≤ tt) (lit≤ tt) w)
+  lock-reads Lists w = flag-reads listsAt (same-part (lit≤ tt) (lit≤ tt) w)
 
-  pub mask-reads : Same 12 14 s t → maskOf t ≡ maskOf s
+  pub mask-reads : Same calibrationAt seedAt s t → maskOf t ≡ maskOf s
   unfolding maskOf
   mask-reads w = rw (lock-reads Calibration w, lock-reads Lists w)
 
-  pub seed-reads : Same 14 15 s t → seedOf t ≡ seedOf s
+  pub seed-reads : Same seedAt mtaAt s t → seedOf t ≡ seedOf s
   unfolding seedOf
-  seed-reads w = rw (w .byte 14 (lit≤ tt) (lit< tt))
+  seed-reads w = rw (w .byte seedAt (lit≤ tt) (lit< tt))
 
-  pub mta-reads : Same 15 20 s t → mtaOf t ≡ mtaOf s
+  pub mta-reads : Same mtaAt pointerAt s t → mtaOf t ≡ mtaOf s
   unfolding mtaOf
-  mta-reads w = rw (w .byte 15 (lit≤ tt) (lit< tt), u32-reads 16 (same-part (lit≤ tt) (lit≤ tt) w))
+  mta-reads w = rw (w .byte mtaAt (lit≤ tt) (lit< tt), u32-reads addressAt (same-part (lit≤ tt) (lit≤ tt) w))
 
-  pub pointer-reads : Same 20 21 s t → pointerOf t ≡ pointerOf s
+  pub pointer-reads : Same pointerAt (modeAt 0) s t → pointerOf t ≡ pointerOf s
   unfolding pointerOf
-  pointer-reads w = rw (w .byte 20 (lit≤ tt) (lit< tt))
+  pointer-reads w = rw (w .byte pointerAt (lit≤ tt) (lit< tt), w .byte pointerEntryAt (lit≤ tt) (lit< tt))
 
-  pub place-reads : Same 225 227 s t → placeOf t ≡ placeOf s
+  pub place-reads : Same placeAt messageAt s t → placeOf t ≡ placeOf s
   unfolding placeOf
-  place-reads w = rw (w .byte 225 (lit≤ tt) (lit< tt), w .byte 226 (lit≤ tt) (lit< tt))
+  place-reads w = rw (w .byte placeAt (lit≤ tt) (lit< tt), w .byte countAt (lit≤ tt) (lit< tt))
 
-  pub message-reads : Same 227 238 s t → messageOf t ≡ messageOf s
+  pub message-reads : Same messageAt answerAt s t → messageOf t ≡ messageOf s
   unfolding messageOf
-  message-reads w = same-block 227 11 (lit≤ tt) (lit≤ tt) w
+  message-reads w = same-block messageAt longest (lit≤ tt) (lit≤ tt) w
 
-  pub answerLength-reads : Same 238 247 s t → answerLength t ≡ answerLength s
+  pub answerLength-reads : Same answerAt sessionAt s t → answerLength t ≡ answerLength s
   unfolding answerLength
-  answerLength-reads w = rw (w .byte 238 (lit≤ tt) (lit< tt))
+  answerLength-reads w = rw (w .byte answerAt (lit≤ tt) (lit< tt))
 
-  pub waits-reads : Same 238 247 s t → waits t ≡ waits s
+  pub waits-reads : Same answerAt sessionAt s t → waits t ≡ waits s
   waits-reads w = rw (answerLength-reads w)
 
-  answerKind-reads : Same 238 247 s t → answerKind t ≡ answerKind s
+  answerKind-reads : Same answerAt sessionAt s t → answerKind t ≡ answerKind s
   unfolding answerKind
-  answerKind-reads w = rw (w .byte 239 (lit≤ tt) (lit< tt), answerLength-reads w)
+  answerKind-reads w = rw (w .byte answerBytesAt (lit≤ tt) (lit< tt), answerLength-reads w)
 
-  pub answer-reads : Same 238 247 s t → answerOf t ≡ answerOf s
+  pub answer-reads : Same answerAt sessionAt s t → answerOf t ≡ answerOf s
   unfolding answerOf
   answer-reads w =
       rw (answerKind-reads w, answerLength-reads w)
-      (same-block 239 (answerLength s) (lit≤ tt) (omega (arith, answer-most s)) (same-set 239 (answerKind s) w))
+      (same-block answerBytesAt (answerLength s) (lit≤ tt) (omega (arith, answer-most s)) (same-set answerBytesAt (answerKind s) w))
 
-  pub size-reads : (k e : ℕ) → k < allOdts → e < entries → Same 33 161 s t → sizeOf t k e ≡ sizeOf s k e
+  pub size-reads : (k e : ℕ) → k < allOdts → e < entries → Same (entriesAt 0) (sampleAt 0) s t → sizeOf t k e ≡ sizeOf s k e
   unfolding sizeOf
-  size-reads k e p q w = rw (w .byte (33 + 16 * k + 4 * e) (omega arith) (omega arith))
+  size-reads k e p q w = rw (w .byte (entryAt k e) (omega arith) (omega arith))
 
-  pub extension-reads : (k e : ℕ) → k < allOdts → e < entries → Same 33 161 s t → extensionOf t k e ≡ extensionOf s k e
+  pub extension-reads : (k e : ℕ) → k < allOdts → e < entries → Same (entriesAt 0) (sampleAt 0) s t → extensionOf t k e ≡ extensionOf s k e
   unfolding extensionOf
-  extension-reads k e p q w = rw (flag-reads (33 + 16 * k + 4 * e + 1) (same-part (omega arith) (omega arith) w))
+  extension-reads k e p q w = rw (flag-reads (entryAt k e + 1) (same-part (omega arith) (omega arith) w))
 
-  pub address-reads : (k e : ℕ) → k < allOdts → e < entries → Same 33 161 s t → addressOf t k e ≡ addressOf s k e
+  pub address-reads : (k e : ℕ) → k < allOdts → e < entries → Same (entriesAt 0) (sampleAt 0) s t → addressOf t k e ≡ addressOf s k e
   unfolding addressOf u16At
   address-reads k e p q w =
-      rw (w .byte (33 + 16 * k + 4 * e + 2) (omega arith) (omega arith), w .byte (33 + 16 * k + 4 * e + 2 + 1) (omega arith) (omega arith))
+      rw (w .byte (entryAt k e + 2) (omega arith) (omega arith), w .byte (entryAt k e + 2 + 1) (omega arith) (omega arith))
 
-  first-reads : (k n : ℕ) → k < allOdts → n ≤ entries → Same 33 161 s t → bytesOfFirst t k n ≡ bytesOfFirst s k n
+  first-reads : (k n : ℕ) → k < allOdts → n ≤ entries → Same (entriesAt 0) (sampleAt 0) s t → bytesOfFirst t k n ≡ bytesOfFirst s k n
   unfolding bytesOfFirst
   first-reads k zero p q w = refl
   first-reads k (suc n) p q w = rw (first-reads k n p (omega arith) w, size-reads k n p (omega arith) w)
 
-  odt-reads : (k : ℕ) → k < allOdts → Same 33 161 s t → odtBytes t k ≡ odtBytes s k
+  odt-reads : (k : ℕ) → k < allOdts → Same (entriesAt 0) (sampleAt 0) s t → odtBytes t k ≡ odtBytes s k
   odt-reads k p w = first-reads k entries p (lit≤ tt) w
 
-  pub mode-reads : (l : ℕ) → l < 4 → Same 21 33 s t → modeOf t l ≡ modeOf s l
+  pub mode-reads : (l : ℕ) → l < lists → Same (modeAt 0) (entriesAt 0) s t → modeOf t l ≡ modeOf s l
   unfolding modeOf
-  mode-reads l p w = rw (w .byte (21 + 3 * l) (omega arith) (omega arith))
+  mode-reads l p w = rw (w .byte (modeAt l) (omega arith) (omega arith))
 
-  pub fit-reads : (l : ℕ) → l < 4 → Same 21 161 s t → fitOf t l ≡ fitOf s l
+  odts-bytes-read : (k n : ℕ) → k + n ≤ allOdts → Same (entriesAt 0) (sampleAt 0) s t → bytesOfOdts t k n ≡ bytesOfOdts s k n
+  unfolding bytesOfOdts
+  odts-bytes-read k zero p w = refl
+  odts-bytes-read k (suc n) p w = rw (odts-bytes-read k n (omega arith) w, odt-reads (k + n) (omega arith) w)
+
+  odts-fit-read : (k n : ℕ) → k + n ≤ allOdts → Same (entriesAt 0) (sampleAt 0) s t → odtsFit t k n ≡ odtsFit s k n
+  unfolding odtsFit
+  odts-fit-read k zero p w = refl
+  odts-fit-read k (suc n) p w = rw (odts-fit-read k n (omega arith) w, odt-reads (k + n) (omega arith) w)
+
+  pub fit-reads : (l : ℕ) → l < lists → Same (modeAt 0) (sampleAt 0) s t → fitOf t l ≡ fitOf s l
   unfolding fitOf
   fit-reads l p w =
-      let e : Same 33 161 s t = same-part (lit≤ tt) (lit≤ tt) w in
-      rw (mode-reads l p (same-part (lit≤ tt) (lit≤ tt) w), odt-reads (2 * l) (omega arith) e, odt-reads (2 * l + 1) (omega arith) e)
+      let e : Same (entriesAt 0) (sampleAt 0) s t = same-part (lit≤ tt) (lit≤ tt) w in
+      rw (mode-reads l p (same-part (lit≤ tt) (lit≤ tt) w), odts-bytes-read (firstOdt l) (odtCount l) (omega arith) e, odts-fit-read (firstOdt l) (odtCount l) (omega arith) e)
 
-  pub runs-reads : (l : ℕ) → l < 4 → Same 11 161 s t → runsOf t l ≡ runsOf s l
+  pub runs-reads : (l : ℕ) → l < lists → Same sessionAt (sampleAt 0) s t → runsOf t l ≡ runsOf s l
   unfolding runsOf
   runs-reads l p w =
-      rw (open-reads (same-part (lit≤ tt) (lit≤ tt) w), flag-reads (23 + 3 * l) (same-part (omega arith) (omega arith) w), fit-reads l p (same-part (lit≤ tt) (lit≤ tt) w))
+      rw (open-reads (same-part (lit≤ tt) (lit≤ tt) w), flag-reads (runningAt l) (same-part (omega arith) (omega arith) w), fit-reads l p (same-part (lit≤ tt) (lit≤ tt) w))
 
-  pub anyRuns-reads : (n : ℕ) → n ≤ 4 → Same 11 161 s t → anyRuns t n ≡ anyRuns s n
+  pub anyRuns-reads : (n : ℕ) → n ≤ lists → Same sessionAt (sampleAt 0) s t → anyRuns t n ≡ anyRuns s n
   unfolding anyRuns
   anyRuns-reads zero p w = refl
   anyRuns-reads (suc n) p w = rw (anyRuns-reads n (omega arith) w, runs-reads n (omega arith) w)
 
-  pub stored-reads : (k : ℕ) → Same (161 + 8 * k) (161 + 8 * k + 1) s t → storedLength t k ≡ storedLength s k
+  pub stored-reads : (k : ℕ) → Same (sampleAt k) (sampleAt k + 1) s t → storedLength t k ≡ storedLength s k
   unfolding storedLength
-  stored-reads k w = rw (w .byte (161 + 8 * k) (omega arith) (omega arith))
+  stored-reads k w = rw (w .byte (sampleAt k) (omega arith) (omega arith))
 
--- ---- for instance: a received byte leaves the session and the answer, an answer leaves all before it, a seed leaves the MTA
-pub readOn-front : (s : List ℕ) (f : Fed) → length s ≡ size → length (f .message) ≡ 11 → Same 0 225 s (readOn s f)
+-- ---- for instance: a received byte leaves all but the reader, an answer leaves all but itself, a seed leaves the MTA
+pub readOn-front : (s : List ℕ) (f : Fed) → length s ≡ size → length (f .message) ≡ longest → Same 0 placeAt s (readOn s f)
 readOn-front s f h k = apart tt (only-readOn s f h k)
 
-pub readOn-answer : (s : List ℕ) (f : Fed) → length s ≡ size → length (f .message) ≡ 11 → answerOf (readOn s f) ≡ answerOf s
+pub readOn-session : (s : List ℕ) (f : Fed) → length s ≡ size → length (f .message) ≡ longest → Same sessionAt size s (readOn s f)
+readOn-session s f h k = apart tt (only-readOn s f h k)
+
+pub readOn-answer : (s : List ℕ) (f : Fed) → length s ≡ size → length (f .message) ≡ longest → answerOf (readOn s f) ≡ answerOf s
 readOn-answer s f h k = answer-reads (apart tt (only-readOn s f h k))
 
-pub answered-front : (s bs : List ℕ) → length bs ≤ packetMost → Same 0 238 s (answered s bs)
+pub answered-front : (s bs : List ℕ) → length bs ≤ packetMost → Same 0 answerAt s (answered s bs)
 answered-front s bs h = apart tt (only-answered s bs h)
+
+pub answered-session : (s bs : List ℕ) → length bs ≤ packetMost → Same sessionAt size s (answered s bs)
+answered-session s bs h = apart tt (only-answered s bs h)
 
 pub seed-mta : (s : List ℕ) (x : Seed) → mtaOf (setSeed s x) ≡ mtaOf s
 seed-mta s x = mta-reads (apart tt (only-seed s x))

@@ -11,7 +11,7 @@ use lib.Pow.{shr-shr, shr-lt}
 use lib.Dec.{T, ltb, leb, leb→le}
 use lib.ListN.{length, getD, set, take, drop, replicate, length-set, length-replicate, getD-replicate, List·getD-append}
 use lib.Seq.{sets, sets-eq, getD-set-same, getD-set-other, getD-append-add, length-take-le, take-at, drop-at, take-set-le}
-use Rattle.session.specs.Bytes.{u16At, u32At, put16, put32, block, cleared}
+use Rattle.state.specs.Bytes.{u16At, u32At, put16, put32, block, cleared}
 
 -- ---- what a store leaves
 -- j lies outside the bytes from lo up to hi; at numerals it computes, so that `tt` proves it

@@ -7,7 +7,7 @@ use native.Mathlib.Omega.{arith}
 use lib.Dec.{eqb, leb, ltb}
 use lib.ListN.{length}
 use borrow.Author.Tests.{leb-true, ltb-false, eqb-true}
-use Rattle.session.specs.Bytes.{u16At}
+use Rattle.state.specs.Bytes.{u16At}
 use Rattle.replay.specs.declared.record.Record.{Record}
 use Rattle.replay.specs.Record.{header, longestBody, memory, fitsOf, measuredOf, wholeOf, bodyOf, recordAt, nextOf, Inside}
 

@@ -4,7 +4,7 @@ use mathlib.Core.Bool.{Bool, true, false, cond}
 use mathlib.Core.List.{List}
 use lib.Dec.{eqb, leb, ltb}
 use lib.ListN.{length, getD}
-use Rattle.session.specs.Bytes.{u16At}
+use Rattle.state.specs.Bytes.{u16At}
 use Rattle.replay.specs.declared.record.Record.{Record}
 use Rattle.replay.specs.declared.record.Record.the-variants.{End, More, Bad, Wire, Event, Slot, Measured}
 

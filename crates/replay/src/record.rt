@@ -3,7 +3,7 @@ ghost use mathlib.Core.Path.{_≡_};
 ghost use mathlib.Core.Bool.{true};
 ghost use Prim.Native.Nat.{_+_, _≤_, _<_};
 ghost use lib.ListN.{length};
-ghost use Rattle.session.specs.Bytes.{u16At};
+ghost use Rattle.state.specs.Bytes.{u16At};
 ghost use Rattle.replay.specs.Record.{recordAt, bodyOf, measuredOf, wholeOf, fitsOf, nextOf, badOf};
 
 // Body length and kind.

@@ -9,7 +9,7 @@ use crate::record::Record;
 use crate::text;
 use line::ROOM;
 use session::STATE_SIZE;
-use session::Slotted;
+use words::Slotted;
 
 // What a line is given: three characters for each byte of a frame, and two for none.
 const LINE: usize = 3 * ROOM + 2;

@@ -5,7 +5,7 @@ use Prim.Native.Nat.{ℕ, zero, suc, _+_, _≤_}
 use native.Mathlib.Omega.{arith}
 use lib.ListN.{take, drop}
 use lib.Seq.{take-take, drop-drop}
-use Rattle.session.specs.Bytes.{block}
+use Rattle.state.specs.Bytes.{block}
 
 -- a block of the first k reaches no further
 block-of-take : (i n k : ℕ) (l : List ℕ) → i + n ≤ k → block (take k l) i n ≡ block l i n

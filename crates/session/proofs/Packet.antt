@@ -6,9 +6,9 @@ use native.Mathlib.Nat.{add-assoc}
 use native.Mathlib.Omega.{arith}
 use lib.ListN.{length, getD, drop}
 use lib.Seq.{getD-take, getD-drop}
-use Rattle.session.specs.Layout.{packetAt, size, packetMost}
-use Rattle.session.specs.Bytes.{u16At, u32At, block}
-use Rattle.session.proofs.Sets.{block-length}
+use Rattle.state.specs.Layout.{packetAt, size, packetMost}
+use Rattle.state.specs.Bytes.{u16At, u32At, block}
+use Rattle.state.proofs.Sets.{block-length}
 
 pub packet-length : (s : List ℕ) (n : ℕ) → n ≤ packetMost → length s ≡ size → length (block s packetAt n) ≡ n
 packet-length s n h e = block-length s packetAt n (omega arith)

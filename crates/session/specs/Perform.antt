@@ -6,21 +6,21 @@ use mathlib.Core.List.{List, [], _∷_}
 use lib.Dec.{eqb}
 use lib.ListN.{set}
 use lib.Seq.{sets}
-use Rattle.session.specs.Layout.{lists, lastEntry, events, packetMost, entryMost, addressable, selectedAt, firstOdt, listOf}
-use Rattle.session.specs.Bytes.{block, bytes32}
-use Rattle.session.specs.Generator.{nextOf}
-use Rattle.session.specs.Memory.{pick, blockSum}
-use Rattle.session.specs.State.{generatorOf, setGenerator, maskOf, lockAt, setSeed, setMta, setPointer, closed, fresh, answered}
-use Rattle.session.specs.Lists.{anyRuns, stopped, started, listCleared, modeSet, entryCleared, entrySet, stopEach, startSelected, stopSelected}
-use Rattle.session.specs.Command.{codeOf}
-use Rattle.session.specs.declared.Extension.the-variants.{Calibration}
-use Rattle.session.specs.declared.Seed.the-variants.{None, For}
-use Rattle.session.specs.declared.Mta.the-variants.{At}
-use Rattle.session.specs.declared.Pointer.{Pointer}
-use Rattle.session.specs.declared.Pointer.the-variants.{Unset as NoEntry, At as Entry}
-use Rattle.session.specs.declared.Reason.the-variants as reason
-use Rattle.session.specs.declared.Deed.{Deed}
-use Rattle.session.specs.declared.Deed.the-variants.{Refuse, RefuseSize, WrongKey, Connect, Disconnect, Status, Synch, NoSeed, GiveSeed, Unlock, SetMta, Upload, ShortUpload, Checksum, Download, ClearList, SetPointer, ClearEntry, WriteEntry, SetMode, Stop, Start, KeepRunning, Select, StopAll, StartSelected, StopSelected, ProcessorInfo, ResolutionInfo}
+use Rattle.state.specs.Layout.{lists, lastEntry, events, packetMost, entryMost, addressable, selectedAt, firstOdt, listOf}
+use Rattle.state.specs.Bytes.{block, bytes32}
+use Rattle.state.specs.Generator.{nextOf}
+use Rattle.state.specs.Memory.{pick, blockSum}
+use Rattle.state.specs.State.{generatorOf, setGenerator, maskOf, lockAt, setSeed, setMta, setPointer, closed, fresh, answered}
+use Rattle.lists.specs.Lists.{anyRuns, stopped, started, listCleared, modeSet, entryCleared, entrySet, stopEach, startSelected, stopSelected}
+use Rattle.words.specs.Command.{codeOf}
+use Rattle.words.specs.declared.Extension.the-variants.{Calibration}
+use Rattle.words.specs.declared.Seed.the-variants.{None, For}
+use Rattle.words.specs.declared.Mta.the-variants.{At}
+use Rattle.words.specs.declared.Pointer.{Pointer}
+use Rattle.words.specs.declared.Pointer.the-variants.{Unset as NoEntry, At as Entry}
+use Rattle.words.specs.declared.Reason.the-variants as reason
+use Rattle.judge.specs.declared.Deed.{Deed}
+use Rattle.judge.specs.declared.Deed.the-variants.{Refuse, RefuseSize, WrongKey, Connect, Disconnect, Status, Synch, NoSeed, GiveSeed, Unlock, SetMta, Upload, ShortUpload, Checksum, Download, ClearList, SetPointer, ClearEntry, WriteEntry, SetMode, Stop, Start, KeepRunning, Select, StopAll, StartSelected, StopSelected, ProcessorInfo, ResolutionInfo}
 
 -- after an ODT's last entry the pointer is unset
 unfoldable pub nextEntry : ℕ → ℕ → Pointer

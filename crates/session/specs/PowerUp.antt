@@ -5,12 +5,12 @@ use mathlib.Core.Bool.{cond}
 use mathlib.Core.List.{List}
 use lib.Dec.{eqb}
 use lib.ListN.{length, set, replicate}
-use Rattle.session.specs.Layout.{lastList, mark, markAt, servedAt, size}
-use Rattle.session.specs.Bytes.{put32}
-use Rattle.session.specs.Generator.{startOf}
-use Rattle.session.specs.State.{setGenerator}
-use Rattle.session.specs.declared.PoweredUp.{PoweredUp}
-use Rattle.session.specs.declared.PoweredUp.the-variants.{Done, NoState}
+use Rattle.state.specs.Layout.{lastList, mark, markAt, servedAt, size}
+use Rattle.state.specs.Bytes.{put32}
+use Rattle.state.specs.Generator.{startOf}
+use Rattle.state.specs.State.{setGenerator}
+use Rattle.words.specs.declared.PoweredUp.{PoweredUp}
+use Rattle.words.specs.declared.PoweredUp.the-variants.{Done, NoState}
 
 -- the last list counts as last served; all else is 0
 unfoldable pub powered : ℕ → List ℕ

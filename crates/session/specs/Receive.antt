@@ -9,14 +9,14 @@ use Rattle.line.specs.Unstuffing.{Fed}
 use Rattle.line.specs.Reader.{takeOf}
 use Rattle.line.specs.declared.Outcome.{Outcome}
 use Rattle.line.specs.declared.Outcome.the-variants as line
-use Rattle.session.specs.Bytes.{block}
-use Rattle.session.specs.State.{consistent, openOf, placeOf, setPlace, messageOf, setMessage, waits}
-use Rattle.session.specs.Judge.{judge}
+use Rattle.state.specs.Bytes.{block}
+use Rattle.state.specs.State.{consistent, openOf, placeOf, setPlace, messageOf, setMessage, waits}
+use Rattle.session.specs.Look.{judgeOf}
 use Rattle.session.specs.Perform.{after, written}
-use Rattle.session.specs.declared.Deed.{Deed}
-use Rattle.session.specs.declared.Deed.the-variants.{Connect}
-use Rattle.session.specs.declared.Received.{Received}
-use Rattle.session.specs.declared.Received.the-variants.{Nothing, Answered, Silent, BadLength, BadEscape, BadChecksum, Unread, CutOff, NoState}
+use Rattle.judge.specs.declared.Deed.{Deed}
+use Rattle.judge.specs.declared.Deed.the-variants.{Connect}
+use Rattle.words.specs.declared.Received.{Received}
+use Rattle.words.specs.declared.Received.the-variants.{Nothing, Answered, Silent, BadLength, BadEscape, BadChecksum, Unread, CutOff, NoState}
 
 -- what the call answers, and the state and the calibration memory after it
 pub record Step : Type 0 where
@@ -39,7 +39,7 @@ goodConnect p = cond (eqb (getD p 0 0) 0xFF) (cond (ltb (length p) 2) false (eqb
 unfoldable pub heeded : List ℕ → List ℕ → List ℕ → List ℕ → Step
 heeded p s cal meas =
     cond (waits s) (only Unread s cal)
-    (cond (openOf s) (obeyed (judge p s (length cal) (length meas)) p s cal meas)
+    (cond (openOf s) (obeyed (judgeOf p s (length cal) (length meas)) p s cal meas)
     (cond (goodConnect p) (obeyed Connect p s cal meas)
     (only Silent s cal)))
 

@@ -3,14 +3,15 @@ ghost use mathlib.Core.Path.{_≡_};
 ghost use mathlib.Core.List.{[], _∷_};
 ghost use Prim.Native.Nat.{_+_, _≤_};
 ghost use lib.ListN.{length};
-ghost use Rattle.session.specs.Layout.{uploadMost, size};
-ghost use Rattle.session.specs.Bytes.{block, bytes32};
-ghost use Rattle.session.specs.Command.{codeOf};
-ghost use Rattle.session.specs.State.{answered};
-use crate::Reason;
-use crate::bytes::copy;
-use crate::bytes::store32;
-use crate::layout;
+ghost use Rattle.state.specs.Layout.{uploadMost, size};
+ghost use Rattle.state.specs.Bytes.{block, bytes32};
+ghost use Rattle.words.specs.Command.{codeOf};
+ghost use Rattle.state.specs.State.{answered};
+use crate::blocks::copy;
+use state::bytes::store32;
+use state::layout;
+use words::Reason;
+use words::reasons;
 
 // FF alone.
 pub fn ok(s: &mut [u8])
@@ -92,28 +93,10 @@ pub fn bytes(s: &mut [u8], mem: &[u8], at: usize, n: u8)
     copy(s, layout::ANSWER_1, mem, at, n as usize);
 }
 
-fn code(reason: Reason) -> u8
-    ensures { λ r. ⌜ r ≡ codeOf reason ⌝ }
-{
-    match reason {
-        Reason::Unknown => 0x20,
-        Reason::TooShort => 0x21,
-        Reason::Locked => 0x25,
-        Reason::Sequence => 0x29,
-        Reason::OutOfRange => 0x22,
-        Reason::DataMissing => 0x21,
-        Reason::ListRuns => 0x11,
-        Reason::ReadOnly => 0x23,
-        Reason::NotInside => 0x24,
-        Reason::CannotStart => 0x2A,
-        Reason::WrongKey => 0x25,
-    }
-}
-
 // FE and the reason's code.
 pub fn refusal(s: &mut [u8], reason: Reason)
     requires { ⌜ length (now s) ≡ size ⌝ }
     ensures { λ _. ⌜ now (s .exit) ≡ answered (now (s .entry)) (0xFE ∷ codeOf reason ∷ []) ⌝ }
 {
-    two(s, 0xFE, code(reason));
+    two(s, 0xFE, reasons::code(reason));
 }

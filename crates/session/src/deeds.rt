@@ -4,23 +4,24 @@ ghost use mathlib.Core.Bool.{cond};
 ghost use mathlib.Core.List.{[], _∷_};
 ghost use Prim.Native.Nat.{_+_, _≤_};
 ghost use lib.ListN.{length};
-ghost use Rattle.session.specs.Layout.{packetMost, uploadMost, downloadMost, size, addressable, packetAt};
-ghost use Rattle.session.specs.Bytes.{block};
-ghost use Rattle.session.specs.Memory.{pick, blockSum};
-ghost use Rattle.session.specs.State.{answered};
+ghost use Rattle.state.specs.Layout.{packetMost, uploadMost, downloadMost, size, addressable, packetAt};
+ghost use Rattle.state.specs.Bytes.{block};
+ghost use Rattle.state.specs.Memory.{pick, blockSum};
+ghost use Rattle.state.specs.State.{answered};
 ghost use Rattle.session.specs.Perform.{after, written};
-ghost use Rattle.session.specs.Doable.{Inside};
-use crate::Deed;
-use crate::Extension;
-use crate::Mta;
-use crate::Resource;
-use crate::Seed;
+ghost use Rattle.judge.specs.Doable.{Inside};
 use crate::answer;
-use crate::bytes::copy;
-use crate::layout;
-use crate::lists::any_runs;
-use crate::memory::block_sum;
-use crate::state;
+use crate::blocks::block_sum;
+use crate::blocks::copy;
+use judge::Deed;
+use lists::list::any_runs;
+use state::fields;
+use state::layout;
+use words::Extension;
+use words::Mta;
+use words::Reason;
+use words::Resource;
+use words::Seed;
 
 // BUILD_CHECKSUM's refusal of a size names the most that it sums.
 pub fn refuse_size(s: &mut [u8])
@@ -34,7 +35,7 @@ pub fn connect(s: &mut [u8])
     requires { ⌜ length (now s) ≡ size ⌝ }
     ensures { λ _. ⌜ now (s .exit) ≡ after Deed.Connect (now (s .entry)) [] [] ⌝ }
 {
-    state::begin(s);
+    fields::begin(s);
     answer::eight(
         s,
         0xFF,
@@ -52,7 +53,7 @@ pub fn disconnect(s: &mut [u8])
     requires { ⌜ length (now s) ≡ size ⌝ }
     ensures { λ _. ⌜ now (s .exit) ≡ after Deed.Disconnect (now (s .entry)) [] [] ⌝ }
 {
-    state::close(s);
+    fields::close(s);
     answer::ok(s);
 }
 
@@ -61,8 +62,8 @@ pub fn wrong_key(s: &mut [u8])
     requires { ⌜ length (now s) ≡ size ⌝ }
     ensures { λ _. ⌜ now (s .exit) ≡ after Deed.WrongKey (now (s .entry)) [] [] ⌝ }
 {
-    state::close(s);
-    answer::refusal(s, crate::Reason::WrongKey);
+    fields::close(s);
+    answer::refusal(s, Reason::WrongKey);
 }
 
 fn running_bit(runs: bool) -> u8
@@ -76,7 +77,7 @@ pub fn status(s: &mut [u8])
     ensures { λ _. ⌜ now (s .exit) ≡ after Deed.Status (now (s .entry)) [] [] ⌝ }
 {
     let running = running_bit(any_runs(s));
-    let mask = state::mask(s);
+    let mask = fields::mask(s);
     answer::six(s, 0xFF, running, mask, 0x00, 0x00, 0x00);
 }
 
@@ -85,9 +86,9 @@ pub fn give_seed(s: &mut [u8], resource: Resource)
     requires { ⌜ length (now s) ≡ size ⌝ }
     ensures { λ _. ⌜ now (s .exit) ≡ after (Deed.GiveSeed resource) (now (s .entry)) [] [] ⌝ }
 {
-    let g = state::generator(s).next();
-    state::set_generator(s, g);
-    state::set_seed(s, Seed::For(resource));
+    let g = fields::generator(s).next();
+    fields::set_generator(s, g);
+    fields::set_seed(s, Seed::For(resource));
     answer::seed(s, g.x);
 }
 
@@ -96,9 +97,9 @@ pub fn unlock(s: &mut [u8], resource: Resource)
     requires { ⌜ length (now s) ≡ size ⌝ }
     ensures { λ _. ⌜ now (s .exit) ≡ after (Deed.Unlock resource) (now (s .entry)) [] [] ⌝ }
 {
-    state::unlock(s, resource);
-    state::set_seed(s, Seed::None);
-    let mask = state::mask(s);
+    fields::unlock(s, resource);
+    fields::set_seed(s, Seed::None);
+    let mask = fields::mask(s);
     answer::two(s, 0xFF, mask);
 }
 
@@ -106,7 +107,7 @@ pub fn set_mta(s: &mut [u8], extension: Extension, address: u32)
     requires { ⌜ length (now s) ≡ size ⌝ }
     ensures { λ _. ⌜ now (s .exit) ≡ after (Deed.SetMta extension address) (now (s .entry)) [] [] ⌝ }
 {
-    state::set_mta(s, Mta::At(extension, address));
+    fields::set_mta(s, Mta::At(extension, address));
     answer::ok(s);
 }
 
@@ -129,7 +130,7 @@ pub fn upload(s: &mut [u8], cal: &[u8], meas: &[u8], extension: Extension, addre
     requires { ⌜ (length (now s) ≡ size) × Inside uploadMost address n (pick extension (length (now cal)) (length (now meas))) ⌝ }
     ensures { λ _. ⌜ now (s .exit) ≡ after (Deed.Upload extension address n) (now (s .entry)) (now (cal .entry)) (now (meas .entry)) ⌝ }
 {
-    state::set_mta(s, Mta::At(extension, address + n as u32));
+    fields::set_mta(s, Mta::At(extension, address + n as u32));
     read(s, cal, meas, extension, address, n);
 }
 
@@ -148,7 +149,7 @@ pub fn checksum(s: &mut [u8], cal: &[u8], meas: &[u8], extension: Extension, add
     ensures { λ _. ⌜ now (s .exit) ≡ after (Deed.Checksum extension address n) (now (s .entry)) (now (cal .entry)) (now (meas .entry)) ⌝ }
 {
     let sum = sum_of(cal, meas, extension, address, n);
-    state::set_mta(s, Mta::At(extension, address + n));
+    fields::set_mta(s, Mta::At(extension, address + n));
     answer::sum(s, sum);
 }
 
@@ -158,6 +159,6 @@ pub fn download(s: &mut [u8], cal: &mut [u8], address: u32, n: u8, len: u8)
     ensures { λ _. ⌜ (now (s .exit) ≡ after (Deed.Download address n) (now (s .entry)) [] []) × (now (cal .exit) ≡ written (Deed.Download address n) (block (now (s .entry)) packetAt len) (now (cal .entry))) ⌝ }
 {
     copy(cal, address as usize, s, layout::PACKET_2, n as usize);
-    state::set_mta(s, Mta::At(Extension::Calibration, address + n as u32));
+    fields::set_mta(s, Mta::At(Extension::Calibration, address + n as u32));
     answer::ok(s);
 }

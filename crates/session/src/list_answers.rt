@@ -3,12 +3,12 @@ ghost use mathlib.Core.Path.{_≡_};
 ghost use mathlib.Core.List.{[]};
 ghost use Prim.Native.Nat.{_<_};
 ghost use lib.ListN.{length};
-ghost use Rattle.session.specs.Layout.{lists, size};
+ghost use Rattle.state.specs.Layout.{lists, size};
 ghost use Rattle.session.specs.Perform.{after};
-use crate::Deed;
 use crate::answer;
-use crate::layout;
 use crate::list_deeds::give_first_odt;
+use judge::Deed;
+use state::layout;
 
 // A running list that is started again goes on as it is.
 pub fn keep_running(s: &mut [u8], l: u8)
@@ -26,9 +26,9 @@ pub fn processor_info(s: &mut [u8])
         s,
         0xFF,
         0x10,
-        layout::LISTS_U8,
+        layout::LISTS,
         0x00,
-        layout::EVENTS_U8,
+        layout::EVENTS,
         0x00,
         0x00,
         0x00,

@@ -3,36 +3,36 @@ ghost use mathlib.Core.Path.{_≡_};
 ghost use mathlib.Core.List.{[], _∷_};
 ghost use Prim.Native.Nat.{_<_};
 ghost use lib.ListN.{length};
-ghost use Rattle.session.specs.Layout.{lists, entries, allOdts, events, size, firstOdt};
+ghost use Rattle.state.specs.Layout.{lists, entryCount, allOdts, events, size, firstOdt};
 ghost use Rattle.session.specs.Perform.{nextEntry, after};
-ghost use Rattle.session.specs.State.{Pointed, answered};
-use crate::Deed;
-use crate::Extension;
-use crate::Pointer;
+ghost use Rattle.state.specs.State.{Pointed, answered};
 use crate::answer;
-use crate::changes;
-use crate::layout;
-use crate::state;
+use judge::Deed;
+use lists::changes;
+use state::fields;
+use state::layout;
+use words::Extension;
+use words::Pointer;
 
 pub fn clear_list(s: &mut [u8], l: u8)
     requires { ⌜ (length (now s) ≡ size) × (l < lists) ⌝ }
     ensures { λ _. ⌜ now (s .exit) ≡ after (Deed.ClearList l) (now (s .entry)) [] [] ⌝ }
 {
-    changes::clear_list(s, l as usize);
+    changes::clear_list(s, l);
     answer::ok(s);
 }
 
 pub fn set_pointer(s: &mut [u8], k: u8, e: u8)
-    requires { ⌜ (length (now s) ≡ size) × (k < allOdts) × (e < entries) ⌝ }
+    requires { ⌜ (length (now s) ≡ size) × (k < allOdts) × (e < entryCount k) ⌝ }
     ensures { λ _. ⌜ now (s .exit) ≡ after (Deed.SetPointer k e) (now (s .entry)) [] [] ⌝ }
 {
-    state::set_pointer(s, Pointer::At { odt: k, entry: e });
+    fields::set_pointer(s, Pointer::At { odt: k, entry: e });
     answer::ok(s);
 }
 
 // After an ODT's last entry the pointer is unset.
 fn next_entry(k: u8, e: u8) -> Pointer
-    requires { ⌜ (k < allOdts) × (e < entries) ⌝ }
+    requires { ⌜ (k < allOdts) × (e < entryCount k) ⌝ }
     ensures { λ r. ⌜ (r ≡ nextEntry k e) × Pointed r ⌝ }
 {
     if e == layout::LAST_ENTRY {
@@ -45,20 +45,20 @@ fn next_entry(k: u8, e: u8) -> Pointer
 }
 
 pub fn clear_entry(s: &mut [u8], k: u8, e: u8)
-    requires { ⌜ (length (now s) ≡ size) × (k < allOdts) × (e < entries) ⌝ }
+    requires { ⌜ (length (now s) ≡ size) × (k < allOdts) × (e < entryCount k) ⌝ }
     ensures { λ _. ⌜ now (s .exit) ≡ after (Deed.ClearEntry k e) (now (s .entry)) [] [] ⌝ }
 {
-    changes::clear_entry(s, k as usize, e as usize);
-    state::set_pointer(s, next_entry(k, e));
+    changes::clear_entry(s, k as u16, e);
+    fields::set_pointer(s, next_entry(k, e));
     answer::ok(s);
 }
 
 pub fn write_entry(s: &mut [u8], k: u8, e: u8, n: u8, extension: Extension, address: u32)
-    requires { ⌜ (length (now s) ≡ size) × (k < allOdts) × (e < entries) ⌝ }
+    requires { ⌜ (length (now s) ≡ size) × (k < allOdts) × (e < entryCount k) ⌝ }
     ensures { λ _. ⌜ now (s .exit) ≡ after (Deed.WriteEntry k e n extension address) (now (s .entry)) [] [] ⌝ }
 {
-    changes::set_entry(s, k as usize, e as usize, n, extension, address);
-    state::set_pointer(s, next_entry(k, e));
+    changes::set_entry(s, k as u16, e, n, extension, address);
+    fields::set_pointer(s, next_entry(k, e));
     answer::ok(s);
 }
 
@@ -66,7 +66,7 @@ pub fn set_mode(s: &mut [u8], l: u8, event: u8)
     requires { ⌜ (length (now s) ≡ size) × (l < lists) × (event < events) ⌝ }
     ensures { λ _. ⌜ now (s .exit) ≡ after (Deed.SetMode l event) (now (s .entry)) [] [] ⌝ }
 {
-    changes::set_mode(s, l as usize, event);
+    changes::set_mode(s, l, event);
     answer::ok(s);
 }
 
@@ -75,14 +75,14 @@ pub fn give_first_odt(s: &mut [u8], l: u8)
     requires { ⌜ (length (now s) ≡ size) × (l < lists) ⌝ }
     ensures { λ _. ⌜ now (s .exit) ≡ answered (now (s .entry)) (0xFF ∷ firstOdt l ∷ []) ⌝ }
 {
-    answer::two(s, 0xFF, layout::first_odt(l as usize) as u8);
+    answer::two(s, 0xFF, layout::first_odt(l) as u8);
 }
 
 pub fn stop(s: &mut [u8], l: u8)
     requires { ⌜ (length (now s) ≡ size) × (l < lists) ⌝ }
     ensures { λ _. ⌜ now (s .exit) ≡ after (Deed.Stop l) (now (s .entry)) [] [] ⌝ }
 {
-    changes::stop(s, l as usize);
+    changes::stop(s, l);
     give_first_odt(s, l);
 }
 
@@ -90,7 +90,7 @@ pub fn start(s: &mut [u8], l: u8)
     requires { ⌜ (length (now s) ≡ size) × (l < lists) ⌝ }
     ensures { λ _. ⌜ now (s .exit) ≡ after (Deed.Start l) (now (s .entry)) [] [] ⌝ }
 {
-    changes::start(s, l as usize);
+    changes::start(s, l);
     give_first_odt(s, l);
 }
 
@@ -98,7 +98,7 @@ pub fn select(s: &mut [u8], l: u8)
     requires { ⌜ (length (now s) ≡ size) × (l < lists) ⌝ }
     ensures { λ _. ⌜ now (s .exit) ≡ after (Deed.Select l) (now (s .entry)) [] [] ⌝ }
 {
-    changes::select(s, l as usize, 1);
+    changes::select(s, l, 1);
     give_first_odt(s, l);
 }
 

@@ -2,15 +2,15 @@
 ghost use mathlib.Core.Path.{_≡_};
 ghost use Prim.Native.Nat.{_≤_};
 ghost use lib.ListN.{length};
-ghost use Rattle.session.specs.Layout.{packetMost, size, packetAt};
-ghost use Rattle.session.specs.Bytes.{block};
+ghost use Rattle.state.specs.Layout.{packetMost, size, packetAt};
+ghost use Rattle.state.specs.Bytes.{block};
 ghost use Rattle.session.specs.Perform.{Performs};
-ghost use Rattle.session.specs.Doable.{Doable};
-use crate::Deed;
+ghost use Rattle.judge.specs.Doable.{Doable};
 use crate::answer;
 use crate::deeds;
 use crate::list_answers;
 use crate::list_deeds;
+use judge::Deed;
 
 // A deed whose packet has len bytes.
 pub fn perform(deed: Deed, s: &mut [u8], cal: &mut [u8], meas: &[u8], len: u8)

@@ -2,16 +2,17 @@
 ghost use mathlib.Core.Path.{_≡_};
 ghost use Prim.Native.Nat.{_≤_};
 ghost use lib.ListN.{length};
-ghost use Rattle.session.specs.Layout.{packetMost, size, packetAt};
-ghost use Rattle.session.specs.Bytes.{block};
+ghost use Rattle.state.specs.Layout.{packetMost, size, packetAt};
+ghost use Rattle.state.specs.Bytes.{block};
 ghost use Rattle.session.specs.Receive.{Receives, goodConnect, heeded, fedOf, receivedBy};
-use crate::Deed;
-use crate::Received;
-use crate::judge::judge;
-use crate::layout;
+use crate::deeds;
+use crate::look::judge;
 use crate::perform::perform;
-use crate::state;
+use crate::place;
 use line::Outcome;
+use state::fields;
+use state::layout;
+use words::Received;
 
 // Whether the packet of n bytes is a good CONNECT.
 fn good_connect(s: &[u8], n: u8) -> bool
@@ -27,21 +28,21 @@ fn good_connect(s: &[u8], n: u8) -> bool
     s[layout::PACKET_1] == 0
 }
 
-// A good message, whose packet has n bytes.
+// A good message, whose packet has n bytes. `perform` has one caller, so that it stands in its place when compiled.
 fn heed(s: &mut [u8], cal: &mut [u8], meas: &[u8], n: u8) -> Received
     requires { ⌜ (length (now s) ≡ size) × (1 ≤ n) × (n ≤ packetMost) ⌝ }
     ensures { λ r. ⌜ Receives (heeded (block (now (s .entry)) packetAt n) (now (s .entry)) (now (cal .entry)) (now (meas .entry))) r (now (s .exit)) (now (cal .exit)) ⌝ }
 {
-    if 0 < state::answer_length(s) {
+    if 0 < fields::answer_length(s) {
         return Received::Unread;
     }
-    if state::flag(s, layout::OPEN) {
+    if fields::flag(s, layout::OPEN) {
         let deed = judge(s, n, cal.len(), meas.len());
         perform(deed, s, cal, meas, n);
         return Received::Answered;
     }
     if good_connect(s, n) {
-        perform(Deed::Connect, s, cal, meas, n);
+        deeds::connect(s);
         return Received::Answered;
     }
     Received::Silent
@@ -52,16 +53,16 @@ pub fn receive(s: &mut [u8], cal: &mut [u8], meas: &[u8], byte: u8) -> Received
     requires { ⌜ length (now s) ≡ size ⌝ }
     ensures { λ r. ⌜ Receives (receivedBy (fedOf (now (s .entry)) byte) (now (s .entry)) (now (cal .entry)) (now (meas .entry))) r (now (s .exit)) (now (cal .exit)) ⌝ }
 {
-    let place = state::place(s);
-    let taken = line::take(place, &mut s[layout::MESSAGE..layout::ANSWER], byte);
+    let at = place::place(s);
+    let taken = line::take(at, &mut s[layout::MESSAGE..layout::ANSWER], byte);
     let next = taken.place;
     let outcome = taken.outcome;
     // Most bytes end nothing. They leave here, with no table of outcomes to go through.
     if let Outcome::Nothing = outcome {
-        state::set_place(s, next);
+        place::set_place(s, next);
         return Received::Nothing;
     }
-    state::set_place(s, next);
+    place::set_place(s, next);
     match outcome {
         Outcome::Nothing => Received::Nothing,
         Outcome::Good { ctr: _, at: _, len } => heed(s, cal, meas, len as u8),

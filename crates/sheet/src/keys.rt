@@ -1,7 +1,7 @@
 // The key to a seed, and the command that it goes in.
 ghost use mathlib.Core.Path.{_≡_};
-ghost use Rattle.session.specs.Generator.{keyOf, addend};
-use session::Resource;
+ghost use Rattle.state.specs.Generator.{keyOf, addend};
+use words::Resource;
 
 // 01 is calibration, 04 the lists.
 pub fn resource(code: u8) -> Resource {

@@ -10,8 +10,8 @@ use crate::wire;
 use line::LONGEST;
 use line::MOST;
 use line::ROOM;
-use session::Evented;
 use session::STATE_SIZE;
+use words::Evented;
 
 const MEMORY: usize = 4096;
 

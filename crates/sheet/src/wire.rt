@@ -6,7 +6,7 @@ use line::Place;
 use line::ROOM;
 use line::Written;
 use session::STATE_SIZE;
-use session::Slotted;
+use words::Slotted;
 
 // Puts a command into its frame and answers the size: 0 where it fits none.
 pub fn frame(command: &[u8], ctr: u8, out: &mut [u8; ROOM]) -> usize {

@@ -2,10 +2,10 @@
 use Prim.Native.Nat.{ℕ}
 use mathlib.Core.Path.{_≡_}
 use mathlib.Core.List.{List}
-use Rattle.session.specs.Number.{receivedC, eventedC, slottedC, poweredUpC}
+use Rattle.words.specs.Number.{receivedC, eventedC, slottedC, poweredUpC}
 use Rattle.session.specs.Receive.{Step}
-use Rattle.session.specs.Event.{Happened}
-use Rattle.session.specs.Slot.{Slot}
+use Rattle.lists.specs.Event.{Happened}
+use Rattle.lists.specs.Slot.{Slot}
 use Rattle.session.specs.PowerUp.{Power}
 
 pub record PowersUp (p : Power) (r : ℕ) (s : List ℕ) : Type 0 where

@@ -1,17 +1,18 @@
 // The C interface: thin functions over lent bytes. Each is one call of the session and one number:
 // 65,536 times the paper's number, plus a slot's size, or 256 times the sampled lists plus the missed.
 ghost use mathlib.Core.Path.{_≡_};
-ghost use Rattle.session.specs.Layout.{size};
+ghost use Rattle.state.specs.Layout.{size};
 ghost use Rattle.session.specs.Receive.{receiveOf};
-ghost use Rattle.session.specs.Event.{eventOf};
-ghost use Rattle.session.specs.Slot.{slotOf};
+ghost use Rattle.lists.specs.Event.{eventOf};
+ghost use Rattle.lists.specs.Slot.{slotOf};
 ghost use Rattle.session.specs.PowerUp.{powerUpOf};
-ghost use Rattle.session.specs.Number.{receivedC, eventedC, slottedC, poweredUpC, Small};
+ghost use Rattle.lists.specs.Slot.{Small};
+ghost use Rattle.words.specs.Number.{receivedC, eventedC, slottedC, poweredUpC};
 ghost use Rattle.slave.specs.Returns.{PowersUp, Receives, Happens, Sends};
-use session::Evented;
-use session::PoweredUp;
-use session::Received;
-use session::Slotted;
+use words::Evented;
+use words::PoweredUp;
+use words::Received;
+use words::Slotted;
 
 fn received(r: Received) -> u32
     ensures { λ n. ⌜ n ≡ receivedC r ⌝ }

@@ -11,7 +11,7 @@ use past::{Asked, Past};
 
 pub const LENGTHS: [usize; 5] = [0, 1, 4095, 4096, 5000];
 pub const ROOMS: usize = 31;
-pub const WRONG_SIZES: [usize; 5] = [0, 3, 4, 246, 248];
+pub const WRONG_SIZES: [usize; 5] = [0, 3, 4, 247, 249];
 
 /// What a memory's length can do to a call.
 const USES: [&str; 3] = ["inside", "not inside", "sampled"];

@@ -1,7 +1,7 @@
 use borrow.Author.Tests.{not-true, not-false}
 use mathlib.Core.Path.{refl, sym, _∙_}
 use Rattle.session.specs.Receive.{receiveOf}
-use Rattle.session.proofs.Consistent.{consistent-size}
+use Rattle.state.proofs.Consistent.{consistent-size}
 use borrow.Author.Needs.{needs}
 use Rattle.session.proofs.receive_byte.Statement.{statement}
 use Rattle.session.proofs.receive_byte.Tie as tie

@@ -1,5 +1,5 @@
 use mathlib.Core.Path.{_∙_, ap}
-use Rattle.session.specs.Number.{eventedC}
+use Rattle.words.specs.Number.{eventedC}
 use borrow.Author.Needs.{needs}
 use Rattle.slave.proofs.xcp_event.Statement.{statement}
 use Rattle.slave.proofs.xcp_event.Tie as tie

@@ -1,5 +1,5 @@
 use mathlib.Core.Path.{_∙_, ap}
-use Rattle.session.specs.Number.{poweredUpC}
+use Rattle.words.specs.Number.{poweredUpC}
 use borrow.Author.Needs.{needs}
 use Rattle.slave.proofs.xcp_power_up.Statement.{statement}
 use Rattle.slave.proofs.xcp_power_up.Tie as tie

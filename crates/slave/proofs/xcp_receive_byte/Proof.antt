@@ -1,5 +1,5 @@
 use mathlib.Core.Path.{_∙_, ap}
-use Rattle.session.specs.Number.{receivedC}
+use Rattle.words.specs.Number.{receivedC}
 use borrow.Author.Needs.{needs}
 use Rattle.slave.proofs.xcp_receive_byte.Statement.{statement}
 use Rattle.slave.proofs.xcp_receive_byte.Tie as tie

@@ -1,6 +1,7 @@
 use mathlib.Core.Path.{_∙_, ap, sym, subst}
-use Rattle.session.specs.Number.{slottedC, Small}
-use Rattle.session.proofs.Sizes.{slot-small}
+use Rattle.lists.specs.Slot.{Small}
+use Rattle.words.specs.Number.{slottedC}
+use Rattle.lists.proofs.Sizes.{slot-small}
 use borrow.Author.Needs.{needs}
 use Rattle.slave.proofs.xcp_slot.Statement.{statement}
 use Rattle.slave.proofs.xcp_slot.Tie as tie

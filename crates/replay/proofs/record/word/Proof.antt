@@ -1,5 +1,5 @@
 use native.Mathlib.Omega.{arith}
-use Rattle.session.specs.Bytes.{u16At}
+use Rattle.state.specs.Bytes.{u16At}
 use borrow.Author.Needs.{needs}
 use Rattle.replay.proofs.record.word.Statement.{statement}
 use Rattle.replay.proofs.record.word.Tie as tie

@@ -2,9 +2,9 @@ use native.Mathlib.Omega.{arith}
 use mathlib.Core.Path.{_∙_}
 use native.Mathlib.Numerals.{add-one}
 use lib.ListN.{length-set}
-use Rattle.session.specs.Bytes.{copied}
-use Rattle.session.specs.State.{answered}
-use Rattle.session.proofs.Sets.{block-length}
+use Rattle.state.specs.Bytes.{copied}
+use Rattle.state.specs.State.{answered}
+use Rattle.state.proofs.Sets.{block-length}
 use borrow.Author.Needs.{needs}
 use Rattle.session.proofs.answer.bytes.Statement.{statement}
 use Rattle.session.proofs.answer.bytes.Tie as tie

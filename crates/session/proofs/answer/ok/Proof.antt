@@ -1,5 +1,5 @@
 use mathlib.Core.Path.{refl}
-use Rattle.session.specs.State.{answered}
+use Rattle.state.specs.State.{answered}
 use borrow.Author.Needs.{needs}
 use Rattle.session.proofs.answer.ok.Statement.{statement}
 use Rattle.session.proofs.answer.ok.Tie as tie

@@ -1,4 +1,4 @@
-use Rattle.session.specs.State.{answered}
+use Rattle.state.specs.State.{answered}
 use borrow.Author.Needs.{needs}
 use Rattle.session.proofs.answer.refusal.Statement.{statement}
 use Rattle.session.proofs.answer.refusal.Tie as tie

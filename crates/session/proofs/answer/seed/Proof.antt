@@ -1,8 +1,8 @@
 use native.Mathlib.Omega.{arith}
 use mathlib.Core.Path.{_∙_}
 use lib.ListN.{length-set}
-use Rattle.session.specs.Bytes.{put32}
-use Rattle.session.specs.State.{answered}
+use Rattle.state.specs.Bytes.{put32}
+use Rattle.state.specs.State.{answered}
 use borrow.Author.Needs.{needs}
 use Rattle.session.proofs.answer.seed.Statement.{statement}
 use Rattle.session.proofs.answer.seed.Tie as tie
@@ -17,7 +17,7 @@ slice-write-s-3 : tie.Need-slice-write-s-3
 slice-write-s-3 c = search needs
 
 store32-requires : tie.Need-store32-requires
-store32-requires c κs = simp length-set (omega arith)
+store32-requires c κs = search needs
 
 same-length : tie.Need-same-length
 same-length c = c .before .before .store32 .kept .0 ∙ simp length-set

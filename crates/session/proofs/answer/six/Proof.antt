@@ -1,7 +1,7 @@
 use mathlib.Core.Path.{refl}
 use lib.ListN.{length-set}
 use native.Mathlib.Omega.{arith}
-use Rattle.session.specs.State.{answered}
+use Rattle.state.specs.State.{answered}
 use borrow.Author.Needs.{needs}
 use Rattle.session.proofs.answer.six.Statement.{statement}
 use Rattle.session.proofs.answer.six.Tie as tie

@@ -1,8 +1,8 @@
 use mathlib.Core.Path.{_∙_}
-use Rattle.session.specs.Bytes.{put32}
+use Rattle.state.specs.Bytes.{put32}
 use lib.ListN.{length-set}
 use native.Mathlib.Omega.{arith}
-use Rattle.session.specs.State.{answered}
+use Rattle.state.specs.State.{answered}
 use borrow.Author.Needs.{needs}
 use Rattle.session.proofs.answer.sum.Statement.{statement}
 use Rattle.session.proofs.answer.sum.Tie as tie
@@ -23,7 +23,7 @@ slice-write-s-5 : tie.Need-slice-write-s-5
 slice-write-s-5 c = simp length-set (omega arith)
 
 store32-requires : tie.Need-store32-requires
-store32-requires c κs = simp length-set (omega arith)
+store32-requires c κs = search needs
 
 same-length : tie.Need-same-length
 same-length c = c .before .before .store32 .kept .0 ∙ simp length-set

@@ -2,10 +2,10 @@ use mathlib.Core.Path.{_∙_, sym, ap}
 use native.Mathlib.Omega.{arith}
 use lib.ListN.{length}
 use lib.Seq.{sets}
-use Rattle.session.proofs.Inside.{inside-le}
+use Rattle.state.proofs.Inside.{inside-le}
 use Rattle.session.proofs.Data.{block-block}
-use Rattle.session.specs.Bytes.{copied}
-use Rattle.session.specs.Layout.{packetAt}
+use Rattle.state.specs.Bytes.{copied}
+use Rattle.state.specs.Layout.{packetAt}
 use Rattle.session.specs.Perform.{effect, reply, written}
 use borrow.Author.Needs.{needs}
 use Rattle.session.proofs.deeds.download.Statement.{statement}

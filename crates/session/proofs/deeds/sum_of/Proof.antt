@@ -1,4 +1,4 @@
-use Rattle.session.proofs.Inside.{inside-le}
+use Rattle.state.proofs.Inside.{inside-le}
 use lib.ListN.{length}
 use borrow.Author.Needs.{needs}
 use Rattle.session.proofs.deeds.sum_of.Statement.{statement}

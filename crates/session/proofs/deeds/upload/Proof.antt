@@ -1,8 +1,8 @@
 use mathlib.Core.Path.{_∙_}
 use native.Mathlib.Omega.{arith}
 use lib.ListN.{length}
-use Rattle.session.proofs.Inside.{inside-le}
-use Rattle.session.specs.Memory.{pick}
+use Rattle.state.proofs.Inside.{inside-le}
+use Rattle.state.specs.Memory.{pick}
 use Rattle.session.specs.Perform.{effect, reply}
 use borrow.Author.Needs.{needs}
 use Rattle.session.proofs.deeds.upload.Statement.{statement}

@@ -1,9 +1,10 @@
+use Rattle.state.specs.Layout.{lastList, servedAt, size}
 use mathlib.Core.Path.{_∙_, ap}
 use mathlib.Core.List.{List}
 use Prim.Native.Nat.{ℕ}
 use lib.ListN.{set, length-set}
 use Rattle.session.specs.PowerUp.{powered}
-use Rattle.session.proofs.Sets.{cleared-all}
+use Rattle.state.proofs.Sets.{cleared-all}
 use borrow.Author.Needs.{needs}
 use Rattle.session.proofs.power.write_all.Statement.{statement}
 use Rattle.session.proofs.power.write_all.Tie as tie
@@ -28,7 +29,7 @@ same-length c = simp length-set (c .before .before .set-generator .kept .0 ∙ c
 
 returns : tie.Need-returns
 unfolding powered
-returns c = ap (λ (t : List ℕ). set t 9 3) (c .before .before .set-generator .ensures) ∙ rw (c .before .before .before .new .ensures, c .before .before .before .before .before .before .before .store32 .ensures, c .before .before .before .before .before .before .before .before .before .before .before .clear .ensures, cleared-all (c .before .before .before .before .before .before .before .before .before .before .before .before .before .before .args .s .now) 247 (c .before .before .before .before .before .before .before .before .before .before .before .before .before .before .pre))
+returns c = ap (λ (t : List ℕ). set t servedAt lastList) (c .before .before .set-generator .ensures) ∙ rw (c .before .before .before .new .ensures, c .before .before .before .before .before .before .before .store32 .ensures, c .before .before .before .before .before .before .before .before .before .before .before .clear .ensures, cleared-all (c .before .before .before .before .before .before .before .before .before .before .before .before .before .before .args .s .now) size (c .before .before .before .before .before .before .before .before .before .before .before .before .before .before .pre))
 
 pub write-all-spec : {M : Type 1} → statement M
 write-all-spec =

@@ -1,10 +1,12 @@
+use Rattle.state.specs.Layout.{packetAt}
 use mathlib.Core.Path.{refl, sym, _∙_}
 use borrow.Author.Tests.{lt-ltb, le-ltb}
 use lib.ListN.{length}
-use Rattle.session.specs.Bytes.{block}
+use Rattle.state.specs.Bytes.{block}
+use Rattle.session.specs.Perform.{effect, reply, written}
 use Rattle.session.specs.Receive.{heeded}
 use Rattle.session.proofs.Packet.{packet-length}
-use Rattle.session.proofs.Doable.{judge-doable}
+use Rattle.session.proofs.Looked.{judged-doable}
 use borrow.Author.Needs.{needs}
 use Rattle.session.proofs.receive.heed.Statement.{statement}
 use Rattle.session.proofs.receive.heed.Tie as tie
@@ -26,7 +28,7 @@ judge-requires : tie.Need-judge-requires
 judge-requires c κs = search needs
 
 perform-requires : tie.Need-perform-requires
-perform-requires c κs = (c .before .before .before .before .before .before .before .before .before .before .before .before .before .pre .0, c .before .before .before .before .before .before .before .before .before .before .before .before .before .pre .2, rw (c .before .before .judge .ensures) (rw (packet-length (c .before .before .before .before .before .before .before .before .before .before .before .before .before .args .s .now) (c .before .before .before .before .before .before .before .before .before .before .before .before .before .args .n) (c .before .before .before .before .before .before .before .before .before .before .before .before .before .pre .2) (c .before .before .before .before .before .before .before .before .before .before .before .before .before .pre .0)) at (judge-doable (block (c .before .before .before .before .before .before .before .before .before .before .before .before .before .args .s .now) 229 (c .before .before .before .before .before .before .before .before .before .before .before .before .before .args .n)) (c .before .before .before .before .before .before .before .before .before .before .before .before .before .args .s .now) (length (c .before .before .before .before .before .before .before .before .before .before .before .before .before .args .cal .now)) (length (c .before .before .before .before .before .before .before .before .before .before .before .before .before .args .meas .now)))))
+perform-requires c κs = (c .before .before .before .before .before .before .before .before .before .before .before .before .before .pre .0, c .before .before .before .before .before .before .before .before .before .before .before .before .before .pre .2, rw (c .before .before .judge .ensures) (rw (packet-length (c .before .before .before .before .before .before .before .before .before .before .before .before .before .args .s .now) (c .before .before .before .before .before .before .before .before .before .before .before .before .before .args .n) (c .before .before .before .before .before .before .before .before .before .before .before .before .before .pre .2) (c .before .before .before .before .before .before .before .before .before .before .before .before .before .pre .0)) at (judged-doable (block (c .before .before .before .before .before .before .before .before .before .before .before .before .before .args .s .now) packetAt (c .before .before .before .before .before .before .before .before .before .before .before .before .before .args .n)) (c .before .before .before .before .before .before .before .before .before .before .before .before .before .args .s .now) (length (c .before .before .before .before .before .before .before .before .before .before .before .before .before .args .cal .now)) (length (c .before .before .before .before .before .before .before .before .before .before .before .before .before .args .meas .now)))))
 
 same-length-2 : tie.Need-same-length-2
 same-length-2 c = search needs
@@ -41,21 +43,18 @@ returns-2 c = simp (← (c .before .before .before .before .before .before .befo
 good-connect-requires : tie.Need-good-connect-requires
 good-connect-requires c κs = search needs
 
-perform-requires-2 : tie.Need-perform-requires-2
-perform-requires-2 c κs = search needs
+connect-requires : tie.Need-connect-requires
+connect-requires c κs = search needs
 
 same-length-4 : tie.Need-same-length-4
 same-length-4 c = search needs
 
+returns-3 : tie.Need-returns-3
+unfolding heeded effect reply written
+returns-3 c = simp (← (c .before .before .before .before .before .before .before .before .before .before .before .answer-length .ensures .0), le-ltb _ _ (c .before .before .before .before .before .before .before .before .before .before .if1 .left), sym (c .before .before .before .before .before .before .before .before .flag .ensures) ∙ c .before .before .before .before .before .before .before .if2 .left, sym (c .before .before .before .before .before .good-connect .ensures) ∙ c .before .before .before .before .if3 .taken) (record { result = refl; state = c .before .before .connect .ensures; memory = refl })
+
 same-length-5 : tie.Need-same-length-5
 same-length-5 c = search needs
-
-returns-3 : tie.Need-returns-3
-unfolding heeded
-returns-3 c = simp (← (c .before .before .before .before .before .before .before .before .before .before .before .before .before .before .answer-length .ensures .0), le-ltb _ _ (c .before .before .before .before .before .before .before .before .before .before .before .before .before .if1 .left), sym (c .before .before .before .before .before .before .before .before .before .before .before .flag .ensures) ∙ c .before .before .before .before .before .before .before .before .before .before .if2 .left, sym (c .before .before .before .before .before .before .before .before .good-connect .ensures) ∙ c .before .before .before .before .before .before .before .if3 .taken) (record { result = refl; state = c .before .before .before .before .perform2 .ensures .state; memory = c .before .before .before .before .perform2 .ensures .memory })
-
-same-length-6 : tie.Need-same-length-6
-same-length-6 c = search needs
 
 returns-4 : tie.Need-returns-4
 unfolding heeded
@@ -75,9 +74,8 @@ heed-spec =
     same-length-3
     returns-2
     good-connect-requires
-    perform-requires-2
+    connect-requires
     same-length-4
-    same-length-5
     returns-3
-    same-length-6
+    same-length-5
     returns-4)

@@ -1,5 +1,6 @@
+use Rattle.state.specs.Layout.{packetAt}
 use Rattle.session.proofs.Feeding.{told, good, packet-there, message-length, by-outcome}
-use Rattle.session.specs.Bytes.{block}
+use Rattle.state.specs.Bytes.{block}
 use Rattle.session.specs.Receive.{meant, fedOf}
 use native.Mathlib.Omega.{arith}
 use mathlib.Core.Path.{_≡_, refl, sym, _∙_, ap}
@@ -84,7 +85,7 @@ returns-3 : tie.Need-returns-3
 unfolding meant
 returns-3 c = let w = told (c .before .before .before .before .before .before .before .before .before .before .before .before .before .before .before .before .before .before .before .before .before .before .before .before .args .s .now) (c .before .before .before .before .before .before .before .before .before .before .before .before .before .before .before .before .before .before .before .before .before .before .before .before .args .byte) (c .before .before .before .before .before .before .before .before .before .before .before .before .before .before .before .before .before .before .before .place .result) (c .before .before .before .before .before .before .before .before .before .before .before .before .before .before .before .before .before .take .result) (c .before .before .before .before .before .before .before .before .before .before .before .before .before .before .before .before .before .take .last .1 .0) (c .before .before .before .before .before .before .before .before .before .before .before .before .set-place2 .last .0) (c .before .before .before .before .before .before .before .before .before .before .before .before .before .before .before .before .before .before .before .place .ensures) (c .before .before .before .before .before .before .before .before .before .before .before .before .before .before .before .before .before .take .ensures) (c .before .before .before .before .before .before .before .before .before .before .before .before .set-place2 .ensures) in
     let g = good (c .before .before .before .before .before .before .before .before .before .before .before .before .before .before .before .before .before .before .before .before .before .before .before .before .args .s .now) (c .before .before .before .before .before .before .before .before .before .before .before .before .before .before .before .before .before .before .before .before .before .before .before .before .args .byte) (c .before .before .before .before .before .before .before .before .before .before .before .before .before .before .before .before .before .take .result) (c .before .before .before .before .before .before .before .before .before .before .before .before .before .before .before .before .before .take .last .1 .0) (c .before .before .before .before .before .before .before .before .before .before .before .before .set-place2 .last .0) _ _ _ w (c .before .before .before .before .before .before .before .before .outcome .given .1) in
-    let p : block (fedOf (c .before .before .before .before .before .before .before .before .before .before .before .before .before .before .before .before .before .before .before .before .before .before .before .before .args .s .now) (c .before .before .before .before .before .before .before .before .before .before .before .before .before .before .before .before .before .before .before .before .before .before .before .before .args .byte) .message) (c .before .before .before .before .before .before .before .before .outcome .given .0 .1 .0) (c .before .before .before .before .before .before .before .before .outcome .given .0 .1 .1 .0) ≡ block (c .before .before .before .before .before .before .before .before .before .before .before .before .set-place2 .last .0) 229 (c .before .before .before .before .before .before .before .before .outcome .given .0 .1 .1 .0) = rw (w .message, g .0) (packet-there (c .before .before .before .before .before .before .before .before .before .before .before .before .before .before .before .before .before .before .before .before .before .before .before .before .args .s .now) (c .before .before .before .before .before .before .before .before .before .before .before .before .before .before .before .before .before .take .last .1 .0) (c .before .before .before .before .before .before .before .before .before .before .before .before .before .before .before .before .before .take .result .place) (c .before .before .before .before .before .before .before .before .outcome .given .0 .1 .1 .0) (c .before .before .before .before .before .before .before .before .before .before .before .before .before .before .before .before .before .before .before .before .before .before .before .before .pre) (message-length (c .before .before .before .before .before .before .before .before .before .before .before .before .before .before .before .before .before .before .before .before .before .before .before .before .args .s .now) (c .before .before .before .before .before .before .before .before .before .before .before .before .before .before .before .before .before .before .before .before .before .before .before .before .args .byte) (c .before .before .before .before .before .before .before .before .before .before .before .before .before .before .before .before .before .before .before .place .result) (c .before .before .before .before .before .before .before .before .before .before .before .before .before .before .before .before .before .take .result) (c .before .before .before .before .before .before .before .before .before .before .before .before .before .before .before .before .before .take .last .1 .0) (c .before .before .before .before .before .before .before .before .before .before .before .before .before .before .before .before .before .before .before .before .before .before .before .before .pre) (c .before .before .before .before .before .before .before .before .before .before .before .before .before .before .before .before .before .take .ensures)) (g .2) ∙ rw (c .before .before .before .before .before .before .before .before .before .before .before .before .set-place2 .ensures)) in
+    let p : block (fedOf (c .before .before .before .before .before .before .before .before .before .before .before .before .before .before .before .before .before .before .before .before .before .before .before .before .args .s .now) (c .before .before .before .before .before .before .before .before .before .before .before .before .before .before .before .before .before .before .before .before .before .before .before .before .args .byte) .message) (c .before .before .before .before .before .before .before .before .outcome .given .0 .1 .0) (c .before .before .before .before .before .before .before .before .outcome .given .0 .1 .1 .0) ≡ block (c .before .before .before .before .before .before .before .before .before .before .before .before .set-place2 .last .0) packetAt (c .before .before .before .before .before .before .before .before .outcome .given .0 .1 .1 .0) = rw (w .message, g .0) (packet-there (c .before .before .before .before .before .before .before .before .before .before .before .before .before .before .before .before .before .before .before .before .before .before .before .before .args .s .now) (c .before .before .before .before .before .before .before .before .before .before .before .before .before .before .before .before .before .take .last .1 .0) (c .before .before .before .before .before .before .before .before .before .before .before .before .before .before .before .before .before .take .result .place) (c .before .before .before .before .before .before .before .before .outcome .given .0 .1 .1 .0) (c .before .before .before .before .before .before .before .before .before .before .before .before .before .before .before .before .before .before .before .before .before .before .before .before .pre) (message-length (c .before .before .before .before .before .before .before .before .before .before .before .before .before .before .before .before .before .before .before .before .before .before .before .before .args .s .now) (c .before .before .before .before .before .before .before .before .before .before .before .before .before .before .before .before .before .before .before .before .before .before .before .before .args .byte) (c .before .before .before .before .before .before .before .before .before .before .before .before .before .before .before .before .before .before .before .place .result) (c .before .before .before .before .before .before .before .before .before .before .before .before .before .before .before .before .before .take .result) (c .before .before .before .before .before .before .before .before .before .before .before .before .before .before .before .before .before .take .last .1 .0) (c .before .before .before .before .before .before .before .before .before .before .before .before .before .before .before .before .before .before .before .before .before .before .before .before .pre) (c .before .before .before .before .before .before .before .before .before .before .before .before .before .before .before .before .before .take .ensures)) (g .2) ∙ rw (c .before .before .before .before .before .before .before .before .before .before .before .before .set-place2 .ensures)) in
     by-outcome (c .before .before .before .before .before .before .before .before .before .before .before .before .before .before .before .before .before .before .before .before .before .before .before .before .args .s .now) (c .before .before .before .before .before .before .before .before .before .before .before .before .before .before .before .before .before .before .before .before .before .before .before .before .args .cal .now) (c .before .before .before .before .before .before .before .before .before .before .before .before .before .before .before .before .before .before .before .before .before .before .before .before .args .meas .now) (fedOf (c .before .before .before .before .before .before .before .before .before .before .before .before .before .before .before .before .before .before .before .before .before .before .before .before .args .s .now) (c .before .before .before .before .before .before .before .before .before .before .before .before .before .before .before .before .before .before .before .before .before .before .before .before .args .byte)) (w .outcome ∙ c .before .before .before .before .before .before .before .before .outcome .given .1) (rw (p, ← (w .state)) (c .before .before .before .before .heed .ensures))
 
 same-length-5 : tie.Need-same-length-5

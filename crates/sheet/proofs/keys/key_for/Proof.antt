@@ -2,8 +2,8 @@ use Prim.{tt}
 use native.Mathlib.Nat.{mod-eq-of-lt, mod-lt}
 use mathlib.Core.Path.{_∙_}
 use lib.Dec.{lit<}
-use Rattle.session.proofs.Rotated.{rotated-fits}
-use Rattle.session.specs.Generator.{keyOf}
+use Rattle.state.proofs.Rotated.{rotated-fits}
+use Rattle.state.specs.Generator.{keyOf}
 use borrow.Author.Needs.{needs}
 use Rattle.sheet.proofs.keys.key_for.Statement.{statement}
 use Rattle.sheet.proofs.keys.key_for.Tie as tie

@@ -1,0 +1,336 @@
+// A command's own checks, in the paper's order: the first that applies answers. Each takes no more than it looks at.
+ghost use mathlib.Core.Path.{_≡_};
+ghost use Rattle.judge.specs.Judge.{extensionFrom, connectDeed, seedDeed, getSeedDeed, unlockBy, setMtaDeed, uploadDeed, shortUploadDeed, checksumDeed, downloadTo, downloadDeed, clearDeed, pointerDeed, writeBlock, writeDeed, modeDeed, startDeed, startStopDeed, synchDeed};
+use crate::Deed;
+use state::layout;
+use state::memory::inside;
+use state::memory::length_of;
+use state::seeds::key_for;
+use words::Extension;
+use words::Mta;
+use words::Pointer;
+use words::Reason;
+use words::Resource;
+use words::Seed;
+
+// 0 is calibration; a number above 1 was refused before.
+fn extension_from(n: u8) -> Extension
+    ensures { λ r. ⌜ r ≡ extensionFrom n ⌝ }
+{
+    if n == 0 {
+        Extension::Calibration
+    } else {
+        Extension::Measured
+    }
+}
+
+pub fn connect(mode: u8) -> Deed
+    ensures { λ r. ⌜ r ≡ connectDeed mode ⌝ }
+{
+    if mode == 0 {
+        Deed::Connect
+    } else {
+        Deed::Refuse(Reason::OutOfRange)
+    }
+}
+
+fn seed_for(unlocked: bool, resource: Resource) -> Deed
+    ensures { λ r. ⌜ r ≡ seedDeed unlocked resource ⌝ }
+{
+    if unlocked {
+        Deed::NoSeed
+    } else {
+        Deed::GiveSeed(resource)
+    }
+}
+
+pub fn get_seed(calibration: bool, lists: bool, mode: u8, resource: u8) -> Deed
+    ensures { λ r. ⌜ r ≡ getSeedDeed calibration lists mode resource ⌝ }
+{
+    if mode == 1 {
+        return Deed::Refuse(Reason::Sequence);
+    }
+    if 1 < mode {
+        return Deed::Refuse(Reason::OutOfRange);
+    }
+    if resource == 0x01 {
+        return seed_for(calibration, Resource::Calibration);
+    }
+    if resource == 0x04 {
+        return seed_for(lists, Resource::Lists);
+    }
+    Deed::Refuse(Reason::OutOfRange)
+}
+
+pub fn unlock(seed: Seed, g: u32, size: u8, n: u8, key: u32) -> Deed
+    ensures { λ r. ⌜ r ≡ unlockBy seed g size n key ⌝ }
+{
+    match seed {
+        Seed::None => Deed::Refuse(Reason::Sequence),
+        Seed::For(resource) => {
+            if size != 4 {
+                return Deed::Refuse(Reason::OutOfRange);
+            }
+            if n < 6 {
+                return Deed::Refuse(Reason::DataMissing);
+            }
+            if key == key_for(resource, g) {
+                Deed::Unlock(resource)
+            } else {
+                Deed::WrongKey
+            }
+        }
+    }
+}
+
+pub fn set_mta(extension: u8, address: u32) -> Deed
+    ensures { λ r. ⌜ r ≡ setMtaDeed extension address ⌝ }
+{
+    if 1 < extension {
+        return Deed::Refuse(Reason::OutOfRange);
+    }
+    Deed::SetMta(extension_from(extension), address)
+}
+
+pub fn upload(mta: Mta, n: u8, nc: usize, nm: usize) -> Deed
+    ensures { λ r. ⌜ r ≡ uploadDeed mta n nc nm ⌝ }
+{
+    match mta {
+        Mta::Unset => Deed::Refuse(Reason::Sequence),
+        Mta::At(extension, address) => {
+            if n == 0 {
+                return Deed::Refuse(Reason::OutOfRange);
+            }
+            if layout::UPLOAD_MOST < n {
+                return Deed::Refuse(Reason::OutOfRange);
+            }
+            if inside(address, n as u32, length_of(extension, nc, nm)) {
+                Deed::Upload(extension, address, n)
+            } else {
+                Deed::Refuse(Reason::NotInside)
+            }
+        }
+    }
+}
+
+pub fn short_upload(n: u8, extension: u8, address: u32, nc: usize, nm: usize) -> Deed
+    ensures { λ r. ⌜ r ≡ shortUploadDeed n extension address nc nm ⌝ }
+{
+    if n == 0 {
+        return Deed::Refuse(Reason::OutOfRange);
+    }
+    if layout::UPLOAD_MOST < n {
+        return Deed::Refuse(Reason::OutOfRange);
+    }
+    if 1 < extension {
+        return Deed::Refuse(Reason::OutOfRange);
+    }
+    let from = extension_from(extension);
+    if inside(address, n as u32, length_of(from, nc, nm)) {
+        Deed::ShortUpload(from, address, n)
+    } else {
+        Deed::Refuse(Reason::NotInside)
+    }
+}
+
+pub fn build_checksum(mta: Mta, n: u32, nc: usize, nm: usize) -> Deed
+    ensures { λ r. ⌜ r ≡ checksumDeed mta n nc nm ⌝ }
+{
+    match mta {
+        Mta::Unset => Deed::Refuse(Reason::Sequence),
+        Mta::At(extension, address) => {
+            if n == 0 {
+                return Deed::RefuseSize;
+            }
+            if layout::CHECKSUM_MOST < n {
+                return Deed::RefuseSize;
+            }
+            if inside(address, n, length_of(extension, nc, nm)) {
+                Deed::Checksum(extension, address, n)
+            } else {
+                Deed::Refuse(Reason::NotInside)
+            }
+        }
+    }
+}
+
+fn download_to(extension: Extension, address: u32, n: u8, nc: usize) -> Deed
+    ensures { λ r. ⌜ r ≡ downloadTo extension address n nc ⌝ }
+{
+    match extension {
+        Extension::Measured => Deed::Refuse(Reason::ReadOnly),
+        Extension::Calibration => {
+            if inside(address, n as u32, nc) {
+                Deed::Download(address, n)
+            } else {
+                Deed::Refuse(Reason::NotInside)
+            }
+        }
+    }
+}
+
+pub fn download(mta: Mta, n: u8, len: u8, nc: usize) -> Deed
+    ensures { λ r. ⌜ r ≡ downloadDeed mta n len nc ⌝ }
+{
+    match mta {
+        Mta::Unset => Deed::Refuse(Reason::Sequence),
+        Mta::At(extension, address) => {
+            if n == 0 {
+                return Deed::Refuse(Reason::OutOfRange);
+            }
+            if layout::DOWNLOAD_MOST < n {
+                return Deed::Refuse(Reason::OutOfRange);
+            }
+            if len < n + 2 {
+                return Deed::Refuse(Reason::DataMissing);
+            }
+            download_to(extension, address, n, nc)
+        }
+    }
+}
+
+pub fn clear_list(runs: bool, l: u16) -> Deed
+    ensures { λ r. ⌜ r ≡ clearDeed runs l ⌝ }
+{
+    if layout::LISTS_U16 <= l {
+        return Deed::Refuse(Reason::OutOfRange);
+    }
+    if runs {
+        return Deed::Refuse(Reason::ListRuns);
+    }
+    Deed::ClearList(l as u8)
+}
+
+pub fn set_pointer(l: u16, odt: u8, entry: u8) -> Deed
+    ensures { λ r. ⌜ r ≡ pointerDeed l odt entry ⌝ }
+{
+    if layout::LISTS_U16 <= l {
+        return Deed::Refuse(Reason::OutOfRange);
+    }
+    if layout::ODTS <= odt {
+        return Deed::Refuse(Reason::OutOfRange);
+    }
+    if layout::ENTRIES <= entry {
+        return Deed::Refuse(Reason::OutOfRange);
+    }
+    Deed::SetPointer(layout::ODTS * l as u8 + odt, entry)
+}
+
+// A block of size 0 is always inside.
+fn write_block(k: u8, e: u8, n: u8, extension: Extension, address: u32, len: usize) -> Deed
+    ensures { λ r. ⌜ r ≡ writeBlock k e n extension address len ⌝ }
+{
+    if n == 0 {
+        return Deed::ClearEntry(k, e);
+    }
+    if inside(address, n as u32, len) {
+        Deed::WriteEntry(k, e, n, extension, address)
+    } else {
+        Deed::Refuse(Reason::NotInside)
+    }
+}
+
+pub fn write_entry(
+    pointer: Pointer,
+    runs: bool,
+    bit: u8,
+    n: u8,
+    extension: u8,
+    address: u32,
+    nc: usize,
+    nm: usize,
+) -> Deed
+    ensures { λ r. ⌜ r ≡ writeDeed pointer runs bit n extension address nc nm ⌝ }
+{
+    match pointer {
+        Pointer::Unset => Deed::Refuse(Reason::Sequence),
+        Pointer::At { odt, entry } => {
+            if bit != 0xFF {
+                return Deed::Refuse(Reason::OutOfRange);
+            }
+            if layout::ENTRY_MOST < n {
+                return Deed::Refuse(Reason::OutOfRange);
+            }
+            if 1 < extension {
+                return Deed::Refuse(Reason::OutOfRange);
+            }
+            if runs {
+                return Deed::Refuse(Reason::ListRuns);
+            }
+            let from = extension_from(extension);
+            write_block(odt, entry, n, from, address, length_of(from, nc, nm))
+        }
+    }
+}
+
+pub fn set_mode(runs: bool, mode: u8, l: u16, event: u16, prescaler: u8, priority: u8) -> Deed
+    ensures { λ r. ⌜ r ≡ modeDeed runs mode l event prescaler priority ⌝ }
+{
+    if mode != 0x10 {
+        return Deed::Refuse(Reason::OutOfRange);
+    }
+    if layout::LISTS_U16 <= l {
+        return Deed::Refuse(Reason::OutOfRange);
+    }
+    if layout::EVENTS_U16 <= event {
+        return Deed::Refuse(Reason::OutOfRange);
+    }
+    if prescaler != 1 {
+        return Deed::Refuse(Reason::OutOfRange);
+    }
+    if priority != 0 {
+        return Deed::Refuse(Reason::OutOfRange);
+    }
+    if runs {
+        return Deed::Refuse(Reason::ListRuns);
+    }
+    Deed::SetMode(l as u8, event as u8)
+}
+
+fn start(runs: bool, fit: bool, l: u8) -> Deed
+    ensures { λ r. ⌜ r ≡ startDeed runs fit l ⌝ }
+{
+    if runs {
+        return Deed::KeepRunning(l);
+    }
+    if fit {
+        return Deed::Start(l);
+    }
+    Deed::Refuse(Reason::CannotStart)
+}
+
+pub fn start_stop(runs: bool, fit: bool, mode: u8, l: u16) -> Deed
+    ensures { λ r. ⌜ r ≡ startStopDeed runs fit mode l ⌝ }
+{
+    if 2 < mode {
+        return Deed::Refuse(Reason::OutOfRange);
+    }
+    if layout::LISTS_U16 <= l {
+        return Deed::Refuse(Reason::OutOfRange);
+    }
+    if mode == 0 {
+        return Deed::Stop(l as u8);
+    }
+    if mode == 1 {
+        return start(runs, fit, l as u8);
+    }
+    Deed::Select(l as u8)
+}
+
+pub fn start_stop_synch(ready: bool, mode: u8) -> Deed
+    ensures { λ r. ⌜ r ≡ synchDeed ready mode ⌝ }
+{
+    if 2 < mode {
+        return Deed::Refuse(Reason::OutOfRange);
+    }
+    if mode == 0 {
+        return Deed::StopAll;
+    }
+    if mode == 1 {
+        if ready {
+            return Deed::StartSelected;
+        }
+        return Deed::Refuse(Reason::CannotStart);
+    }
+    Deed::StopSelected
+}

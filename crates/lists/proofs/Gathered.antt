@@ -1,0 +1,105 @@
+-- The bytes that an event takes: how many, one more, and whole packets of them. Assumes nothing.
+use mathlib.Core.Path.{_≡_, refl, sym, ap, _∙_}
+use mathlib.Core.Bool.{Bool, true, false, cond}
+use mathlib.Core.List.{List, [], _∷_, _++_}
+use Prim.Native.Nat.{ℕ, zero, suc, _+_, _*_, _-_, _≤_, _<_, _%_, _/_}
+use native.Mathlib.Nat.{add-zero, add-suc, suc-add}
+use native.Mathlib.Numerals.{add-one}
+use native.Mathlib.Omega.{arith}
+use lib.ListN.{length, set, length-append}
+use lib.Seq.{sets}
+use Rattle.line.proofs.Laws.{sets-append}
+use Rattle.state.specs.Bytes.{put16}
+use Rattle.state.specs.Layout.{entries, isFirst, odtMost, sampleAt, allOdts, entryMost, clockSize, storedMost}
+use Rattle.state.specs.Memory.{pick, byteOf, bytesOf}
+use Rattle.lists.specs.Lists.{sizeOf, extensionOf, addressOf, bytesOfFirst, odtBytes}
+use Rattle.lists.specs.Event.{entryBytes, gathered, contentsOf, stored, capturedOdts}
+use Rattle.lists.proofs.Entries.{Alike, sets-alike, size-most, entry-alike, gathered-alike}
+
+pub bytes-next : (mem : List ℕ) (a n : ℕ) → bytesOf mem a (suc n) ≡ bytesOf mem a n ++ byteOf mem (a + n) ∷ []
+unfolding bytesOf
+bytes-next mem a zero = rw add-zero
+bytes-next mem a (suc n) = rw (add-suc, ← suc-add) (ap (λ (l : List ℕ). byteOf mem a ∷ l) (bytes-next mem (suc a) n))
+
+pub bytes-length : (mem : List ℕ) (a n : ℕ) → length (bytesOf mem a n) ≡ n
+unfolding bytesOf
+bytes-length mem a zero = refl
+bytes-length mem a (suc n) = ap suc (bytes-length mem (suc a) n)
+
+-- a byte and a number after it
+put16-sets : (s : List ℕ) (i a x : ℕ) → put16 (set s i a) (i + 1) x ≡ sets s i (a ∷ x % 256 ∷ x / 256 % 256 ∷ [])
+unfolding put16
+put16-sets s i a x = simp add-one
+
+module _ (s : List ℕ) (k : ℕ) (cal meas : List ℕ) where
+  entry-length : (e : ℕ) → length (entryBytes s k e cal meas) ≡ sizeOf s k e
+  unfolding entryBytes
+  entry-length e = bytes-length (pick (extensionOf s k e) cal meas) (addressOf s k e) (sizeOf s k e)
+
+  pub gathered-length : (n : ℕ) → length (gathered s k cal meas (suc n)) ≡ length (gathered s k cal meas n) + sizeOf s k n
+  unfolding gathered
+  gathered-length n = length-append (gathered s k cal meas n) (entryBytes s k n cal meas) ∙ ap (λ (m : ℕ). length (gathered s k cal meas n) + m) (entry-length n)
+
+  pub gathered-most : (n : ℕ) → length (gathered s k cal meas n) ≤ entryMost * n
+  unfolding gathered
+  gathered-most zero = omega arith
+  gathered-most (suc n) = omega (arith, gathered-length n, gathered-most n, size-most s k n)
+
+  pub gathered-first : (n : ℕ) → length (gathered s k cal meas n) ≡ bytesOfFirst s k n
+  unfolding gathered bytesOfFirst
+  gathered-first zero = refl
+  gathered-first (suc n) = gathered-length n ∙ ap (λ (m : ℕ). m + sizeOf s k n) (gathered-first n)
+
+  pub gathered-odt : length (gathered s k cal meas entries) ≡ odtBytes s k
+  gathered-odt = gathered-first entries
+
+  -- entries are read as they were, with bytes stored past them already
+  module _ (odt : k < allOdts) (at : ℕ) (past : sampleAt 0 ≤ at) where
+    pub gathered-next : (n : ℕ) → n < entries → sets (sets s at (gathered s k cal meas n)) (at + length (gathered s k cal meas n)) (entryBytes (sets s at (gathered s k cal meas n)) k n cal meas) ≡ sets s at (gathered s k cal meas (suc n))
+    unfolding gathered
+    gathered-next n h =
+        let same : Alike (sets s at (gathered s k cal meas n)) s = sets-alike (gathered s k cal meas n) s at past in
+        rw (entry-alike (sets s at (gathered s k cal meas n)) s same k odt cal meas n h) (sets-append (gathered s k cal meas n) (entryBytes s k n cal meas) s at)
+
+    pub gathered-after : (xs : List ℕ) → sets (sets s at xs) (at + length xs) (gathered (sets s at xs) k cal meas entries) ≡ sets s at (xs ++ gathered s k cal meas entries)
+    gathered-after xs = rw (gathered-alike (sets s at xs) s (sets-alike xs s at past) k odt cal meas entries (omega arith)) (sets-append xs (gathered s k cal meas entries) s at)
+
+-- a byte and a clock stored before them change no entry
+pub clock-alike : (s : List ℕ) (at a x : ℕ) → sampleAt 0 ≤ at → Alike (put16 (set s at a) (at + 1) x) s
+clock-alike s at a x past = rw (put16-sets s at a x) (sets-alike (a ∷ x % 256 ∷ x / 256 % 256 ∷ []) s at past)
+
+module _ (s : List ℕ) (k clock : ℕ) (cal meas : List ℕ) (odt : k < allOdts) (at : ℕ) (place : at ≡ sampleAt k) (n : ℕ) (bytes : n ≡ odtBytes s k) where
+  pub stored-later : isFirst k ≡ false → sets (set s at n) (at + 1) (gathered (set s at n) k cal meas entries) ≡ stored s k (contentsOf s k clock cal meas)
+  unfolding stored contentsOf
+  stored-later later =
+      gathered-after s k cal meas odt at (omega arith) (n ∷ [])
+      ∙ rw (place, bytes ∙ sym (gathered-odt s k cal meas), later)
+
+  pub stored-first : isFirst k ≡ true
+      → sets (put16 (set s at (n + clockSize)) (at + 1) clock) (at + 1 + clockSize) (gathered (put16 (set s at (n + clockSize)) (at + 1) clock) k cal meas entries)
+      ≡ stored s k (contentsOf s k clock cal meas)
+  unfolding stored contentsOf
+  stored-first first =
+      let m : n + clockSize ≡ length (clock % 256 ∷ clock / 256 % 256 ∷ gathered s k cal meas entries) = omega (arith, gathered-odt s k cal meas) in
+      let there : at + 1 + clockSize ≡ at + 3 = omega arith in
+      rw (first, there, put16-sets s at (n + clockSize) clock)
+      (gathered-after s k cal meas odt at (omega arith) ((n + clockSize) ∷ clock % 256 ∷ clock / 256 % 256 ∷ [])
+      ∙ rw (place, m))
+
+-- packets in store change no entry
+pub captured-alike : (s : List ℕ) (k clock : ℕ) (cal meas : List ℕ) (n : ℕ) → Alike (capturedOdts s k clock cal meas n) s
+unfolding capturedOdts stored
+captured-alike s k clock cal meas zero j b = refl
+captured-alike s k clock cal meas (suc n) j b =
+    sets-alike (length (contentsOf s (k + n) clock cal meas) ∷ contentsOf s (k + n) clock cal meas) (capturedOdts s k clock cal meas n) (sampleAt (k + n)) (omega arith) j b
+    ∙ captured-alike s k clock cal meas n j b
+
+-- a packet's bytes are no more than one holds, if its ODT has not too many
+contents-by : (first : Bool) (clock n : ℕ) (bs : List ℕ) → length bs ≡ n → n ≤ cond first (storedMost - clockSize) storedMost
+    → length (cond first (clock % 256 ∷ clock / 256 % 256 ∷ []) [] ++ bs) ≤ storedMost
+contents-by true clock n bs e h = omega (arith, e, h)
+contents-by false clock n bs e h = omega (arith, e, h)
+
+pub contents-most : (s : List ℕ) (k clock : ℕ) (cal meas : List ℕ) → odtBytes s k ≤ odtMost k → length (contentsOf s k clock cal meas) ≤ storedMost
+unfolding contentsOf
+contents-most s k clock cal meas h = contents-by (isFirst k) clock (odtBytes s k) (gathered s k cal meas entries) (gathered-odt s k cal meas) h

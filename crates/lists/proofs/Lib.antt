@@ -1,0 +1,9 @@
+-- Laws that the functions' proofs cite.
+pub mod Counting
+pub mod Fitting
+pub mod Entries
+pub mod Gathered
+pub mod Tallied
+pub mod Round
+pub mod Sending
+pub mod Sizes

@@ -1,0 +1,39 @@
+use mathlib.Core.Path.{_∙_}
+use Rattle.lists.specs.Lists.{listCleared}
+use borrow.Author.Needs.{needs}
+use Rattle.lists.proofs.changes.clear_list.Statement.{statement}
+use Rattle.lists.proofs.changes.clear_list.Tie as tie
+
+mode-at-requires : tie.Need-mode-at-requires
+mode-at-requires c κs = search needs
+
+clear-requires : tie.Need-clear-requires
+clear-requires c κs = search needs
+
+first-odt-requires : tie.Need-first-odt-requires
+first-odt-requires c κs = search needs
+
+entries-at-requires : tie.Need-entries-at-requires
+entries-at-requires c κs = search needs
+
+clear-requires-2 : tie.Need-clear-requires-2
+clear-requires-2 c κs = search needs
+
+same-length : tie.Need-same-length
+same-length c = search needs
+
+returns : tie.Need-returns
+unfolding listCleared
+returns c = c .before .before .clear2 .ensures ∙ rw (c .before .before .before .before .before .before .before .before .clear .ensures, c .before .before .before .before .before .before .before .before .before .mode-at .ensures, c .before .before .before .before .entries-at .ensures, c .before .before .before .before .before .first-odt .ensures)
+
+pub clear-list-spec : {M : Type 1} → statement M
+clear-list-spec =
+    tie.close
+    (tie.spec
+    mode-at-requires
+    clear-requires
+    first-odt-requires
+    entries-at-requires
+    clear-requires-2
+    same-length
+    returns)

@@ -1,0 +1,75 @@
+use mathlib.Core.Path.{_≡_, refl, _∙_}
+use Prim.Native.Nat.{_≤_, _-_}
+use native.Mathlib.Numerals.{add-one}
+use native.Mathlib.Omega.{arith}
+use lib.ListN.{length}
+use Rattle.state.specs.Layout.{lists}
+use Rattle.lists.specs.Event.{tally, Counts}
+use Rattle.lists.proofs.Tallied.{counts-next}
+use borrow.Author.Needs.{needs}
+use Rattle.lists.proofs.events.happen.Statement.{statement}
+use Rattle.lists.proofs.events.happen.Tie as tie
+
+abbrev Inv-loop : tie.InvT-loop
+Inv-loop s₀ cal meas event clock sampled₀ missed₀ l₀ s sampled missed l = (l ≤ lists) × Counts (tally s₀ event clock cal meas l) s sampled missed × (sampled ≤ l) × (missed ≤ l) × (length s ≡ length s₀)
+
+abbrev μ-loop : tie.MeasureT-loop
+μ-loop s₀ cal meas event clock sampled₀ missed₀ l₀ s sampled missed l = lists - l
+
+loop-holds : tie.Need-loop-holds Inv-loop μ-loop
+unfolding tally
+loop-holds c = (omega arith, record { state = refl; sampled = refl; missed = refl }, omega arith, omega arith, refl)
+
+sample-requires : tie.Need-sample-requires Inv-loop μ-loop
+sample-requires c κs = search needs
+
+sampled-by-requires : tie.Need-sampled-by-requires Inv-loop μ-loop
+sampled-by-requires c κs = search needs
+
+add-sampled : tie.Need-add-sampled Inv-loop μ-loop
+add-sampled c = search needs
+
+missed-by-requires : tie.Need-missed-by-requires Inv-loop μ-loop
+missed-by-requires c κs = search needs
+
+add-missed : tie.Need-add-missed Inv-loop μ-loop
+add-missed c = search needs
+
+add-l : tie.Need-add-l Inv-loop μ-loop
+add-l c = search needs
+
+loop-less : tie.Need-loop-less Inv-loop μ-loop
+loop-less c = search needs
+
+loop-again : tie.Need-loop-again Inv-loop μ-loop
+loop-again c = (
+  omega arith,
+  rw (add-one, c .before .sampled-by .ensures .0, c .missed-by .ensures .0) (counts-next (c .before .before .before .before .before .before .before .before .before .before .before .args .s .now) (c .before .before .before .before .before .before .before .before .before .before .before .args .event) (c .before .before .before .before .before .before .before .before .before .before .before .args .clock) (c .before .before .before .before .before .before .before .before .before .before .before .args .cal .now) (c .before .before .before .before .before .before .before .before .before .before .before .args .meas .now) (c .before .before .before .before .before .before .before .loop .l) (c .before .before .before .before .before .before .before .loop .inv .1) (c .before .before .before .before .sample .ensures .0) (c .before .before .before .before .sample .ensures .1)),
+  omega arith,
+  omega arith,
+  c .before .before .before .before .sample .kept .0 ∙ c .before .before .before .before .before .before .before .loop .inv .4,
+)
+
+same-length : tie.Need-same-length Inv-loop μ-loop
+same-length c = c .before .loop .inv .4
+
+returns : tie.Need-returns Inv-loop μ-loop
+returns c = let e : c .before .loop .l ≡ lists = omega arith in rw e at (c .before .loop .inv .1)
+
+pub happen-spec : {M : Type 1} → statement M
+happen-spec =
+    tie.close
+    (tie.spec
+    Inv-loop
+    μ-loop
+    loop-holds
+    sample-requires
+    sampled-by-requires
+    add-sampled
+    missed-by-requires
+    add-missed
+    add-l
+    loop-less
+    loop-again
+    same-length
+    returns)

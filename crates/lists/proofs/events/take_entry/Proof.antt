@@ -1,0 +1,57 @@
+use mathlib.Core.Path.{_∙_}
+use native.Mathlib.Omega.{arith}
+use Rattle.lists.specs.Event.{entryBytes}
+use borrow.Author.Needs.{needs}
+use Rattle.lists.proofs.events.take_entry.Statement.{statement}
+use Rattle.lists.proofs.events.take_entry.Tie as tie
+
+entry-address-requires : tie.Need-entry-address-requires
+entry-address-requires c κs = search needs
+
+cast-address : tie.Need-cast-address
+cast-address c = search needs
+
+entry-extension-requires : tie.Need-entry-extension-requires
+entry-extension-requires c κs = search needs
+
+enum-told : tie.Need-enum-told
+enum-told c = search needs
+
+take-block-requires : tie.Need-take-block-requires
+take-block-requires c κs = search needs
+
+enum-told-2 : tie.Need-enum-told-2
+enum-told-2 c = search needs
+
+take-block-requires-2 : tie.Need-take-block-requires-2
+take-block-requires-2 c κs = search needs
+
+same-length : tie.Need-same-length
+same-length c = search needs
+
+returns : tie.Need-returns
+unfolding entryBytes
+returns c = c .before .before .take-block .ensures ∙ simp (c .before .before .before .before .before .before .before .before .before .before .before .before .before .pre .0, c .before .before .before .before .before .before .before .before .entry-address .ensures, ← (c .before .before .before .before .before .before .entry-extension .ensures), c .before .before .before .before .enum-told .given .1)
+
+same-length-2 : tie.Need-same-length-2
+same-length-2 c = search needs
+
+returns-2 : tie.Need-returns-2
+unfolding entryBytes
+returns-2 c = c .before .before .take-block2 .ensures ∙ simp (c .before .before .before .before .before .before .before .before .before .before .before .before .before .pre .0, c .before .before .before .before .before .before .before .before .entry-address .ensures, ← (c .before .before .before .before .before .before .entry-extension .ensures), c .before .before .before .before .enum-told2 .given .1)
+
+pub take-entry-spec : {M : Type 1} → statement M
+take-entry-spec =
+    tie.close
+    (tie.spec
+    entry-address-requires
+    cast-address
+    entry-extension-requires
+    enum-told
+    take-block-requires
+    enum-told-2
+    take-block-requires-2
+    same-length
+    returns
+    same-length-2
+    returns-2)

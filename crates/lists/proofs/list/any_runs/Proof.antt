@@ -1,0 +1,55 @@
+use mathlib.Core.Path.{_≡_, refl, sym}
+use mathlib.Core.Bool.{false}
+use Prim.Native.Nat.{suc, _-_, _≤_}
+use native.Mathlib.Numerals.{add-one}
+use native.Mathlib.Omega.{arith}
+use Rattle.state.specs.Layout.{lists}
+use Rattle.lists.specs.Lists.{anyRuns}
+use Rattle.lists.proofs.Counting.{any-stays}
+use borrow.Author.Needs.{needs}
+use Rattle.lists.proofs.list.any_runs.Statement.{statement}
+use Rattle.lists.proofs.list.any_runs.Tie as tie
+
+abbrev Inv-loop : tie.InvT-loop
+Inv-loop s l₀ l = (l ≤ lists) × (anyRuns s l ≡ false)
+
+abbrev μ-loop : tie.MeasureT-loop
+μ-loop s l₀ l = lists - l
+
+loop-holds : tie.Need-loop-holds Inv-loop μ-loop
+unfolding anyRuns
+loop-holds c = (omega arith, refl)
+
+runs-requires : tie.Need-runs-requires Inv-loop μ-loop
+runs-requires c κs = search needs
+
+returns : tie.Need-returns Inv-loop μ-loop
+unfolding anyRuns
+returns c = sym (any-stays (c .before .before .before .before .before .args .s .now) (suc (c .before .before .before .loop .l)) lists (omega arith) (simp (c .before .before .before .loop .inv .1, ← (c .before .runs .ensures), c .if1 .taken)))
+
+add-l : tie.Need-add-l Inv-loop μ-loop
+add-l c = search needs
+
+loop-less : tie.Need-loop-less Inv-loop μ-loop
+loop-less c = search needs
+
+loop-again : tie.Need-loop-again Inv-loop μ-loop
+unfolding anyRuns
+loop-again c = (omega arith, rw add-one (simp (c .before .before .before .loop .inv .1, ← (c .before .runs .ensures), c .if1 .left)))
+
+returns-2 : tie.Need-returns-2 Inv-loop μ-loop
+returns-2 c = let e : c .before .loop .l ≡ lists = omega arith in sym (rw e at (c .before .loop .inv .1))
+
+pub any-runs-spec : {M : Type 1} → statement M
+any-runs-spec =
+    tie.close
+    (tie.spec
+    Inv-loop
+    μ-loop
+    loop-holds
+    runs-requires
+    returns
+    add-l
+    loop-less
+    loop-again
+    returns-2)

@@ -1,0 +1,23 @@
+use native.Mathlib.Omega.{arith}
+use borrow.Author.Tests.{lt-ltb, le-ltb}
+use Rattle.lists.specs.Lists.{sizeOf}
+use borrow.Author.Needs.{needs}
+use Rattle.lists.proofs.list.entry_size.Statement.{statement}
+use Rattle.lists.proofs.list.entry_size.Tie as tie
+
+entry-at-requires : tie.Need-entry-at-requires
+entry-at-requires c κs = search needs
+
+get-requires : tie.Need-get-requires
+get-requires c κs = search needs
+
+returns : tie.Need-returns
+unfolding sizeOf
+returns c = (simp (← (c .before .before .entry-at .ensures), ← (c .before .get .ensures), lt-ltb _ _ (c .if1 .taken)), omega arith)
+
+returns-2 : tie.Need-returns-2
+unfolding sizeOf
+returns-2 c = (simp (← (c .before .before .entry-at .ensures), ← (c .before .get .ensures), le-ltb _ _ (c .if1 .left)), omega arith)
+
+pub entry-size-spec : {M : Type 1} → statement M
+entry-size-spec = tie.close (tie.spec entry-at-requires get-requires returns returns-2)

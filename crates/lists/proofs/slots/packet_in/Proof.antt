@@ -1,0 +1,51 @@
+use borrow.Author.Tests.{not-true}
+use mathlib.Core.Path.{_≡_, sym, _∙_}
+use Rattle.lists.specs.Slot.{packetIn}
+use Rattle.lists.proofs.Round.{nobody-in, never-started}
+use borrow.Author.Needs.{needs}
+use Rattle.lists.proofs.slots.packet_in.Statement.{statement}
+use Rattle.lists.proofs.slots.packet_in.Tie as tie
+
+running-at-requires : tie.Need-running-at-requires
+running-at-requires c κs = search needs
+
+flag-requires : tie.Need-flag-requires
+flag-requires c κs = search needs
+
+returns : tie.Need-returns
+returns c = sym (never-started (c .before .before .before .before .args .s .now) (c .before .before .before .before .args .l) (simp (← (c .before .before .running-at .ensures)) (sym (c .before .flag .ensures) ∙ not-true (c .before .flag .result) (c .if1 .taken))))
+
+first-stored-requires : tie.Need-first-stored-requires
+first-stored-requires c κs = search needs
+
+enum-told : tie.Need-enum-told
+enum-told c = search needs
+
+returns-2 : tie.Need-returns-2
+unfolding packetIn
+returns-2 c = sym (nobody-in (c .before .before .before .before .before .before .before .args .s .now) (c .before .before .before .before .before .before .before .args .l) (sym (c .before .before .first-stored .ensures) ∙ c .enum-told .given .1))
+
+runs-requires : tie.Need-runs-requires
+runs-requires c κs = search needs
+
+returns-3 : tie.Need-returns-3
+unfolding packetIn
+returns-3 c = simp (sym (c .before .runs .ensures) ∙ c .if2 .taken, ← (c .before .before .before .first-stored .ensures))
+
+returns-4 : tie.Need-returns-4
+unfolding packetIn
+returns-4 c = simp (sym (c .before .runs .ensures) ∙ c .if2 .left)
+
+pub packet-in-spec : {M : Type 1} → statement M
+packet-in-spec =
+    tie.close
+    (tie.spec
+    running-at-requires
+    flag-requires
+    returns
+    first-stored-requires
+    enum-told
+    returns-2
+    runs-requires
+    returns-3
+    returns-4)

@@ -1,0 +1,105 @@
+-- An event.
+use Prim.Native.Nat.{ℕ, zero, suc, _+_, _%_, _/_}
+use mathlib.Core.Path.{_≡_}
+use mathlib.Core.Bool.{cond}
+use mathlib.Core.List.{List, [], _∷_, _++_}
+use lib.Dec.{eqb, leb}
+use lib.ListN.{length}
+use lib.Seq.{sets}
+use Rattle.state.specs.Layout.{lists, events, sampleAt, firstOdt, odtCount, isFirst, entryCount}
+use Rattle.state.specs.Memory.{pick, bytesOf}
+use Rattle.state.specs.State.{consistent}
+use Rattle.lists.specs.Lists.{sizeOf, extensionOf, addressOf, modeOf, runsOf, unsent}
+use Rattle.lists.specs.declared.Sampling.{Sampling}
+use Rattle.lists.specs.declared.Sampling.the-variants.{Idle, Sampled, Missed}
+use Rattle.words.specs.declared.Evented.{Evented}
+use Rattle.words.specs.declared.Evented.the-variants.{Done, BadEvent, NoState}
+
+-- what an event is to list l
+unfoldable pub samplingOf : List ℕ → ℕ → ℕ → Sampling
+samplingOf s l event = cond (eqb (modeOf s l) (event + 1)) (cond (runsOf s l) (cond (unsent s l) Missed Sampled) Idle) Idle
+
+-- the bytes of entry e of ODT k, as the memories hold them now
+unfoldable pub entryBytes : List ℕ → ℕ → ℕ → List ℕ → List ℕ → List ℕ
+entryBytes s k e cal meas = bytesOf (pick (extensionOf s k e) cal meas) (addressOf s k e) (sizeOf s k e)
+
+-- those of ODT k's first n entries, in entry order
+unfoldable pub gathered : List ℕ → ℕ → List ℕ → List ℕ → ℕ → List ℕ
+gathered s k cal meas zero = []
+gathered s k cal meas (suc n) = gathered s k cal meas n ++ entryBytes s k n cal meas
+
+-- the packet of ODT k, without its number: in a list's first ODT the clock, then the bytes
+abbrev pub leadOf : ℕ → ℕ → List ℕ
+leadOf k clock = cond (isFirst k) (clock % 256 ∷ clock / 256 % 256 ∷ []) []
+
+unfoldable pub contentsOf : List ℕ → ℕ → ℕ → List ℕ → List ℕ → List ℕ
+contentsOf s k clock cal meas = leadOf k clock ++ gathered s k cal meas (entryCount k)
+
+-- it is stored after its length
+unfoldable pub stored : List ℕ → ℕ → List ℕ → List ℕ
+stored s k bs = sets s (sampleAt k) (length bs ∷ bs)
+
+-- of the n ODTs from k on, each is captured whole
+unfoldable pub capturedOdts : List ℕ → ℕ → ℕ → List ℕ → List ℕ → ℕ → List ℕ
+capturedOdts s k clock cal meas zero = s
+capturedOdts s k clock cal meas (suc n) = stored (capturedOdts s k clock cal meas n) (k + n) (contentsOf s (k + n) clock cal meas)
+
+abbrev pub captured : List ℕ → ℕ → ℕ → List ℕ → List ℕ → List ℕ
+captured s l clock cal meas = capturedOdts s (firstOdt l) clock cal meas (odtCount l)
+
+-- the state, and how many lists sampled and missed
+pub record Tally : Type 0 where
+  pub state : List ℕ
+  pub sampled : ℕ
+  pub missed : ℕ
+
+-- what an event leaves of the state, by what it is to list l, and whether it counts as sampled or as missed
+unfoldable pub sampledState : Sampling → List ℕ → ℕ → ℕ → List ℕ → List ℕ → List ℕ
+sampledState Idle s l clock cal meas = s
+sampledState Sampled s l clock cal meas = captured s l clock cal meas
+sampledState Missed s l clock cal meas = s
+
+abbrev pub sampledBy : Sampling → ℕ
+sampledBy Idle = 0
+sampledBy Sampled = 1
+sampledBy Missed = 0
+
+abbrev pub missedBy : Sampling → ℕ
+missedBy Idle = 0
+missedBy Sampled = 0
+missedBy Missed = 1
+
+abbrev pub counted : Sampling → Tally → ℕ → ℕ → List ℕ → List ℕ → Tally
+counted c t l clock cal meas =
+    record { state = sampledState c (t .state) l clock cal meas; sampled = t .sampled + sampledBy c; missed = t .missed + missedBy c }
+
+-- the first n lists
+unfoldable pub tally : List ℕ → ℕ → ℕ → List ℕ → List ℕ → ℕ → Tally
+tally s event clock cal meas zero = record { state = s; sampled = 0; missed = 0 }
+tally s event clock cal meas (suc n) =
+    counted (samplingOf (tally s event clock cal meas n .state) n event) (tally s event clock cal meas n) n clock cal meas
+
+-- a function that leaves s and counts so many does what t says
+pub record Counts (t : Tally) (s : List ℕ) (n m : ℕ) : Type 0 where
+  pub state : s ≡ t .state
+  pub sampled : n ≡ t .sampled
+  pub missed : m ≡ t .missed
+
+pub record Happened : Type 0 where
+  pub evented : Evented
+  pub state : List ℕ
+
+abbrev pub happened : Tally → Happened
+happened t = record { evented = Done (t .sampled) (t .missed); state = t .state }
+
+unfoldable pub eventOf : List ℕ → List ℕ → List ℕ → ℕ → ℕ → Happened
+eventOf s cal meas event clock =
+    cond (consistent s)
+    (cond (leb events event) (record { evented = BadEvent; state = s })
+    (happened (tally s event clock cal meas lists)))
+    (record { evented = NoState; state = s })
+
+-- a function that answers e and leaves s does what h says
+pub record Happens (h : Happened) (e : Evented) (s : List ℕ) : Type 0 where
+  pub result : e ≡ h .evented
+  pub state : s ≡ h .state

@@ -1,0 +1,102 @@
+-- A sending slot: whose turn it is, and one frame.
+use Prim.Native.Nat.{ℕ, zero, suc, _+_, _%_, _≤_}
+use mathlib.Core.Path.{_≡_}
+use mathlib.Core.Bool.{cond}
+use mathlib.Core.List.{List, _∷_}
+use lib.Dec.{ltb}
+use lib.ListN.{length, getD, set}
+use Rattle.line.specs.Message.{room}
+use Rattle.line.specs.Writer.{Sent, writeOf}
+use Rattle.line.specs.declared.Written.{Written}
+use Rattle.line.specs.declared.Written.the-variants.{Frame, BadLength, NoRoom}
+use Rattle.state.specs.Layout.{lists, ctrAt, servedAt, lastAt, sampleAt, answerAt, answerBytesAt, firstOdt, odtCount, listOf}
+use Rattle.state.specs.Bytes.{block}
+use Rattle.state.specs.State.{consistent, flagOf, ctrOf, waits, answerKind, answerOf}
+use Rattle.lists.specs.Lists.{runsOf, storedLength}
+use Rattle.lists.specs.declared.Turn.{Turn}
+use Rattle.lists.specs.declared.Turn.the-variants.{Nobody, Answer, Packet}
+use Rattle.words.specs.declared.Slotted.{Slotted}
+use Rattle.words.specs.declared.Slotted.the-variants.{Idle, Sent as Slotted·Sent, NoRoom as Slotted·NoRoom, NoState}
+
+-- the first packet in store of the n ODTs from k on
+unfoldable pub firstStored : List ℕ → ℕ → ℕ → Turn
+firstStored s k zero = Nobody
+firstStored s k (suc n) = cond (ltb 0 (storedLength s k)) (Packet k) (firstStored s (k + 1) n)
+
+-- list l's next packet: that of its first ODT before those of later ones
+unfoldable pub packetIn : List ℕ → ℕ → Turn
+packetIn s l = cond (runsOf s l) (firstStored s (firstOdt l) (odtCount l)) Nobody
+
+abbrev pub orElse : Turn → Turn → Turn
+orElse Nobody t = t
+orElse Answer t = Answer
+orElse (Packet k) t = Packet k
+
+-- the round over L lists, of which `next l` is list l's next packet: the next n of them from l on
+unfoldable pub roundFrom : ℕ → (ℕ → Turn) → ℕ → ℕ → Turn
+roundFrom L next l zero = Nobody
+roundFrom L next l (suc n) = orElse (next (l % L)) (roundFrom L next (l + 1) n)
+
+-- an answer goes if one waits and the last frame was not an answer; else the next list after the last one served; else an answer
+unfoldable pub turnOf : List ℕ → Turn
+turnOf s =
+    cond (waits s)
+    (cond (flagOf s lastAt)
+    (orElse (roundFrom lists (packetIn s) (getD s servedAt 0 + 1) lists) Answer)
+    Answer)
+    (roundFrom lists (packetIn s) (getD s servedAt 0 + 1) lists)
+
+-- the packet of ODT k: its number, and what was captured
+unfoldable pub packetOf : List ℕ → ℕ → List ℕ
+packetOf s k = k ∷ block s (sampleAt k + 1) (storedLength s k)
+
+-- what the call answers, and the state and the lent bytes after it
+pub record Slot : Type 0 where
+  pub slotted : Slotted
+  pub state : List ℕ
+  pub out : List ℕ
+
+abbrev pub slottedAs : Written → Slotted
+slottedAs (Frame n) = Slotted·Sent n
+slottedAs BadLength = Idle
+slottedAs NoRoom = Slotted·NoRoom
+
+abbrev pub sentAs : Sent → List ℕ → Slot
+sentAs w s = record { slotted = slottedAs (w .written); state = s; out = w .out }
+
+-- the CTR grows by one per message sent, 255 to 0
+abbrev pub nextCtr : List ℕ → ℕ
+nextCtr s = (ctrOf s + 1) % 256
+
+-- the answer no longer waits; the last frame was an answer
+unfoldable pub answerSent : List ℕ → List ℕ
+answerSent s = set (set (set (set s answerBytesAt (answerKind s)) answerAt 0) ctrAt (nextCtr s)) lastAt 1
+
+-- ODT k's packet no longer waits; its list was served last; the last frame was no answer
+unfoldable pub packetSent : List ℕ → ℕ → List ℕ
+packetSent s k = set (set (set (set s (sampleAt k) 0) ctrAt (nextCtr s)) servedAt (listOf k)) lastAt 0
+
+unfoldable pub sentBy : Turn → List ℕ → List ℕ → Slot
+sentBy Nobody s out = record { slotted = Idle; state = s; out = out }
+sentBy Answer s out = sentAs (writeOf (answerOf s) (ctrOf s) out) (answerSent s)
+sentBy (Packet k) s out = sentAs (writeOf (packetOf s k) (ctrOf s) out) (packetSent s k)
+
+unfoldable pub slotOf : List ℕ → List ℕ → Slot
+slotOf s out =
+    cond (consistent s)
+    (cond (ltb (length out) room) (record { slotted = Slotted·NoRoom; state = s; out = out })
+    (sentBy (turnOf s) s out))
+    (record { slotted = NoState; state = s; out = out })
+
+-- a function that answers r and leaves s and out does what o says
+pub record Sends (o : Slot) (r : Slotted) (s out : List ℕ) : Type 0 where
+  pub result : r ≡ o .slotted
+  pub state : s ≡ o .state
+  pub bytes : out ≡ o .out
+
+-- a frame's size is at most the room
+abbrev pub Small : Slotted → Type 0
+Small Idle = Unit
+Small (Slotted·Sent size) = size ≤ room
+Small Slotted·NoRoom = Unit
+Small NoState = Unit

@@ -1,0 +1,149 @@
+// The lists: how commands change them, for any bytes.
+ghost use mathlib.Core.Path.{_≡_};
+ghost use lib.ListN.{set};
+ghost use Rattle.state.specs.Layout.{lists, odts, firstOdt, selectedAt, listOf};
+ghost use Rattle.lists.specs.Lists.{dropped, switched, stopped, started, listCleared, modeSet, tagOf, entryCleared, entrySet, stopEach, startOne, startSelected, stopOne, stopSelected};
+use crate::list::runs;
+use crate::list::selected;
+use state::bytes::clear;
+use state::bytes::put;
+use state::bytes::store16;
+use state::layout;
+use words::Extension;
+
+// A list's packets dropped.
+fn drop_packets(s: &mut [u8], l: u8)
+    ensures { λ _. ⌜ now (s .exit) ≡ dropped (now (s .entry)) (firstOdt l) odts ⌝ }
+{
+    let k = layout::first_odt(l);
+    let mut j: u8 = 0;
+    while j < layout::ODTS {
+        put(s, layout::sample_at(k + j as u16), 0);
+        j += 1;
+    }
+}
+
+// A list switched on or off: its running flag, with all packets dropped.
+fn switch(s: &mut [u8], l: u8, on: u8)
+    ensures { λ _. ⌜ now (s .exit) ≡ switched (now (s .entry)) l on ⌝ }
+{
+    put(s, layout::running_at(l as u16), on);
+    drop_packets(s, l);
+}
+
+pub fn stop(s: &mut [u8], l: u8)
+    ensures { λ _. ⌜ now (s .exit) ≡ stopped (now (s .entry)) l ⌝ }
+{
+    switch(s, l, 0);
+}
+
+pub fn start(s: &mut [u8], l: u8)
+    ensures { λ _. ⌜ now (s .exit) ≡ started (now (s .entry)) l ⌝ }
+{
+    switch(s, l, 1);
+}
+
+pub fn select(s: &mut [u8], l: u8, on: u8)
+    ensures { λ _. ⌜ now (s .exit) ≡ set (now (s .entry)) (selectedAt l) on ⌝ }
+{
+    put(s, layout::selected_at(l as u16), on);
+}
+
+// As after E3.
+pub fn clear_list(s: &mut [u8], l: u8)
+    ensures { λ _. ⌜ now (s .exit) ≡ listCleared (now (s .entry)) l ⌝ }
+{
+    clear(s, layout::mode_at(l as u16), layout::LIST_SIZE);
+    let at = layout::entries_at(layout::first_odt(l));
+    clear(s, at, layout::LIST_ENTRIES_SIZE);
+}
+
+pub fn set_mode(s: &mut [u8], l: u8, event: u8)
+    ensures { λ _. ⌜ now (s .exit) ≡ modeSet (now (s .entry)) l event ⌝ }
+{
+    put(
+        s,
+        layout::mode_at(l as u16),
+        std::num::wrapping_add_u8(event, 1),
+    );
+    put(s, layout::running_at(l as u16), 0);
+}
+
+fn tag(extension: Extension) -> u8
+    ensures { λ r. ⌜ r ≡ tagOf extension ⌝ }
+{
+    match extension {
+        Extension::Calibration => 0,
+        Extension::Measured => 1,
+    }
+}
+
+pub fn clear_entry(s: &mut [u8], k: u16, e: u8)
+    ensures { λ _. ⌜ now (s .exit) ≡ entryCleared (now (s .entry)) (listOf k) k e ⌝ }
+{
+    put(s, layout::running_at(layout::list_of(k)), 0);
+    clear(s, layout::entry_at(k, e), layout::ENTRY_SIZE);
+}
+
+pub fn set_entry(s: &mut [u8], k: u16, e: u8, n: u8, extension: Extension, address: u32)
+    ensures { λ _. ⌜ now (s .exit) ≡ entrySet (now (s .entry)) (listOf k) k e n extension address ⌝ }
+{
+    let at = layout::entry_at(k, e);
+    put(s, layout::running_at(layout::list_of(k)), 0);
+    put(s, at, n);
+    put(s, at + 1, tag(extension));
+    store16(s, at + 2, address);
+}
+
+// ---- START_STOP_SYNCH, list by list
+
+pub fn stop_all(s: &mut [u8])
+    ensures { λ _. ⌜ now (s .exit) ≡ stopEach (now (s .entry)) lists ⌝ }
+{
+    let mut l = 0;
+    while l < layout::LISTS {
+        stop(s, l);
+        select(s, l, 0);
+        l += 1;
+    }
+}
+
+fn start_one(s: &mut [u8], l: u8)
+    ensures { λ _. ⌜ now (s .exit) ≡ startOne (now (s .entry)) l ⌝ }
+{
+    if selected(s, l) {
+        if !runs(s, l) {
+            start(s, l);
+        }
+    }
+}
+
+pub fn start_selected(s: &mut [u8])
+    ensures { λ _. ⌜ now (s .exit) ≡ startSelected (now (s .entry)) lists ⌝ }
+{
+    let mut l = 0;
+    while l < layout::LISTS {
+        start_one(s, l);
+        select(s, l, 0);
+        l += 1;
+    }
+}
+
+fn stop_one(s: &mut [u8], l: u8)
+    ensures { λ _. ⌜ now (s .exit) ≡ stopOne (now (s .entry)) l ⌝ }
+{
+    if selected(s, l) {
+        stop(s, l);
+    }
+}
+
+pub fn stop_selected(s: &mut [u8])
+    ensures { λ _. ⌜ now (s .exit) ≡ stopSelected (now (s .entry)) lists ⌝ }
+{
+    let mut l = 0;
+    while l < layout::LISTS {
+        stop_one(s, l);
+        select(s, l, 0);
+        l += 1;
+    }
+}

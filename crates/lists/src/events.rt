@@ -1,0 +1,176 @@
+// An event: each running list of it samples at once.
+ghost use mathlib.Core.Path.{_≡_};
+ghost use mathlib.Core.Bool.{true};
+ghost use Prim.Native.Nat.{_+_, _≤_, _<_};
+ghost use lib.ListN.{length};
+ghost use lib.Seq.{sets};
+ghost use Rattle.state.specs.Layout.{lists, odts, entries, allOdts, events, odtMost, entryMost, size, sampleAt, firstOdt};
+ghost use Rattle.state.specs.Memory.{bytesOf};
+ghost use Rattle.lists.specs.Lists.{sizeOf, odtBytes, odtsFit};
+ghost use Rattle.lists.specs.Event.{samplingOf, entryBytes, gathered, contentsOf, stored, capturedOdts, captured, sampledState, sampledBy, missedBy, Counts, tally, Happens, eventOf};
+use crate::Counted;
+use crate::Sampling;
+use crate::list;
+use state::bytes::store16;
+use state::fields;
+use state::layout;
+use state::memory::byte;
+use words::Evented;
+use words::Extension;
+
+// What an event is to a list.
+fn sampling(s: &[u8], l: u8, event: u8) -> Sampling
+    requires { ⌜ event < events ⌝ }
+    ensures { λ r. ⌜ r ≡ samplingOf (now (s .entry)) l event ⌝ }
+{
+    if list::mode(s, l) != event + 1 {
+        return Sampling::Idle;
+    }
+    if !list::runs(s, l) {
+        return Sampling::Idle;
+    }
+    if list::is_unsent(s, l) {
+        return Sampling::Missed;
+    }
+    Sampling::Sampled
+}
+
+// The n bytes of a memory from address on into the state; a byte that is not inside is 0.
+fn take_block(s: &mut [u8], to: usize, mem: &[u8], address: usize, n: usize)
+    requires { ⌜ (to + n ≤ length (now s)) × (address + n ≤ 65540) ⌝ }
+    ensures { λ _. ⌜ now (s .exit) ≡ sets (now (s .entry)) to (bytesOf (now (mem .entry)) address n) ⌝ }
+{
+    let mut i = 0;
+    while i < n {
+        s[to + i] = byte(mem, address + i);
+        i += 1;
+    }
+}
+
+// The n bytes of one entry.
+fn take_entry(s: &mut [u8], to: usize, cal: &[u8], meas: &[u8], k: u16, e: u8, n: usize)
+    requires { ⌜ (n ≡ sizeOf (now s) k e) × (n ≤ entryMost) × (to + n ≤ length (now s)) ⌝ }
+    ensures { λ _. ⌜ now (s .exit) ≡ sets (now (s .entry)) to (entryBytes (now (s .entry)) k e (now (cal .entry)) (now (meas .entry))) ⌝ }
+{
+    let address = list::entry_address(s, k, e) as usize;
+    let extension = list::entry_extension(s, k, e);
+    match extension {
+        Extension::Calibration => take_block(s, to, cal, address, n),
+        Extension::Measured => take_block(s, to, meas, address, n),
+    }
+}
+
+// The bytes of an ODT's entries, in entry order. They go past all entries.
+fn gather(s: &mut [u8], from: usize, cal: &[u8], meas: &[u8], k: u16)
+    requires { ⌜ (length (now s) ≡ size) × (k < allOdts) × (sampleAt 0 ≤ from) × (from + odtBytes (now s) k ≤ size) ⌝ }
+    ensures { λ _. ⌜ now (s .exit) ≡ sets (now (s .entry)) from (gathered (now (s .entry)) k (now (cal .entry)) (now (meas .entry)) entries) ⌝ }
+{
+    let mut to = from;
+    let mut e: u8 = 0;
+    while e < layout::ENTRIES {
+        let n = list::entry_size(s, k, e) as usize;
+        take_entry(s, to, cal, meas, k, e, n);
+        to += n;
+        e += 1;
+    }
+}
+
+// One ODT: its length, in a list's first ODT the clock, then its bytes.
+fn capture_odt(s: &mut [u8], cal: &[u8], meas: &[u8], k: u16, clock: u16)
+    requires { ⌜ (length (now s) ≡ size) × (k < allOdts) × (odtBytes (now s) k ≤ odtMost k) ⌝ }
+    ensures { λ _. ⌜ now (s .exit) ≡ stored (now (s .entry)) k (contentsOf (now (s .entry)) k clock (now (cal .entry)) (now (meas .entry))) ⌝ }
+{
+    let at = layout::sample_at(k);
+    let n = list::odt_bytes(s, k);
+    if layout::is_first(k) {
+        s[at] = n + layout::CLOCK_SIZE;
+        store16(s, at + 1, clock as u32);
+        gather(s, at + 1 + layout::CLOCK_SIZE as usize, cal, meas, k);
+        return;
+    }
+    s[at] = n;
+    gather(s, at + 1, cal, meas, k);
+}
+
+// All ODTs at once: nothing is read when they are sent.
+fn capture(s: &mut [u8], cal: &[u8], meas: &[u8], l: u8, clock: u16)
+    requires { ⌜ (length (now s) ≡ size) × (l < lists) × (odtsFit (now s) (firstOdt l) odts ≡ true) ⌝ }
+    ensures { λ _. ⌜ now (s .exit) ≡ captured (now (s .entry)) l clock (now (cal .entry)) (now (meas .entry)) ⌝ }
+{
+    let k = layout::first_odt(l);
+    let mut j: u8 = 0;
+    while j < layout::ODTS {
+        capture_odt(s, cal, meas, k + j as u16, clock);
+        j += 1;
+    }
+}
+
+// One list.
+fn sample(s: &mut [u8], cal: &[u8], meas: &[u8], l: u8, event: u8, clock: u16) -> Sampling
+    requires { ⌜ (length (now s) ≡ size) × (l < lists) × (event < events) ⌝ }
+    ensures { λ r. ⌜ (r ≡ samplingOf (now (s .entry)) l event) × (now (s .exit) ≡ sampledState r (now (s .entry)) l clock (now (cal .entry)) (now (meas .entry))) ⌝ }
+{
+    let c = sampling(s, l, event);
+    match c {
+        Sampling::Idle => Sampling::Idle,
+        Sampling::Sampled => {
+            capture(s, cal, meas, l, clock);
+            Sampling::Sampled
+        }
+        Sampling::Missed => Sampling::Missed,
+    }
+}
+
+fn sampled_by(c: Sampling) -> u8
+    ensures { λ r. ⌜ (r ≡ sampledBy c) × (r ≤ 1) ⌝ }
+{
+    match c {
+        Sampling::Idle => 0,
+        Sampling::Sampled => 1,
+        Sampling::Missed => 0,
+    }
+}
+
+fn missed_by(c: Sampling) -> u8
+    ensures { λ r. ⌜ (r ≡ missedBy c) × (r ≤ 1) ⌝ }
+{
+    match c {
+        Sampling::Idle => 0,
+        Sampling::Sampled => 0,
+        Sampling::Missed => 1,
+    }
+}
+
+// All lists: how many sampled and how many missed.
+fn happen(s: &mut [u8], cal: &[u8], meas: &[u8], event: u8, clock: u16) -> Counted
+    requires { ⌜ (length (now s) ≡ size) × (event < events) ⌝ }
+    ensures { λ r. ⌜ Counts (tally (now (s .entry)) event clock (now (cal .entry)) (now (meas .entry)) lists) (now (s .exit)) (r .sampled) (r .missed) ⌝ }
+{
+    let mut sampled: u8 = 0;
+    let mut missed: u8 = 0;
+    let mut l: u8 = 0;
+    while l < layout::LISTS {
+        let c = sample(s, cal, meas, l, event, clock);
+        sampled += sampled_by(c);
+        missed += missed_by(c);
+        l += 1;
+    }
+    Counted { sampled, missed }
+}
+
+// One event with its clock.
+pub fn event(state: &mut [u8], cal: &[u8], meas: &[u8], number: u32, clock: u16) -> Evented
+    ensures { λ r. ⌜ Happens (eventOf (now (state .entry)) (now (cal .entry)) (now (meas .entry)) number clock) r (now (state .exit)) ⌝ }
+{
+    if !fields::is_consistent(state) {
+        return Evented::NoState;
+    }
+    if layout::EVENTS_U32 <= number {
+        return Evented::BadEvent;
+    }
+    let c = happen(state, cal, meas, number as u8, clock);
+    Evented::Done {
+        sampled: c.sampled,
+        missed: c.missed,
+    }
+}

@@ -1,0 +1,28 @@
+// The lists over the lent state: how they read, how commands change them, and the two calls that are about them, an
+// event and a sending slot. No function leans on its caller.
+pub mod changes;
+mod events;
+pub mod list;
+mod slots;
+
+pub use events::event;
+pub use slots::slot;
+
+// What an event is to a list.
+pub enum Sampling {
+    Idle,
+    Sampled,
+    Missed,
+}
+
+pub struct Counted {
+    pub sampled: u8,
+    pub missed: u8,
+}
+
+// Whose frame a slot sends.
+pub enum Turn {
+    Nobody,
+    Answer,
+    Packet(u16),
+}

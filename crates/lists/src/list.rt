@@ -1,0 +1,194 @@
+// The lists: how they read, for any bytes.
+ghost use mathlib.Core.Path.{_≡_};
+ghost use mathlib.Core.Bool.{cond, false};
+ghost use Prim.Native.Nat.{_*_, _≤_};
+ghost use lib.Dec.{eqb};
+ghost use Rattle.state.specs.Layout.{lists, odts, firstOdt, entries, events, storedMost, entryMost};
+ghost use Rattle.lists.specs.Lists.{sizeOf, extensionOf, addressOf, odtBytes, modeOf, selectedOf, bytesOfOdts, odtsFit, fitOf, runsOf, anyRuns, mayStart, allFit, leastOf, storedLength, unsent};
+use state::bytes::get;
+use state::bytes::get16;
+use state::fields::flag;
+use state::layout;
+use words::Extension;
+
+// ---- entries
+
+// An entry's size; above 4 it reads as 0.
+pub fn entry_size(s: &[u8], k: u16, e: u8) -> u8
+    ensures { λ r. ⌜ (r ≡ sizeOf (now (s .entry)) k e) × (r ≤ entryMost) ⌝ }
+{
+    let n = get(s, layout::entry_at(k, e));
+    if layout::ENTRY_MOST < n {
+        return 0;
+    }
+    n
+}
+
+pub fn entry_extension(s: &[u8], k: u16, e: u8) -> Extension
+    ensures { λ r. ⌜ r ≡ extensionOf (now (s .entry)) k e ⌝ }
+{
+    if flag(s, layout::entry_at(k, e) + 1) {
+        Extension::Measured
+    } else {
+        Extension::Calibration
+    }
+}
+
+pub fn entry_address(s: &[u8], k: u16, e: u8) -> u16
+    ensures { λ r. ⌜ r ≡ addressOf (now (s .entry)) k e ⌝ }
+{
+    get16(s, layout::entry_at(k, e) + 2)
+}
+
+// The bytes of an ODT.
+pub fn odt_bytes(s: &[u8], k: u16) -> u8
+    ensures { λ r. ⌜ (r ≡ odtBytes (now (s .entry)) k) × (r ≤ entries * entryMost) ⌝ }
+{
+    let mut n = 0;
+    let mut e = 0;
+    while e < layout::ENTRIES {
+        n += entry_size(s, k, e);
+        e += 1;
+    }
+    n
+}
+
+// ---- lists
+
+// 0 where a list's mode was never set, else 1 more than its event.
+pub fn mode(s: &[u8], l: u8) -> u8
+    ensures { λ r. ⌜ (r ≡ modeOf (now (s .entry)) l) × (r ≤ events) ⌝ }
+{
+    let n = get(s, layout::mode_at(l as u16));
+    if layout::EVENTS < n {
+        return 0;
+    }
+    n
+}
+
+pub fn selected(s: &[u8], l: u8) -> bool
+    ensures { λ r. ⌜ r ≡ selectedOf (now (s .entry)) l ⌝ }
+{
+    flag(s, layout::selected_at(l as u16))
+}
+
+// Whether a list's ODTs have some byte, and none has too many.
+fn odts_fit(s: &[u8], l: u8) -> bool
+    ensures { λ r. ⌜ r ≡ cond (eqb (bytesOfOdts (now (s .entry)) (firstOdt l) odts) 0) false (odtsFit (now (s .entry)) (firstOdt l) odts) ⌝ }
+{
+    let k = layout::first_odt(l);
+    let mut n: u16 = 0;
+    let mut j: u8 = 0;
+    while j < layout::ODTS {
+        let m = odt_bytes(s, k + j as u16);
+        if layout::odt_most(k + j as u16) < m {
+            return false;
+        }
+        n += m as u16;
+        j += 1;
+    }
+    if n == 0 {
+        return false;
+    }
+    true
+}
+
+// Whether a list can be started.
+pub fn fit(s: &[u8], l: u8) -> bool
+    ensures { λ r. ⌜ r ≡ fitOf (now (s .entry)) l ⌝ }
+{
+    if mode(s, l) == 0 {
+        return false;
+    }
+    odts_fit(s, l)
+}
+
+pub fn runs(s: &[u8], l: u8) -> bool
+    ensures { λ r. ⌜ r ≡ runsOf (now (s .entry)) l ⌝ }
+{
+    if flag(s, layout::OPEN) {
+        if flag(s, layout::running_at(l as u16)) {
+            return fit(s, l);
+        }
+        return false;
+    }
+    false
+}
+
+pub fn any_runs(s: &[u8]) -> bool
+    ensures { λ r. ⌜ r ≡ anyRuns (now (s .entry)) lists ⌝ }
+{
+    let mut l = 0;
+    while l < layout::LISTS {
+        if runs(s, l) {
+            return true;
+        }
+        l += 1;
+    }
+    false
+}
+
+// Whether a list that is selected can be started.
+fn may_start(s: &[u8], l: u8) -> bool
+    ensures { λ r. ⌜ r ≡ mayStart (now (s .entry)) l ⌝ }
+{
+    if selected(s, l) {
+        return fit(s, l);
+    }
+    true
+}
+
+// Whether every selected list can be started.
+pub fn all_fit(s: &[u8]) -> bool
+    ensures { λ r. ⌜ r ≡ allFit (now (s .entry)) lists ⌝ }
+{
+    let mut l = 0;
+    while l < layout::LISTS {
+        if !may_start(s, l) {
+            return false;
+        }
+        l += 1;
+    }
+    true
+}
+
+// ---- packets
+
+fn least(k: u16) -> u8
+    ensures { λ r. ⌜ r ≡ leastOf k ⌝ }
+{
+    if layout::is_first(k) {
+        layout::CLOCK_SIZE
+    } else {
+        1
+    }
+}
+
+// The length of an ODT's packet in store, without its number; 0 where there is none.
+pub fn stored_length(s: &[u8], k: u16) -> u8
+    ensures { λ r. ⌜ (r ≡ storedLength (now (s .entry)) k) × (r ≤ storedMost) ⌝ }
+{
+    let n = get(s, layout::sample_at(k));
+    if n < least(k) {
+        return 0;
+    }
+    if layout::STORED_MOST < n {
+        return 0;
+    }
+    n
+}
+
+// Whether a list still has an unsent packet.
+pub fn is_unsent(s: &[u8], l: u8) -> bool
+    ensures { λ r. ⌜ r ≡ unsent (now (s .entry)) l ⌝ }
+{
+    let k = layout::first_odt(l);
+    let mut j: u8 = 0;
+    while j < layout::ODTS {
+        if 0 < stored_length(s, k + j as u16) {
+            return true;
+        }
+        j += 1;
+    }
+    false
+}

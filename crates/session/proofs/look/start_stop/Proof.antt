@@ -1,0 +1,35 @@
+use borrow.Author.Tests.{ne-eqb}
+use mathlib.Core.Path.{_∙_}
+use Rattle.judge.proofs.Looking.{start-asks}
+use borrow.Author.Needs.{needs}
+use Rattle.session.proofs.look.start_stop.Statement.{statement}
+use Rattle.session.proofs.look.start_stop.Tie as tie
+
+start-stop-requires : tie.Need-start-stop-requires
+start-stop-requires c κs = search needs
+
+returns : tie.Need-returns
+returns c = c .start-stop .ensures ∙ start-asks _ _ _ _ _ _ (ne-eqb _ _ (c .before .if1 .taken))
+
+runs-named-requires : tie.Need-runs-named-requires
+runs-named-requires c κs = search needs
+
+fits-named-requires : tie.Need-fits-named-requires
+fits-named-requires c κs = search needs
+
+start-stop-requires-2 : tie.Need-start-stop-requires-2
+start-stop-requires-2 c κs = search needs
+
+returns-2 : tie.Need-returns-2
+returns-2 c = c .start-stop2 .ensures ∙ rw (c .before .before .runs-named .ensures, c .before .fits-named .ensures)
+
+pub start-stop-spec : {M : Type 1} → statement M
+start-stop-spec =
+    tie.close
+    (tie.spec
+    start-stop-requires
+    returns
+    runs-named-requires
+    fits-named-requires
+    start-stop-requires-2
+    returns-2)

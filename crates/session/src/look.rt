@@ -1,0 +1,207 @@
+// What the command in the message buffer leads to. Of packet and state each command's checks look at what they need, and at no more.
+ghost use mathlib.Core.Path.{_≡_};
+ghost use Prim.Native.Nat.{_+_, _≤_};
+ghost use lib.ListN.{length};
+ghost use Rattle.words.specs.Command.{commandOf};
+ghost use Rattle.state.specs.Layout.{packetMost, packetAt, size, lists};
+ghost use Rattle.state.specs.Bytes.{block, u16At, u32At};
+ghost use Rattle.state.specs.State.{generatorOf, seedOf, pointerOf};
+ghost use Rattle.lists.specs.Lists.{allFit};
+ghost use Rattle.judge.specs.Judge.{unlockBy, clearDeed, modeDeed, startStopDeed, synchDeed, writeDeed, judgeThe, lockedBy, judgeBy};
+ghost use Rattle.session.specs.Look.{numbersAt, pointedRuns, runsNamed, fitsNamed, lookedAt, judgeOf};
+use judge::Deed;
+use judge::checks;
+use lists::list;
+use state::bytes::get16;
+use state::bytes::get32;
+use state::fields;
+use state::layout;
+use words::Command;
+use words::Needs;
+use words::Pointer;
+use words::Reason;
+use words::Resource;
+use words::commands;
+
+fn runs_named(s: &[u8], l: u16) -> bool
+    ensures { λ r. ⌜ r ≡ runsNamed (now (s .entry)) l ⌝ }
+{
+    if layout::LISTS_U16 <= l {
+        return false;
+    }
+    list::runs(s, l as u8)
+}
+
+fn fits_named(s: &[u8], l: u16) -> bool
+    ensures { λ r. ⌜ r ≡ fitsNamed (now (s .entry)) l ⌝ }
+{
+    if layout::LISTS_U16 <= l {
+        return false;
+    }
+    list::fit(s, l as u8)
+}
+
+// Whether the pointer's list runs.
+fn pointed_runs(s: &[u8], pointer: Pointer) -> bool
+    ensures { λ r. ⌜ r ≡ pointedRuns pointer (now (s .entry)) ⌝ }
+{
+    match pointer {
+        Pointer::Unset => false,
+        Pointer::At { odt, entry: _ } => list::runs(s, layout::list_of(odt as u16) as u8),
+    }
+}
+
+fn unlock(s: &[u8], width: u8, n: u8, key: u32) -> Deed
+    ensures { λ r. ⌜ r ≡ unlockBy (seedOf (now (s .entry))) (generatorOf (now (s .entry))) width n key ⌝ }
+{
+    let generator = fields::generator(s);
+    checks::unlock(fields::seed(s), generator.x, width, n, key)
+}
+
+fn clear_list(s: &[u8], l: u16) -> Deed
+    ensures { λ r. ⌜ r ≡ clearDeed (runsNamed (now (s .entry)) l) l ⌝ }
+{
+    checks::clear_list(runs_named(s, l), l)
+}
+
+fn write_entry(s: &[u8], bit: u8, n: u8, extension: u8, address: u32, nc: usize, nm: usize) -> Deed
+    ensures { λ r. ⌜ r ≡ writeDeed (pointerOf (now (s .entry))) (pointedRuns (pointerOf (now (s .entry))) (now (s .entry))) bit n extension address nc nm ⌝ }
+{
+    let pointer = fields::pointer(s);
+    checks::write_entry(
+        pointer,
+        pointed_runs(s, pointer),
+        bit,
+        n,
+        extension,
+        address,
+        nc,
+        nm,
+    )
+}
+
+fn set_mode(s: &[u8], mode: u8, l: u16, event: u16, prescaler: u8, priority: u8) -> Deed
+    ensures { λ r. ⌜ r ≡ modeDeed (runsNamed (now (s .entry)) l) mode l event prescaler priority ⌝ }
+{
+    checks::set_mode(runs_named(s, l), mode, l, event, prescaler, priority)
+}
+
+// A start alone asks what a list has.
+fn start_stop(s: &[u8], mode: u8, l: u16) -> Deed
+    ensures { λ r. ⌜ r ≡ startStopDeed (runsNamed (now (s .entry)) l) (fitsNamed (now (s .entry)) l) mode l ⌝ }
+{
+    if mode != 1 {
+        return checks::start_stop(false, false, mode, l);
+    }
+    checks::start_stop(runs_named(s, l), fits_named(s, l), mode, l)
+}
+
+fn start_stop_synch(s: &[u8], mode: u8) -> Deed
+    ensures { λ r. ⌜ r ≡ synchDeed (allFit (now (s .entry)) lists) mode ⌝ }
+{
+    if mode != 1 {
+        return checks::start_stop_synch(false, mode);
+    }
+    checks::start_stop_synch(list::all_fit(s), mode)
+}
+
+// Each command's own checks.
+fn judge_the(command: Command, s: &[u8], n: u8, nc: usize, nm: usize) -> Deed
+    requires { ⌜ length (now s) ≡ size ⌝ }
+    ensures { λ r. ⌜ r ≡ judgeThe command (numbersAt (now (s .entry)) n) (lookedAt (now (s .entry))) nc nm ⌝ }
+{
+    match command {
+        Command::Unknown => Deed::Refuse(Reason::Unknown),
+        Command::Connect => checks::connect(s[layout::PACKET_1]),
+        Command::Disconnect => Deed::Disconnect,
+        Command::GetStatus => Deed::Status,
+        Command::Synch => Deed::Synch,
+        Command::GetSeed => checks::get_seed(
+            fields::unlocked(s, Resource::Calibration),
+            fields::unlocked(s, Resource::Lists),
+            s[layout::PACKET_1],
+            s[layout::PACKET_2],
+        ),
+        Command::Unlock => unlock(s, s[layout::PACKET_1], n, get32(s, layout::PACKET_2)),
+        Command::SetMta => checks::set_mta(s[layout::PACKET_3], get32(s, layout::PACKET_4)),
+        Command::Upload => checks::upload(fields::mta(s), s[layout::PACKET_1], nc, nm),
+        Command::ShortUpload => checks::short_upload(
+            s[layout::PACKET_1],
+            s[layout::PACKET_3],
+            get32(s, layout::PACKET_4),
+            nc,
+            nm,
+        ),
+        Command::BuildChecksum => checks::build_checksum(
+            fields::mta(s),
+            get32(s, layout::PACKET_4),
+            nc,
+            nm,
+        ),
+        Command::Download => checks::download(fields::mta(s), s[layout::PACKET_1], n, nc),
+        Command::ClearDaqList => clear_list(s, get16(s, layout::PACKET_2)),
+        Command::SetDaqPtr => checks::set_pointer(
+            get16(s, layout::PACKET_2),
+            s[layout::PACKET_4],
+            s[layout::PACKET_5],
+        ),
+        Command::WriteDaq => write_entry(
+            s,
+            s[layout::PACKET_1],
+            s[layout::PACKET_2],
+            s[layout::PACKET_3],
+            get32(s, layout::PACKET_4),
+            nc,
+            nm,
+        ),
+        Command::SetDaqListMode => set_mode(
+            s,
+            s[layout::PACKET_1],
+            get16(s, layout::PACKET_2),
+            get16(s, layout::PACKET_4),
+            s[layout::PACKET_6],
+            s[layout::PACKET_7],
+        ),
+        Command::StartStopDaqList => {
+            start_stop(s, s[layout::PACKET_1], get16(s, layout::PACKET_2))
+        }
+        Command::StartStopSynch => start_stop_synch(s, s[layout::PACKET_1]),
+        Command::GetDaqProcessorInfo => Deed::ProcessorInfo,
+        Command::GetDaqResolutionInfo => Deed::ResolutionInfo,
+    }
+}
+
+// Whether the lock that a command needs is shut.
+fn locked(needs: Needs, s: &[u8]) -> bool
+    ensures { λ r. ⌜ r ≡ lockedBy needs (lookedAt (now (s .entry))) ⌝ }
+{
+    match needs {
+        Needs::Nothing => false,
+        Needs::Unlocked(resource) => match resource {
+            Resource::Calibration => !fields::unlocked(s, Resource::Calibration),
+            Resource::Lists => !fields::unlocked(s, Resource::Lists),
+        },
+    }
+}
+
+// Too short and locked are judged once for all; an unknown code is never either, and `judge_the` refuses it.
+fn judge_by(command: Command, s: &[u8], n: u8, nc: usize, nm: usize) -> Deed
+    requires { ⌜ length (now s) ≡ size ⌝ }
+    ensures { λ r. ⌜ r ≡ judgeBy command (numbersAt (now (s .entry)) n) (lookedAt (now (s .entry))) nc nm ⌝ }
+{
+    if n < commands::fewest(command) {
+        return Deed::Refuse(Reason::TooShort);
+    }
+    if locked(commands::needs(command), s) {
+        return Deed::Refuse(Reason::Locked);
+    }
+    judge_the(command, s, n, nc, nm)
+}
+
+// What the command in the packet of n bytes leads to.
+pub fn judge(s: &[u8], n: u8, nc: usize, nm: usize) -> Deed
+    requires { ⌜ (length (now s) ≡ size) × (1 ≤ n) × (n ≤ packetMost) ⌝ }
+    ensures { λ r. ⌜ r ≡ judgeOf (block (now (s .entry)) packetAt n) (now (s .entry)) nc nm ⌝ }
+{
+    judge_by(commands::command(s[layout::PACKET]), s, n, nc, nm)
+}

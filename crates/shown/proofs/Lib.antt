@@ -1,0 +1,10 @@
+-- What the demands shut out.
+pub mod Computed
+pub mod AsOurs
+pub mod ShutOut
+-- The bench sheet.
+pub mod Table
+-- Each premise is met, and each bound is tight.
+pub mod Bounds
+pub mod AnswerBound
+pub mod Premises

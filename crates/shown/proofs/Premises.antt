@@ -1,0 +1,39 @@
+-- Runs of ours that meet premises which no other run here meets: a good message while an answer waits; a wrong key, and DISCONNECT in its place.
+-- Assumes nothing.
+use Rattle.demands.specs.Waiting.{AllBut}
+use Prim.Native.Nat.{ℕ}
+use mathlib.Core.Path.{_≡_, refl}
+use mathlib.Core.Bool.{true}
+use mathlib.Core.Option.{some}
+use mathlib.Core.List.{List, [], _∷_, _++_}
+use lib.ListN.{getD}
+use Rattle.state.specs.Layout.{placeAt, sessionAt}
+use Rattle.state.specs.State.{consistent, waits, answerOf}
+use Rattle.words.specs.declared.Received.the-variants.{Unread}
+use Rattle.demands.specs.Slave.{ours}
+use Rattle.demands.specs.Heard.{packetEnded, Commands, wrongKey}
+use Rattle.shown.specs.Exchange.{says, askAll, begun, lastByte, reached, connect, disconnect, synch, seedOfCalibration, keyOfLists}
+use Rattle.shown.proofs.Computed.{computed}
+
+-- ---- CONNECT's answer waits, and SYNCH comes whole: number 6
+abbrev waiting : List ℕ
+waiting = reached ours (says [] [] connect ++ begun [] [] synch)
+
+pub meanwhile-met : (consistent waiting ≡ true) × (waits waiting ≡ true) × (packetEnded waiting (lastByte synch) ≡ some synch)
+    × (ours .receive waiting [] [] (lastByte synch) .received ≡ Unread)
+unfolding computed
+meanwhile-met = (refl, refl, refl, refl)
+
+-- ---- the seed for calibration is out: the key to lists is wrong, and answered FE 25; DISCONNECT may come in its place
+abbrev seeded : List ℕ → List ℕ
+seeded p = reached ours (askAll [] [] (connect ∷ seedOfCalibration ∷ []) ++ begun [] [] p)
+
+pub wrong-key-met : (consistent (seeded keyOfLists) ≡ true) × Commands (seeded keyOfLists) (lastByte keyOfLists) keyOfLists × (wrongKey keyOfLists (seeded keyOfLists) ≡ true)
+    × (answerOf (ours .receive (seeded keyOfLists) [] [] (lastByte keyOfLists) .state) ≡ 0xFE ∷ 0x25 ∷ [])
+unfolding computed
+wrong-key-met = (refl, record { ends = refl; opened = refl; free = refl }, refl, refl)
+
+pub disconnect-met : (consistent (seeded disconnect) ≡ true) × Commands (seeded disconnect) (lastByte disconnect) disconnect × (getD disconnect 0 0 ≡ 0xFE)
+    × AllBut placeAt sessionAt (seeded keyOfLists) (seeded disconnect)
+unfolding computed
+disconnect-met = (refl, record { ends = refl; opened = refl; free = refl }, refl, record { long = refl; front = refl; back = refl })

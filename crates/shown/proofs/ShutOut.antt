@@ -1,0 +1,163 @@
+-- Each wrong slave fails the demand that is to shut it out: one run of it is computed. Assumes nothing.
+use Prim.Native.Nat.{ℕ, _+_, _-_}
+use mathlib.Core.Path.{_≡_, refl, ap, sym, _∙_, subst}
+use mathlib.Core.Bool.{Bool, true, false, cond}
+use mathlib.Core.Option.{Option, some}
+use mathlib.Core.List.{List, [], _∷_, _++_}
+use native.Mathlib.Omega.{arith}
+use lib.Dec.{lit<, lit≤}
+use lib.ListN.{length, getD, replicate}
+use Rattle.line.specs.Message.{longest, room}
+use Rattle.line.specs.Number.{outcomeNumber}
+use Rattle.line.specs.Run as line
+use Rattle.line.specs.Wire.{heard}
+use Rattle.line.specs.declared.Place.the-variants.{Outside}
+use Rattle.line.specs.declared.Outcome.the-variants.{Nothing}
+use Rattle.state.specs.Layout.{addressAt, sessionAt}
+use Rattle.state.specs.State.{consistent, ctrOf, openOf, mtaOf, waits, answerOf}
+use Rattle.lists.specs.Slot.{turnOf}
+use Rattle.words.specs.Number.{receivedNumber, eventedValue}
+use Rattle.session.specs.PowerUp.{powered}
+use Rattle.words.specs.declared.Resource.the-variants.{Calibration}
+use Rattle.words.specs.declared.Extension.the-variants.{Calibration as CalibrationMemory}
+use Rattle.words.specs.declared.Mta.{Mta}
+use Rattle.words.specs.declared.Mta.the-variants.{At}
+use Rattle.demands.specs.Slave.{Slave, ours}
+use Rattle.demands.specs.Runs.{Byte, Event, Slot}
+use Rattle.demands.specs.Heard.{packetEnded}
+use Rattle.demands.specs.Waiting.{packetFor}
+use Rattle.demands.specs.Demand1.{Demand1}
+use Rattle.demands.specs.Demand2.{Demand2, ReadsBack}
+use Rattle.demands.specs.Demand3.{Demand3}
+use Rattle.shown.specs.Wrong.{refusesAlways, silent, alwaysFF, storesNothing, obeysDamaged, allAtOnce, upTo, sumsEscaped, neverSamples, inventsCounts, movesAfterRefusal, readsLate, rereadEach, opensBoth}
+use Rattle.shown.specs.Exchange.{slot, says, asks, askAll, begun, lastByte, reached, connect, synch, seedOfCalibration, keyOfCalibration, upload, uploadFirst, downloadOne, downloading, uploading, measuring}
+use Rattle.shown.proofs.Computed.{computed}
+
+-- CONNECT is answered FE
+pub refusesAlways-fails : Demand2 refusesAlways → ⊥
+unfolding computed
+refusesAlways-fails d =
+    let e : _≡_ {A = ℕ} 0xFE 0xFF = ap (λ o. getD (answerOf (o .state)) 0 0) (d .reads (reached refusesAlways (begun [] [] connect)) [] [] (lastByte connect) refl)
+    in omega arith
+
+-- in a session, SYNCH is not answered
+pub silent-fails : Demand3 silent → ⊥
+unfolding computed
+silent-fails d =
+    let e : _≡_ {A = ℕ} 2 1 = ap receivedNumber (d .answered (reached ours (asks [] [] connect)) (begun [] [] synch) [] [] (lastByte synch) [] 0 synch refl (lit≤ tt) (lit≤ tt) refl refl refl .number)
+    in omega arith
+
+-- CONNECT with a checksum one too high is answered
+pub obeysDamaged-fails : Demand2 obeysDamaged → ⊥
+unfolding computed
+obeysDamaged-fails d =
+    let e : _≡_ {A = ℕ} 1 5 = ap (λ o. receivedNumber (o .received)) (d .reads (reached obeysDamaged (begun [] [] connect)) [] [] (lastByte connect + 1) refl) in omega arith
+
+-- ---- UPLOAD after DOWNLOAD
+-- how a state stands at a byte, and what two commands come to, the second with the memory that the first left
+record Standing : Type 0 where
+  sound : Bool
+  ended : Option (List ℕ)
+  opened : Bool
+  waiting : Bool
+  place : Mta
+
+record Exchanged : Type 0 where
+  before : Standing
+  first : List ℕ
+  between : Standing
+  second : List ℕ
+
+standing : List ℕ → ℕ → Standing
+standing s b = record { sound = consistent s; ended = packetEnded s b; opened = openOf s; waiting = waits s; place = mtaOf s }
+
+-- DOWNLOAD of 7 to the first place of a memory that holds 0, and UPLOAD of it
+exchanged : Slave → List ℕ → List ℕ → Exchanged
+exchanged v s t =
+    record {
+      before = standing s (lastByte (downloadOne 7));
+      first = answerOf (v .receive s (0 ∷ []) [] (lastByte (downloadOne 7)) .state);
+      between = standing t (lastByte (upload 1));
+      second = answerOf (v .receive t (v .receive s (0 ∷ []) [] (lastByte (downloadOne 7)) .cal) [] (lastByte (upload 1)) .state);
+    }
+
+-- both commands are heard, the first is answered FF, the second a
+ready : List ℕ → Standing
+ready p = record { sound = true; ended = some p; opened = true; waiting = false; place = At CalibrationMemory 0 }
+
+answers : List ℕ → Exchanged
+answers a = record { before = ready (downloadOne 7); first = 0xFF ∷ []; between = ready (upload 1); second = a }
+
+given-back : (v : Slave) (s t a : List ℕ) → Demand2 v → exchanged v s t ≡ answers a → a ≡ 0xFF ∷ 7 ∷ []
+unfolding standing exchanged ready answers
+given-back v s t a d e =
+    sym (ap (λ x. x .second) e)
+    ∙ d .givesBack s t (0 ∷ []) [] [] (lastByte (downloadOne 7)) (lastByte (upload 1)) (downloadOne 7) (upload 1) 0 1 (ap (λ x. x .before .sound) e) (ap (λ x. x .between .sound) e)
+    (record { command = record { ends = ap (λ x. x .before .ended) e; opened = ap (λ x. x .before .opened) e; free = ap (λ x. x .before .waiting) e }; code = refl; count = refl; place = ap (λ x. x .before .place) e })
+    (ap (λ x. x .first) e)
+    (record { command = record { ends = ap (λ x. x .between .ended) e; opened = ap (λ x. x .between .opened) e; free = ap (λ x. x .between .waiting) e }; code = refl; count = refl; place = ap (λ x. x .between .place) e }) .0
+
+-- its answer to UPLOAD has no byte
+pub alwaysFF-fails : Demand2 alwaysFF → ⊥
+unfolding computed standing exchanged ready answers
+alwaysFF-fails d =
+    let e : _≡_ {A = ℕ} 1 2 = ap length (given-back alwaysFF (reached alwaysFF (downloading 7 (0 ∷ []))) (reached alwaysFF (uploading (0 ∷ []) 1)) (0xFF ∷ []) d refl) in omega arith
+
+-- its answer to UPLOAD has the byte that was there before
+pub storesNothing-fails : Demand2 storesNothing → ⊥
+unfolding computed standing exchanged ready answers
+storesNothing-fails d =
+    let e : _≡_ {A = ℕ} 0 7 = ap (λ a. getD a 1 0) (given-back storesNothing (reached storesNothing (downloading 7 (0 ∷ []))) (reached storesNothing (uploading (0 ∷ []) 1)) (0xFF ∷ 0 ∷ []) d refl)
+    in omega arith
+
+-- ---- slots
+-- an answer and a sample wait, and one slot sends all three frames
+pub allAtOnce-fails : Demand2 allAtOnce → ⊥
+unfolding computed upTo
+allAtOnce-fails d =
+    let e : _≡_ {A = ℕ} 19 7 = ap (λ fs. length (getD fs 0 [])) (d .numbers (reached ours (measuring (5 ∷ []))) (Event [] (5 ∷ []) 0 0 ∷ Slot (replicate 46 0) ∷ []) refl (lit< tt)) in omega arith
+
+-- a frame that reads back carries the packet whose turn it was
+read-back : (f s p : List ℕ) → packetFor (turnOf s) s ≡ p ∷ [] → ReadsBack (f ∷ []) s → line.run Outside (replicate longest 0) f ≡ heard Outside (replicate longest 0) (ctrOf s) p
+read-back f s p e r = subst (λ q. line.run Outside (replicate longest 0) f ≡ heard Outside (replicate longest 0) (ctrOf s) q) (ap (λ ps. getD ps 0 []) (sym (r .2) ∙ e)) (r .3 Outside (replicate longest 0) (lit≤ tt))
+
+-- the frame of FF 9A reads as one with a wrong checksum
+pub sumsEscaped-fails : Demand2 sumsEscaped → ⊥
+unfolding computed
+sumsEscaped-fails d =
+    let s : List ℕ = reached sumsEscaped (asks [] [] connect ++ says (0x9A ∷ []) [] uploadFirst) in
+    let e : _≡_ {A = ℕ} 5 1 = ap (λ r. outcomeNumber (getD (r .outcomes) 6 Nothing)) (read-back (0x9A ∷ 2 ∷ 1 ∷ 0xFF ∷ 0x9B ∷ 1 ∷ 0x9E ∷ []) s (0xFF ∷ 0x9A ∷ []) refl (d .readsBack s (replicate room 0) refl (lit≤ tt))) in omega arith
+
+-- ---- events
+-- list 0 is sampled, and no packet waits
+pub neverSamples-fails : Demand2 neverSamples → ⊥
+unfolding computed
+neverSamples-fails d =
+    let e : _≡_ {A = ℕ} 0 2 = ap length (d .samples (reached ours (measuring (5 ∷ []))) [] (5 ∷ []) 0 0 0 refl (lit≤ tt) (lit< tt) refl) in omega arith
+
+-- no list runs, and one is said to be sampled
+pub inventsCounts-fails : Demand2 inventsCounts → ⊥
+unfolding computed
+inventsCounts-fails d = let e : _≡_ {A = ℕ} 256 0 = ap eventedValue (d .counts (powered 1) [] [] 0 0 refl (lit≤ tt)) in omega arith
+
+-- ---- slips
+-- refused for want of memory, UPLOAD of 1 moves the MTA from 0 to 1
+pub movesAfterRefusal-fails : Demand1 movesAfterRefusal → ⊥
+unfolding computed
+movesAfterRefusal-fails d =
+    let e : _≡_ {A = ℕ} 1 0 = ap (λ s. getD s (addressAt - sessionAt) 0) (d .refused (reached movesAfterRefusal (uploading [] 1)) [] [] (lastByte (upload 1)) refl (record { answered = refl; begins = refl }) refl .state .back)
+    in omega arith
+
+-- a byte of 5 is sampled, another comes while it is 6, and 6 is sent
+pub readsLate-fails : Demand3 readsLate → ⊥
+unfolding computed rereadEach
+readsLate-fails d =
+    let e : _≡_ {A = ℕ} 6 5 = ap (λ ps. getD (getD ps 1 []) 1 0) (d .sampled (reached ours (measuring (5 ∷ []))) [] (5 ∷ []) 0 0 0 (Byte [] (6 ∷ []) 0 ∷ replicate 16 slot) refl (lit≤ tt) (lit< tt) refl (refl, tt) (lit≤ tt) .1)
+    in omega arith
+
+-- the key to calibration unlocks lists
+pub opensBoth-fails : Demand2 opensBoth → ⊥
+unfolding computed
+opensBoth-fails d =
+    let e : _≡_ {A = ℕ} 1 0 = ap (λ t. cond t 1 0) (d .unlocks (reached opensBoth (askAll [] [] (connect ∷ seedOfCalibration ∷ []) ++ begun [] [] keyOfCalibration)) [] [] (lastByte keyOfCalibration) keyOfCalibration Calibration refl (record { ends = refl; opened = refl; free = refl }) refl refl refl .1)
+    in omega arith

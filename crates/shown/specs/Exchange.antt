@@ -1,0 +1,131 @@
+-- Exchanges on the bench: commands that a slave hears from power-up with start number 1, and the slots that take its answers.
+use Prim.Native.Nat.{ℕ, zero, suc, _-_}
+use mathlib.Core.List.{List, [], _∷_, _++_, map}
+use lib.ListN.{length, getD, take, replicate}
+use Rattle.line.specs.Message.{room, frame}
+use Rattle.session.specs.PowerUp.{powered}
+use Rattle.demands.specs.Slave.{Slave, ours}
+use Rattle.demands.specs.Runs.{Call, Byte, Event, Slot, run}
+
+-- a slot with just the room
+abbrev pub slot : Call
+slot = Slot (replicate room 0)
+
+-- wire bytes, with both memories lent
+abbrev pub bytes : List ℕ → List ℕ → List ℕ → List Call
+bytes cal meas bs = map (λ b. Byte cal meas b) bs
+
+-- command p; and command p and a slot for its answer
+abbrev pub says : List ℕ → List ℕ → List ℕ → List Call
+says cal meas p = bytes cal meas (frame 0 p)
+
+abbrev pub asks : List ℕ → List ℕ → List ℕ → List Call
+asks cal meas p = says cal meas p ++ slot ∷ []
+
+-- commands, each with a slot for its answer
+abbrev pub askAll : List ℕ → List ℕ → List (List ℕ) → List Call
+askAll cal meas [] = []
+askAll cal meas (p ∷ ps) = asks cal meas p ++ askAll cal meas ps
+
+-- command p but for its last byte; that byte
+abbrev pub begun : List ℕ → List ℕ → List ℕ → List Call
+begun cal meas p = bytes cal meas (take (length (frame 0 p) - 1) (frame 0 p))
+
+abbrev pub lastByte : List ℕ → ℕ
+lastByte p = getD (frame 0 p) (length (frame 0 p) - 1) 0
+
+-- the state after calls from power-up
+abbrev pub reached : Slave → List Call → List ℕ
+reached v cs = run v (powered 1) cs
+
+-- ---- commands
+abbrev pub connect : List ℕ
+connect = 0xFF ∷ 0 ∷ []
+
+abbrev pub disconnect : List ℕ
+disconnect = 0xFE ∷ []
+
+abbrev pub synch : List ℕ
+synch = 0xFC ∷ []
+
+abbrev pub seedOfCalibration : List ℕ
+seedOfCalibration = 0xF8 ∷ 0 ∷ 1 ∷ []
+
+abbrev pub seedOfLists : List ℕ
+seedOfLists = 0xF8 ∷ 0 ∷ 4 ∷ []
+
+-- the keys to the first seed
+abbrev pub keyOfCalibration : List ℕ
+keyOfCalibration = 0xF7 ∷ 4 ∷ 0x00 ∷ 0x7F ∷ 0xF0 ∷ 0x04 ∷ []
+
+abbrev pub keyOfLists : List ℕ
+keyOfLists = 0xF7 ∷ 4 ∷ 0x00 ∷ 0x21 ∷ 0xFA ∷ 0x04 ∷ []
+
+-- calibration memory, from the byte whose address has these two low bytes
+abbrev pub mtaTo : ℕ → ℕ → List ℕ
+mtaTo a b = 0xF6 ∷ 0 ∷ 0 ∷ 0 ∷ a ∷ b ∷ 0 ∷ 0 ∷ []
+
+abbrev pub upload : ℕ → List ℕ
+upload n = 0xF5 ∷ n ∷ []
+
+-- SHORT_UPLOAD of the first byte
+abbrev pub uploadFirst : List ℕ
+uploadFirst = 0xF4 ∷ 1 ∷ 0 ∷ 0 ∷ 0 ∷ 0 ∷ 0 ∷ 0 ∷ []
+
+abbrev pub downloadOne : ℕ → List ℕ
+downloadOne b = 0xF0 ∷ 1 ∷ b ∷ []
+
+-- a session with calibration unlocked; one with lists unlocked
+abbrev pub writable : List Call
+writable = askAll [] [] (connect ∷ seedOfCalibration ∷ keyOfCalibration ∷ [])
+
+abbrev pub listable : List Call
+listable = askAll [] [] (connect ∷ seedOfLists ∷ keyOfLists ∷ [])
+
+-- a session up to DOWNLOAD of one byte to the first place, but for its last byte; one up to UPLOAD from there likewise
+abbrev pub downloading : ℕ → List ℕ → List Call
+downloading b cal = writable ++ (asks cal [] (mtaTo 0 0) ++ begun cal [] (downloadOne b))
+
+abbrev pub uploading : List ℕ → ℕ → List Call
+uploading cal n = askAll cal [] (connect ∷ mtaTo 0 0 ∷ []) ++ begun cal [] (upload n)
+
+-- ---- lists: the pointer; an entry of n bytes, the first of the measured values; event 0; a start
+abbrev pub pointTo : ℕ → ℕ → ℕ → List ℕ
+pointTo l odt e = 0xE2 ∷ 0 ∷ l ∷ 0 ∷ odt ∷ e ∷ []
+
+abbrev pub entryOf : ℕ → List ℕ
+entryOf n = 0xE1 ∷ 0xFF ∷ n ∷ 1 ∷ 0 ∷ 0 ∷ 0 ∷ 0 ∷ []
+
+abbrev pub onEvent0 : ℕ → List ℕ
+onEvent0 l = 0xE0 ∷ 0x10 ∷ l ∷ 0 ∷ 0 ∷ 0 ∷ 1 ∷ 0 ∷ []
+
+abbrev pub start : ℕ → List ℕ
+start l = 0xDE ∷ 1 ∷ l ∷ 0 ∷ []
+
+-- list 0 has one byte, in its second ODT, and runs on event 0; the answer to its start waits
+abbrev pub measuring : List ℕ → List Call
+measuring meas = listable ++ (askAll [] meas (pointTo 0 1 0 ∷ entryOf 1 ∷ onEvent0 0 ∷ []) ++ says [] meas (start 0))
+
+-- so has list l; the answer has gone
+abbrev pub listed : ℕ → List Call
+listed l = askAll [] (5 ∷ []) (pointTo l 1 0 ∷ entryOf 1 ∷ onEvent0 l ∷ start l ∷ [])
+
+-- four lists run, each with one byte in its second ODT; a sample of each has gone, that of list 3 last
+abbrev pub four : List Call
+four = listable ++ (listed 0 ++ (listed 1 ++ (listed 2 ++ (listed 3 ++ Event [] (5 ∷ []) 0 0 ∷ replicate 8 slot))))
+
+-- a command and two slots, n times
+abbrev pub turns : ℕ → List Call
+turns zero = []
+turns (suc n) = says [] [] synch ++ slot ∷ slot ∷ turns n
+
+-- fifteen slots, and sixteen
+abbrev pub fifteen : List Call
+fifteen = turns 7 ++ (says [] [] synch ++ slot ∷ [])
+
+abbrev pub sixteen : List Call
+sixteen = turns 8
+
+-- the event comes again, with another byte and clock 1
+abbrev pub sampledAgain : List ℕ → List ℕ
+sampledAgain s = ours .event s [] (6 ∷ []) 0 1 .state

@@ -1,0 +1,154 @@
+-- The bench sheet: its starred cases, each with what the definitions come to and what the sheet says, as bytes.
+use Prim.Native.Nat.{ℕ}
+use mathlib.Core.Path.{_≡_}
+use mathlib.Core.List.{List, [], _∷_, _++_}
+use lib.ListN.{set, replicate}
+use Rattle.line.specs.Message.{frame}
+use Rattle.state.specs.Layout.{ctrAt, addressable}
+use Rattle.state.specs.Bytes.{bytes32}
+use Rattle.state.specs.Generator.{keyOf}
+use Rattle.session.specs.Look.{judgeOf}
+use Rattle.session.specs.Perform.{reply}
+use Rattle.session.specs.PowerUp.{powered}
+use Rattle.words.specs.declared.Resource.the-variants.{Calibration, Lists}
+use Rattle.demands.specs.Slave.{ours}
+use Rattle.demands.specs.Runs.{Call, Event, run, frames}
+use Rattle.demands.specs.Waiting.{packetRead}
+use Rattle.shown.specs.Exchange.{slot, bytes, asks, askAll, begun, reached, connect, synch, seedOfCalibration, seedOfLists, keyOfCalibration, keyOfLists, mtaTo, uploadFirst, writable, listable, pointTo, entryOf, onEvent0, start}
+
+pub record Row : Type 0 where
+  pub number : ℕ
+  pub comesTo : List ℕ
+  pub sheet : List ℕ
+
+abbrev pub row : ℕ → List ℕ → List ℕ → Row
+row n got told = record { number = n; comesTo = got; sheet = told }
+
+-- the last frame that ours sends in a run from state s; the answer in it
+abbrev pub lastIn : List (List ℕ) → List ℕ
+lastIn [] = []
+lastIn (f ∷ []) = f
+lastIn (f ∷ g ∷ fs) = lastIn (g ∷ fs)
+
+abbrev pub sentFrom : List ℕ → List Call → List ℕ
+sentFrom s cs = lastIn (frames ours s cs)
+
+abbrev pub sent : List Call → List ℕ
+sent cs = sentFrom (powered 1) cs
+
+abbrev pub answer : List Call → List ℕ
+answer cs = packetRead (sent cs)
+
+-- DOWNLOAD of n, with six bytes of data
+abbrev pub download : ℕ → List ℕ
+download n = 0xF0 ∷ n ∷ 1 ∷ 2 ∷ 3 ∷ 4 ∷ 5 ∷ 6 ∷ []
+
+-- calibration unlocked and the MTA at an address with these low bytes
+abbrev pub writableAt : ℕ → ℕ → List ℕ
+writableAt a b = reached ours (writable ++ asks [] [] (mtaTo a b))
+
+-- the same, with DOWNLOAD of 6 but for its last byte
+abbrev pub sixBegunAt : ℕ → ℕ → List ℕ
+sixBegunAt a b = run ours (writableAt a b) (begun [] [] (download 6))
+
+-- the answer to DOWNLOAD of 6 with 4,096 bytes lent
+abbrev pub sixAt : ℕ → ℕ → List ℕ
+sixAt a b = reply (judgeOf (download 6) (writableAt a b) addressable 0) (writableAt a b) [] []
+
+-- the start of list 0, whose ODT 0 has an entry of 4 bytes and one of n
+abbrev pub startWith : ℕ → List Call
+startWith n = listable ++ askAll [] (replicate 4 0) (pointTo 0 0 0 ∷ entryOf 4 ∷ entryOf n ∷ onEvent0 0 ∷ start 0 ∷ [])
+
+-- list 1 with two bytes runs, and nine frames have gone
+abbrev pub weighing : List Call
+weighing = listable ++ askAll [] (0x64 ∷ 0x00 ∷ []) (pointTo 1 0 0 ∷ entryOf 2 ∷ onEvent0 1 ∷ start 1 ∷ synch ∷ synch ∷ [])
+
+-- CONNECT and its answer
+abbrev pub connectFrame : ℕ → Row
+connectFrame number = row number (frame 0 connect) (0x9A ∷ 0x02 ∷ 0x00 ∷ 0xFF ∷ 0x00 ∷ 0x01 ∷ [])
+
+abbrev pub connectAnswer : ℕ → Row
+connectAnswer number = row number (sent (asks [] [] connect)) (0x9A ∷ 0x08 ∷ 0x00 ∷ 0xFF ∷ 0x05 ∷ 0x00 ∷ 0x08 ∷ 0x08 ∷ 0x00 ∷ 0x01 ∷ 0x01 ∷ 0x1E ∷ [])
+
+-- SYNCH at CTR 1 and its answer
+abbrev pub synchFrame : ℕ → Row
+synchFrame number = row number (frame 1 synch) (0x9A ∷ 0x01 ∷ 0x01 ∷ 0xFC ∷ 0xFE ∷ [])
+
+abbrev pub synchAnswer : ℕ → Row
+synchAnswer number = row number (sent (asks [] [] connect ++ (bytes [] [] (frame 1 synch) ++ slot ∷ []))) (0x9A ∷ 0x02 ∷ 0x01 ∷ 0xFE ∷ 0x00 ∷ 0x01 ∷ [])
+
+-- the packet FF 9A at CTR 2: SHORT_UPLOAD of a byte 9A
+abbrev pub escapedPacket : ℕ → Row
+escapedPacket number = row number (sent (askAll (0x9A ∷ []) [] (connect ∷ synch ∷ uploadFirst ∷ []))) (0x9A ∷ 0x02 ∷ 0x02 ∷ 0xFF ∷ 0x9B ∷ 0x01 ∷ 0x9D ∷ [])
+
+-- the packet FF at CTR 9A: SET_MTA in a session with that CTR
+abbrev pub escapedCtr : ℕ → Row
+escapedCtr number = row number (sentFrom (set (reached ours (asks [] [] connect)) ctrAt 0x9A) (asks [] [] (mtaTo 0 0))) (0x9A ∷ 0x01 ∷ 0x9B ∷ 0x01 ∷ 0xFF ∷ 0x9B ∷ 0x01 ∷ [])
+
+-- start 1: the seed 0x00042021; its key to calibration, and the lock that is left
+abbrev pub seedGiven : ℕ → Row
+seedGiven number = row number (answer (askAll [] [] (connect ∷ seedOfCalibration ∷ []))) (0xFF ∷ 0x04 ∷ 0x21 ∷ 0x20 ∷ 0x04 ∷ 0x00 ∷ [])
+
+abbrev pub calibrationKey : ℕ → Row
+calibrationKey number = row number (bytes32 (keyOf Calibration 0x00042021)) (0x00 ∷ 0x7F ∷ 0xF0 ∷ 0x04 ∷ [])
+
+abbrev pub calibrationOpens : ℕ → Row
+calibrationOpens number = row number (answer (askAll [] [] (connect ∷ seedOfCalibration ∷ keyOfCalibration ∷ []))) (0xFF ∷ 0x04 ∷ [])
+
+-- the same seed's key to lists, 0x04FA2100, and the lock that is left
+abbrev pub listsKey : ℕ → Row
+listsKey number = row number (bytes32 (keyOf Lists 0x00042021)) (0x00 ∷ 0x21 ∷ 0xFA ∷ 0x04 ∷ [])
+
+abbrev pub listsOpen : ℕ → Row
+listsOpen number = row number (answer (askAll [] [] (connect ∷ seedOfLists ∷ keyOfLists ∷ []))) (0xFF ∷ 0x01 ∷ [])
+
+-- list 1, clock 0x1234, bytes 64 00, CTR 9
+abbrev pub weightSent : ℕ → Row
+weightSent number = row number (sent (weighing ++ Event [] (0x64 ∷ 0x00 ∷ []) 0 0x1234 ∷ slot ∷ [])) (0x9A ∷ 0x05 ∷ 0x09 ∷ 0x02 ∷ 0x34 ∷ 0x12 ∷ 0x64 ∷ 0x00 ∷ 0xBA ∷ [])
+
+-- DOWNLOAD of 6 at 4,090 and at 4,091
+abbrev pub sixDone : ℕ → Row
+sixDone number = row number (sixAt 0xFA 0x0F) (0xFF ∷ [])
+
+abbrev pub sixRefused : ℕ → Row
+sixRefused number = row number (sixAt 0xFB 0x0F) (0xFE ∷ 0x24 ∷ [])
+
+-- DOWNLOAD of 7
+abbrev pub sevenRefused : ℕ → Row
+sevenRefused number = row number (answer (writable ++ askAll [] [] (mtaTo 0 0 ∷ download 7 ∷ []))) (0xFE ∷ 0x22 ∷ [])
+
+-- ODT 0 of 5 bytes and of 6
+abbrev pub fiveStarts : ℕ → Row
+fiveStarts number = row number (answer (startWith 1)) (0xFF ∷ 0x00 ∷ [])
+
+abbrev pub sixStarts : ℕ → Row
+sixStarts number = row number (answer (startWith 2)) (0xFE ∷ 0x2A ∷ [])
+
+abbrev pub table : List Row
+table =
+    connectFrame 1
+    ∷ connectAnswer 1
+    ∷ synchFrame 2
+    ∷ synchAnswer 2
+    ∷ escapedPacket 3
+    ∷ escapedCtr 4
+    ∷ seedGiven 5
+    ∷ calibrationKey 5
+    ∷ calibrationOpens 5
+    ∷ listsKey 6
+    ∷ listsOpen 6
+    ∷ weightSent 7
+    ∷ sixDone 8
+    ∷ sixRefused 8
+    ∷ sevenRefused 9
+    ∷ fiveStarts 10
+    ∷ sixStarts 10
+    ∷ []
+
+-- a row comes to what the sheet says, and every row does
+abbrev pub Comes : Row → Type 0
+Comes r = r .comesTo ≡ r .sheet
+
+abbrev pub Holds : List Row → Type 0
+Holds [] = Unit {0}
+Holds (r ∷ rs) = Comes r × Holds rs

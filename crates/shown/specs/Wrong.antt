@@ -1,0 +1,168 @@
+-- Wrong slaves, to be shut out by name: each is ours but for one thing.
+use Prim.Native.Nat.{ℕ, zero, suc, _+_, _%_}
+use mathlib.Core.Bool.{cond}
+use mathlib.Core.Option.{Option, none, some}
+use mathlib.Core.List.{List, [], _∷_, _++_}
+use lib.Dec.{eqb, ltb}
+use lib.ListN.{length, getD, set, take, drop}
+use Rattle.line.specs.Stuffing.{stuff, onWire}
+use Rattle.line.specs.Message.{sum}
+use Rattle.line.specs.Writer.{atFront}
+use Rattle.line.specs.Number.{outcomeNumber}
+use Rattle.state.specs.Layout.{lists, calibrationAt, listsAt, firstOdt, entryCount}
+use Rattle.state.specs.State.{consistent, ctrOf, maskOf, mtaOf, setMta, waits, answered}
+use Rattle.lists.specs.Lists.{storedLength}
+use Rattle.session.specs.Receive.{Step, only, obeyed, heeded, fedOf, receiveOf}
+use Rattle.lists.specs.Event.{Happened, gathered, stored, eventOf}
+use Rattle.lists.specs.Slot.{Slot, turnOf, slotOf}
+use Rattle.words.specs.Number.{slottedValue}
+use Rattle.session.specs.PowerUp.{powerUpOf}
+use Rattle.judge.specs.declared.Deed.the-variants.{Refuse}
+use Rattle.words.specs.declared.Reason.the-variants.{Unknown}
+use Rattle.words.specs.declared.Mta.{Mta}
+use Rattle.words.specs.declared.Mta.the-variants.{Unset, At}
+use Rattle.words.specs.declared.Received.the-variants.{Silent}
+use Rattle.words.specs.declared.Evented.{Evented}
+use Rattle.words.specs.declared.Evented.the-variants.{Done, BadEvent, NoState as EventNoState}
+use Rattle.words.specs.declared.Slotted.{Slotted}
+use Rattle.words.specs.declared.Slotted.the-variants.{Idle, Sent, NoRoom, NoState as SlotNoState}
+use Rattle.demands.specs.Slave.{Slave}
+use Rattle.demands.specs.Heard.{packetEnded, readBy}
+use Rattle.demands.specs.Waiting.{packetFor, packetInside}
+
+-- ---- ours, but for one call
+abbrev pub receiving : (List ℕ → List ℕ → List ℕ → ℕ → Step) → Slave
+receiving receive = record { powerUp = powerUpOf; receive = receive; event = eventOf; slot = slotOf }
+
+abbrev pub happening : (List ℕ → List ℕ → List ℕ → ℕ → ℕ → Happened) → Slave
+happening event = record { powerUp = powerUpOf; receive = receiveOf; event = event; slot = slotOf }
+
+abbrev pub sending : (List ℕ → List ℕ → Slot) → Slave
+sending slot = record { powerUp = powerUpOf; receive = receiveOf; event = eventOf; slot = slot }
+
+-- ---- ours, but for what a good message with packet p leads to once it is read, with no answer waiting
+abbrev pub Heed : Type 0
+Heed = List ℕ → List ℕ → List ℕ → List ℕ → Step
+
+abbrev pub heardBy : Heed → Option (List ℕ) → List ℕ → List ℕ → List ℕ → ℕ → Step
+heardBy heed none s cal meas b = receiveOf s cal meas b
+heardBy heed (some p) s cal meas b = cond (waits s) (receiveOf s cal meas b) (heed p (readBy s b) cal meas)
+
+abbrev pub heeding : Heed → Slave
+heeding heed = receiving (λ s cal meas b. cond (consistent s) (heardBy heed (packetEnded s b) s cal meas b) (receiveOf s cal meas b))
+
+-- every command is refused, CONNECT too
+abbrev pub refusesAlways : Slave
+refusesAlways = heeding (λ p s cal meas. obeyed (Refuse Unknown) p s cal meas)
+
+-- no command is answered: it changes the reader's place alone
+abbrev pub silent : Slave
+silent = heeding (λ p s cal meas. only Silent s cal)
+
+-- what is done is ours, and each answer is FF alone
+abbrev pub withFF : Step → Step
+withFF o = record { received = o .received; state = cond (waits (o .state)) (answered (o .state) (0xFF ∷ [])) (o .state); cal = o .cal }
+
+abbrev pub alwaysFF : Slave
+alwaysFF = heeding (λ p s cal meas. withFF (heeded p s cal meas))
+
+-- answers are ours, and the calibration memory stays
+abbrev pub unstored : Step → List ℕ → Step
+unstored o cal = record { received = o .received; state = o .state; cal = cal }
+
+abbrev pub storesNothing : Slave
+storesNothing = heeding (λ p s cal meas. unstored (heeded p s cal meas) cal)
+
+-- the packet of a message that has just ended, with a right checksum or not
+abbrev pub packetAnyway : List ℕ → ℕ → Option (List ℕ)
+packetAnyway s b = cond (eqb (outcomeNumber (fedOf s b .taken .outcome)) 5) (some (packetInside (fedOf s b .message))) (packetEnded s b)
+
+-- a message whose checksum is wrong is obeyed too
+abbrev pub obeysDamaged : Slave
+obeysDamaged = receiving (λ s cal meas b. cond (consistent s) (heardBy heeded (packetAnyway s b) s cal meas b) (receiveOf s cal meas b))
+
+-- ---- slots
+-- a frame is followed at once by what `rest` sends into the bytes after it
+abbrev pub followed : Slotted → Slot → (List ℕ → List ℕ → Slot) → Slot
+followed Idle o rest = o
+followed (Sent n) o rest =
+    record {
+      slotted = Sent (n + slottedValue (rest (o .state) (drop n (o .out)) .slotted));
+      state = rest (o .state) (drop n (o .out)) .state;
+      out = take n (o .out) ++ rest (o .state) (drop n (o .out)) .out;
+    }
+followed NoRoom o rest = o
+followed SlotNoState o rest = o
+
+unfoldable pub upTo : ℕ → List ℕ → List ℕ → Slot
+upTo zero s out = slotOf s out
+upTo (suc n) s out = followed (slotOf s out .slotted) (slotOf s out) (upTo n)
+
+-- a slot sends all that waits, an answer and two packets of each list, as far as there is room
+abbrev pub allAtOnce : Slave
+allAtOnce = sending (upTo 8)
+
+-- a checksum taken over escaped bytes
+abbrev pub escapedSum : List ℕ → List ℕ
+escapedSum bs = bs ++ (sum (stuff bs) % 256) ∷ []
+
+abbrev pub summed : ℕ → List ℕ → List ℕ
+summed ctr p = onWire (escapedSum (length p ∷ ctr ∷ p))
+
+-- the packet whose turn it was stands in such a frame
+abbrev pub inFrames : Slotted → List (List ℕ) → Slot → ℕ → List ℕ → Slot
+inFrames Idle ps o ctr out = o
+inFrames (Sent n) [] o ctr out = o
+inFrames (Sent n) (p ∷ ps) o ctr out = record { slotted = Sent (length (summed ctr p)); state = o .state; out = atFront (summed ctr p) out }
+inFrames NoRoom ps o ctr out = o
+inFrames SlotNoState ps o ctr out = o
+
+abbrev pub sumsEscaped : Slave
+sumsEscaped = sending (λ s out. inFrames (slotOf s out .slotted) (packetFor (turnOf s) s) (slotOf s out) (ctrOf s) out)
+
+-- ---- events
+-- counts are ours, and nothing is sampled
+abbrev pub neverSamples : Slave
+neverSamples = happening (λ s cal meas event clock. record { evented = eventOf s cal meas event clock .evented; state = s })
+
+-- samples are ours; a done event counts one sampled list more
+abbrev pub oneSampledMore : Evented → Evented
+oneSampledMore (Done sampled missed) = Done (suc sampled) missed
+oneSampledMore BadEvent = BadEvent
+oneSampledMore EventNoState = EventNoState
+
+abbrev pub inventsCounts : Slave
+inventsCounts = happening (λ s cal meas event clock. record { evented = oneSampledMore (eventOf s cal meas event clock .evented); state = eventOf s cal meas event clock .state })
+
+-- ---- slips
+-- the MTA moves on by n bytes
+abbrev pub movedOn : Mta → ℕ → List ℕ → List ℕ
+movedOn Unset n s = s
+movedOn (At e a) n s = setMta s (At e (a + n))
+
+abbrev pub moved : Step → Mta → ℕ → Step
+moved o mta n = record { received = o .received; state = movedOn mta n (o .state); cal = o .cal }
+
+-- the MTA moves after UPLOAD, refused or not
+abbrev pub movesAfterRefusal : Slave
+movesAfterRefusal = heeding (λ p s cal meas. cond (eqb (getD p 0 0) 0xF5) (moved (heeded p s cal meas) (mtaOf s) (getD p 1 0)) (heeded p s cal meas))
+
+-- where a packet of ODT 1 waits, its bytes are taken from the memories lent now
+abbrev pub reread : List ℕ → ℕ → List ℕ → List ℕ → List ℕ
+reread s k cal meas = cond (ltb 0 (storedLength s k)) (stored s k (gathered s k cal meas (entryCount k))) s
+
+unfoldable pub rereadEach : List ℕ → List ℕ → List ℕ → ℕ → List ℕ
+rereadEach s cal meas zero = s
+rereadEach s cal meas (suc n) = reread (rereadEach s cal meas n) (firstOdt n + 1) cal meas
+
+-- a sample's second ODT is read again at each byte until it is sent
+abbrev pub readsLate : Slave
+readsLate = receiving (λ s cal meas b. cond (consistent s) (receiveOf (rereadEach s cal meas lists) cal meas b) (receiveOf s cal meas b))
+
+-- once a lock has opened, both are open
+abbrev pub bothOpen : List ℕ → Step → Step
+bothOpen s o = record { received = o .received; state = cond (ltb (maskOf (o .state)) (maskOf s)) (set (set (o .state) calibrationAt 1) listsAt 1) (o .state); cal = o .cal }
+
+-- a key opens both locks
+abbrev pub opensBoth : Slave
+opensBoth = heeding (λ p s cal meas. bothOpen s (heeded p s cal meas))

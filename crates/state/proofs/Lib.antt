@@ -1,0 +1,7 @@
+-- Laws that the functions' proofs cite.
+pub mod Sets
+pub mod Sums
+pub mod Rotated
+pub mod Inside
+pub mod Pointers
+pub mod Consistent

@@ -1,0 +1,227 @@
+// Where everything lies in the lent state. docs/STATE.md says how each value reads.
+ghost use mathlib.Core.Path.{_≡_};
+ghost use Rattle.state.specs.Layout.{modeAt, selectedAt, runningAt, entriesAt, entryAt, sampleAt, firstOdt, listOf, isFirst, odtMost};
+
+// Four lists, each of two ODTs of four entries.
+pub const LISTS: u8 = 4;
+
+pub const ODTS: u8 = 2;
+
+pub const ENTRIES: u8 = 4;
+
+pub const EVENTS: u8 = 2;
+
+pub const LAST_LIST: u8 = LISTS - 1;
+
+pub const LAST_ENTRY: u8 = ENTRIES - 1;
+
+// In all.
+pub const ALL_ODTS: u8 = LISTS * ODTS;
+
+// The same, in the widths of a packet's numbers and of an event's.
+pub const LISTS_U16: u16 = LISTS as u16;
+
+pub const EVENTS_U16: u16 = EVENTS as u16;
+
+pub const EVENTS_U32: u32 = EVENTS as u32;
+
+// Most bytes of a packet, and of a sample in store, which is without its ODT's number.
+pub const PACKET_MOST: u8 = line::MOST as u8;
+
+pub const STORED_MOST: u8 = PACKET_MOST - 1;
+
+// The clock before the bytes of a list's first ODT.
+pub const CLOCK_SIZE: u8 = 2;
+
+// Most bytes of an entry.
+pub const ENTRY_MOST: u8 = 4;
+
+// Most bytes of an UPLOAD, after FF, and of a DOWNLOAD, after its code and count.
+pub const UPLOAD_MOST: u8 = PACKET_MOST - 1;
+
+pub const DOWNLOAD_MOST: u8 = PACKET_MOST - 2;
+
+// The first 4,096 bytes of a memory at most can be addressed.
+pub const ADDRESSABLE: usize = 4096;
+
+pub const CHECKSUM_MOST: u32 = ADDRESSABLE as u32;
+
+// The room that the line asks for a frame.
+pub const ROOM: usize = line::ROOM;
+
+// The mark that power-up writes; it changes with every layout.
+pub const MARK: u32 = 0x3250_4358;
+
+pub const MARK_AT: usize = 0;
+
+// What runs on across sessions.
+pub const GENERATOR: usize = MARK_AT + 4;
+
+pub const CTR: usize = GENERATOR + 4;
+
+pub const SERVED: usize = CTR + 1;
+
+// Whether the last frame was an answer.
+pub const LAST: usize = SERVED + 1;
+
+// The reader's place with its message buffer, and the waiting answer: before the tables, side by side.
+pub const PLACE: usize = LAST + 1;
+
+pub const COUNT: usize = PLACE + 1;
+
+pub const MESSAGE: usize = COUNT + 1;
+
+pub const PACKET: usize = MESSAGE + 2;
+
+// Its bytes after the code.
+pub const PACKET_1: usize = PACKET + 1;
+
+pub const PACKET_2: usize = PACKET + 2;
+
+pub const PACKET_3: usize = PACKET + 3;
+
+pub const PACKET_4: usize = PACKET + 4;
+
+pub const PACKET_5: usize = PACKET + 5;
+
+pub const PACKET_6: usize = PACKET + 6;
+
+pub const PACKET_7: usize = PACKET + 7;
+
+// The waiting answer: its length, and its bytes.
+pub const ANSWER: usize = MESSAGE + line::LONGEST;
+
+pub const ANSWER_BYTES: usize = ANSWER + 1;
+
+// Its bytes after the first.
+pub const ANSWER_1: usize = ANSWER_BYTES + 1;
+
+pub const ANSWER_2: usize = ANSWER_BYTES + 2;
+
+pub const ANSWER_3: usize = ANSWER_BYTES + 3;
+
+pub const ANSWER_4: usize = ANSWER_BYTES + 4;
+
+pub const ANSWER_5: usize = ANSWER_BYTES + 5;
+
+pub const ANSWER_6: usize = ANSWER_BYTES + 6;
+
+pub const ANSWER_7: usize = ANSWER_BYTES + 7;
+
+// The session's own bytes, up to the end; written 0 when it closes.
+pub const SESSION: usize = ANSWER_BYTES + line::MOST;
+
+pub const OPEN: usize = SESSION;
+
+pub const CALIBRATION: usize = OPEN + 1;
+
+pub const LISTS_LOCK: usize = CALIBRATION + 1;
+
+pub const SEED: usize = LISTS_LOCK + 1;
+
+pub const MTA: usize = SEED + 1;
+
+pub const ADDRESS: usize = MTA + 1;
+
+// The list pointer: its ODT, and its entry.
+pub const POINTER: usize = ADDRESS + 4;
+
+pub const POINTER_ENTRY: usize = POINTER + 1;
+
+// Of each list: mode, selected, running.
+pub const MODE: usize = POINTER_ENTRY + 1;
+
+pub const LIST_SIZE: usize = 3;
+
+// Of each ODT: its entries, of size, extension and address.
+pub const ENTRY: usize = MODE + LIST_SIZE * LISTS as usize;
+
+pub const ENTRY_SIZE: usize = 4;
+
+pub const ODT_SIZE: usize = ENTRIES as usize * ENTRY_SIZE;
+
+pub const LIST_ENTRIES_SIZE: usize = ODTS as usize * ODT_SIZE;
+
+// Of each ODT: the length of its waiting packet without the number, and its bytes.
+pub const SAMPLE: usize = ENTRY + ODT_SIZE * ALL_ODTS as usize;
+
+pub const SAMPLE_SIZE: usize = 1 + STORED_MOST as usize;
+
+pub const STATE: usize = SAMPLE + SAMPLE_SIZE * ALL_ODTS as usize;
+
+pub const SESSION_SIZE: usize = STATE - SESSION;
+
+// Places are reckoned in 32 bits: a small processor has no product of 64.
+
+// ---- a list's bytes
+
+pub fn mode_at(l: u16) -> usize
+    ensures { λ r. ⌜ r ≡ modeAt l ⌝ }
+{
+    MODE + (LIST_SIZE as u32 * l as u32) as usize
+}
+
+pub fn selected_at(l: u16) -> usize
+    ensures { λ r. ⌜ r ≡ selectedAt l ⌝ }
+{
+    mode_at(l) + 1
+}
+
+pub fn running_at(l: u16) -> usize
+    ensures { λ r. ⌜ r ≡ runningAt l ⌝ }
+{
+    mode_at(l) + 2
+}
+
+// ---- storage by the ODT's absolute number; a table of allocations would stand here
+
+// A list's first ODT.
+pub fn first_odt(l: u8) -> u16
+    ensures { λ r. ⌜ r ≡ firstOdt l ⌝ }
+{
+    ODTS as u16 * l as u16
+}
+
+// An ODT's list.
+pub fn list_of(k: u16) -> u16
+    ensures { λ r. ⌜ r ≡ listOf k ⌝ }
+{
+    k / ODTS as u16
+}
+
+// Whether an ODT is its list's first.
+pub fn is_first(k: u16) -> bool
+    ensures { λ r. ⌜ r ≡ isFirst k ⌝ }
+{
+    ODTS as u16 * list_of(k) == k
+}
+
+// Most bytes of an ODT in a packet.
+pub fn odt_most(k: u16) -> u8
+    ensures { λ r. ⌜ r ≡ odtMost k ⌝ }
+{
+    if is_first(k) {
+        return STORED_MOST - CLOCK_SIZE;
+    }
+    STORED_MOST
+}
+
+// An ODT's entries, and one of them.
+pub fn entries_at(k: u16) -> usize
+    ensures { λ r. ⌜ r ≡ entriesAt k ⌝ }
+{
+    ENTRY + (ODT_SIZE as u32 * k as u32) as usize
+}
+
+pub fn entry_at(k: u16, e: u8) -> usize
+    ensures { λ r. ⌜ r ≡ entryAt k e ⌝ }
+{
+    entries_at(k) + (ENTRY_SIZE as u32 * e as u32) as usize
+}
+
+// An ODT's waiting packet.
+pub fn sample_at(k: u16) -> usize
+    ensures { λ r. ⌜ r ≡ sampleAt k ⌝ }
+{
+    SAMPLE + (SAMPLE_SIZE as u32 * k as u32) as usize
+}
