@@ -1,10 +1,9 @@
 // What the command in the message buffer leads to. Of packet and state each command's checks look at what they need, and at no more.
 ghost use mathlib.Core.Path.{_≡_};
-ghost use Prim.Native.Nat.{_+_, _≤_};
+ghost use Prim.Native.Nat.{_≤_};
 ghost use lib.ListN.{length};
-ghost use Rattle.words.specs.Command.{commandOf};
 ghost use Rattle.state.specs.Layout.{packetMost, packetAt, size, lists};
-ghost use Rattle.state.specs.Bytes.{block, u16At, u32At};
+ghost use Rattle.state.specs.Bytes.{block};
 ghost use Rattle.state.specs.State.{generatorOf, seedOf, pointerOf};
 ghost use Rattle.lists.specs.Lists.{allFit};
 ghost use Rattle.judge.specs.Judge.{unlockBy, clearDeed, modeDeed, startStopDeed, synchDeed, writeDeed, judgeThe, lockedBy, judgeBy};
