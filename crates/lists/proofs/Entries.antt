@@ -9,9 +9,9 @@ use lib.Dec.{ltb}
 use lib.ListN.{getD, set}
 use lib.Seq.{sets, getD-set-other}
 use Rattle.line.proofs.Laws.{cond-ind}
-use Rattle.state.specs.Bytes.{u16At}
+use Rattle.state.specs.Bytes.{u16At, put32, cleared}
 use Rattle.state.specs.State.{flagOf}
-use Rattle.state.specs.Layout.{entryMost, entryAt, sampleAt, entries, allOdts}
+use Rattle.state.specs.Layout.{entryMost, entrySize, entryAt, sampleAt, entries, allOdts}
 use Rattle.lists.specs.Lists.{sizeOf, extensionOf, addressOf, bytesOfFirst, odtBytes}
 use Rattle.lists.specs.Event.{entryBytes, gathered, contentsOf}
 
@@ -71,3 +71,12 @@ first-most s k e h =
     grows : (d : ℕ) → bytesOfFirst s k (suc e) ≤ bytesOfFirst s k (suc e + d)
     grows zero = rw add-zero (omega arith)
     grows (suc d) = rw add-suc (omega (arith, grows d))
+
+-- an entry of zeros is one number 0
+pub entry-cleared : (s : List ℕ) (at : ℕ) → put32 s at 0 ≡ cleared s at entrySize
+unfolding put32 cleared
+entry-cleared s at =
+    let one : at + 1 ≡ suc at = omega arith in
+    let two : at + 2 ≡ suc (suc at) = omega arith in
+    let three : at + 3 ≡ suc (suc (suc at)) = omega arith in
+    rw (one, two, three)

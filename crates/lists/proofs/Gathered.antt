@@ -7,14 +7,14 @@ use native.Mathlib.Nat.{add-zero, add-suc, suc-add}
 use native.Mathlib.Numerals.{add-one}
 use native.Mathlib.Omega.{arith}
 use lib.ListN.{length, set, length-append}
-use lib.Seq.{sets}
+use lib.Seq.{sets, set-comm}
 use Rattle.line.proofs.Laws.{sets-append}
 use Rattle.state.specs.Bytes.{put16}
 use Rattle.state.specs.Layout.{entries, isFirst, odtMost, sampleAt, allOdts, entryMost, clockSize, storedMost}
 use Rattle.state.specs.Memory.{pick, byteOf, bytesOf}
 use Rattle.lists.specs.Lists.{sizeOf, extensionOf, addressOf, bytesOfFirst, odtBytes}
-use Rattle.lists.specs.Event.{entryBytes, gathered, contentsOf, stored, capturedOdts}
-use Rattle.lists.proofs.Entries.{Alike, sets-alike, size-most, entry-alike, gathered-alike}
+use Rattle.lists.specs.Event.{entryBytes, gathered, leadOf, contentsOf, stored, capturedOdts}
+use Rattle.lists.proofs.Entries.{Alike, sets-alike, size-most, entry-alike, gathered-alike, bytes-alike}
 
 pub bytes-next : (mem : List ℕ) (a n : ℕ) → bytesOf mem a (suc n) ≡ bytesOf mem a n ++ byteOf mem (a + n) ∷ []
 unfolding bytesOf
@@ -26,10 +26,15 @@ unfolding bytesOf
 bytes-length mem a zero = refl
 bytes-length mem a (suc n) = ap suc (bytes-length mem (suc a) n)
 
--- a byte and a number after it
-put16-sets : (s : List ℕ) (i a x : ℕ) → put16 (set s i a) (i + 1) x ≡ sets s i (a ∷ x % 256 ∷ x / 256 % 256 ∷ [])
+-- a clock
+pub put16-sets : (s : List ℕ) (i x : ℕ) → put16 s i x ≡ sets s i (x % 256 ∷ x / 256 % 256 ∷ [])
 unfolding put16
-put16-sets s i a x = simp add-one
+put16-sets s i x = simp add-one
+
+-- a byte stored before others
+under : (xs l : List ℕ) (i j a : ℕ) → j < i → set (sets l i xs) j a ≡ sets (set l j a) i xs
+under [] l i j a h = refl
+under (x ∷ xs) l i j a h = under xs (set l i x) (suc i) j a (omega arith) ∙ ap (λ (m : List ℕ). sets m (suc i) xs) (set-comm l i j x a (λ e. omega arith))
 
 module _ (s : List ℕ) (k : ℕ) (cal meas : List ℕ) where
   entry-length : (e : ℕ) → length (entryBytes s k e cal meas) ≡ sizeOf s k e
@@ -64,27 +69,28 @@ module _ (s : List ℕ) (k : ℕ) (cal meas : List ℕ) where
     pub gathered-after : (xs : List ℕ) → sets (sets s at xs) (at + length xs) (gathered (sets s at xs) k cal meas entries) ≡ sets s at (xs ++ gathered s k cal meas entries)
     gathered-after xs = rw (gathered-alike (sets s at xs) s (sets-alike xs s at past) k odt cal meas entries (omega arith)) (sets-append xs (gathered s k cal meas entries) s at)
 
--- a byte and a clock stored before them change no entry
-pub clock-alike : (s : List ℕ) (at a x : ℕ) → sampleAt 0 ≤ at → Alike (put16 (set s at a) (at + 1) x) s
-clock-alike s at a x past = rw (put16-sets s at a x) (sets-alike (a ∷ x % 256 ∷ x / 256 % 256 ∷ []) s at past)
+-- an ODT's packet: its bytes, and then its length before them
+pub lead-most : (k clock : ℕ) → length (leadOf k clock) + odtMost k ≤ storedMost
+lead-most k clock = by (isFirst k) where
+  by : (first : Bool) → length (cond first (clock % 256 ∷ clock / 256 % 256 ∷ []) []) + cond first (storedMost - clockSize) storedMost ≤ storedMost
+  by true = omega arith
+  by false = omega arith
 
-module _ (s : List ℕ) (k clock : ℕ) (cal meas : List ℕ) (odt : k < allOdts) (at : ℕ) (place : at ≡ sampleAt k) (n : ℕ) (bytes : n ≡ odtBytes s k) where
-  pub stored-later : isFirst k ≡ false → sets (set s at n) (at + 1) (gathered (set s at n) k cal meas entries) ≡ stored s k (contentsOf s k clock cal meas)
-  unfolding stored contentsOf
-  stored-later later =
-      gathered-after s k cal meas odt at (omega arith) (n ∷ [])
-      ∙ rw (place, bytes ∙ sym (gathered-odt s k cal meas), later)
+module _ (s : List ℕ) (k clock : ℕ) (cal meas : List ℕ) (odt : k < allOdts) (at : ℕ) (place : at ≡ sampleAt k) where
+  -- which changes no entry
+  pub lead-bytes : (t : List ℕ) → t ≡ sets s (at + 1) (leadOf k clock) → odtBytes t k ≡ odtBytes s k
+  lead-bytes t e = rw e (bytes-alike (sets s (at + 1) (leadOf k clock)) s (sets-alike (leadOf k clock) s (at + 1) (omega arith)) k odt)
 
-  pub stored-first : isFirst k ≡ true
-      → sets (put16 (set s at (n + clockSize)) (at + 1) clock) (at + 1 + clockSize) (gathered (put16 (set s at (n + clockSize)) (at + 1) clock) k cal meas entries)
+  pub stored-whole : (n : ℕ) → n ≡ length (leadOf k clock) + odtBytes s k
+      → set (sets (sets s (at + 1) (leadOf k clock)) (at + 1 + length (leadOf k clock)) (gathered (sets s (at + 1) (leadOf k clock)) k cal meas entries)) at n
       ≡ stored s k (contentsOf s k clock cal meas)
   unfolding stored contentsOf
-  stored-first first =
-      let m : n + clockSize ≡ length (clock % 256 ∷ clock / 256 % 256 ∷ gathered s k cal meas entries) = omega (arith, gathered-odt s k cal meas) in
-      let there : at + 1 + clockSize ≡ at + 3 = omega arith in
-      rw (first, there, put16-sets s at (n + clockSize) clock)
-      (gathered-after s k cal meas odt at (omega arith) ((n + clockSize) ∷ clock % 256 ∷ clock / 256 % 256 ∷ [])
-      ∙ rw (place, m))
+  stored-whole n e =
+      let bs : List ℕ = leadOf k clock ++ gathered s k cal meas entries in
+      let m : length bs ≡ n = length-append (leadOf k clock) (gathered s k cal meas entries) ∙ ap (λ (j : ℕ). length (leadOf k clock) + j) (gathered-odt s k cal meas) ∙ sym e in
+      ap (λ (t : List ℕ). set t at n) (gathered-after s k cal meas odt (at + 1) (omega arith) (leadOf k clock))
+      ∙ under bs s (at + 1) at n (omega arith)
+      ∙ rw (add-one, m, place)
 
 -- packets in store change no entry
 pub captured-alike : (s : List ℕ) (k clock : ℕ) (cal meas : List ℕ) (n : ℕ) → Alike (capturedOdts s k clock cal meas n) s

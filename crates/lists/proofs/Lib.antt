@@ -1,4 +1,5 @@
 -- Laws that the functions' proofs cite.
+pub mod Named
 pub mod Counting
 pub mod Fitting
 pub mod Entries

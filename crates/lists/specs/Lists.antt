@@ -3,8 +3,8 @@ use Prim.Native.Nat.{ℕ, zero, suc, _+_, _*_, _%_}
 use mathlib.Core.Bool.{Bool, true, false, cond}
 use mathlib.Core.List.{List}
 use lib.Dec.{eqb, leb, ltb}
-use lib.ListN.{getD, set}
-use Rattle.state.specs.Layout.{events, storedMost, clockSize, entryMost, listSize, modeAt, selectedAt, runningAt, entrySize, odtSize, entriesAt, entryAt, sampleAt, firstOdt, odtCount, isFirst, odtMost, entryCount}
+use lib.ListN.{length, getD, set}
+use Rattle.state.specs.Layout.{lists, size, events, storedMost, clockSize, entryMost, listSize, modeAt, selectedAt, runningAt, entrySize, odtSize, entriesAt, entryAt, sampleAt, firstOdt, odtCount, isFirst, odtMost, entryCount}
 use Rattle.state.specs.Bytes.{u16At, put16, cleared}
 use Rattle.state.specs.State.{flagOf, openOf}
 use Rattle.words.specs.declared.Extension.{Extension}
@@ -70,6 +70,25 @@ mayStart s l = cond (selectedOf s l) (fitOf s l) true
 unfoldable pub allFit : List ℕ → ℕ → Bool
 allFit s zero = true
 allFit s (suc n) = cond (allFit s n) (mayStart s n) false
+
+-- ---- what a command asks of the lists: in a state of another size there is none, and a list that there is not does nothing
+abbrev pub isState : List ℕ → Bool
+isState s = eqb (length s) size
+
+abbrev pub isList : List ℕ → ℕ → Bool
+isList s l = cond (isState s) (ltb l lists) false
+
+abbrev pub runsNamed : List ℕ → ℕ → Bool
+runsNamed s l = cond (isList s l) (runsOf s l) false
+
+abbrev pub fitsNamed : List ℕ → ℕ → Bool
+fitsNamed s l = cond (isList s l) (fitOf s l) false
+
+abbrev pub someRuns : List ℕ → Bool
+someRuns s = cond (isState s) (anyRuns s lists) false
+
+abbrev pub ready : List ℕ → Bool
+ready s = cond (isState s) (allFit s lists) false
 
 -- ---- packets
 -- the shortest packet in store, without its number: the clock for a list's first ODT, a byte for a later one

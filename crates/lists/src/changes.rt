@@ -1,13 +1,16 @@
 // The lists: how commands change them, for any bytes.
 ghost use mathlib.Core.Path.{_≡_};
-ghost use lib.ListN.{set};
-ghost use Rattle.state.specs.Layout.{lists, odts, firstOdt, selectedAt, listOf};
-ghost use Rattle.lists.specs.Lists.{dropped, switched, stopped, started, listCleared, modeSet, tagOf, entryCleared, entrySet, stopEach, startOne, startSelected, stopOne, stopSelected};
+ghost use mathlib.Core.Bool.{cond};
+ghost use Prim.Native.Nat.{_<_};
+ghost use lib.ListN.{length, set};
+ghost use Rattle.state.specs.Layout.{lists, odts, firstOdt, selectedAt, listOf, size};
+ghost use Rattle.lists.specs.Lists.{isState, dropped, switched, stopped, started, listCleared, modeSet, tagOf, entryCleared, entrySet, stopEach, startOne, startSelected, stopOne, stopSelected};
 use crate::list::runs;
 use crate::list::selected;
 use state::bytes::clear;
 use state::bytes::put;
 use state::bytes::store16;
+use state::bytes::store32;
 use state::layout;
 use words::Extension;
 
@@ -82,7 +85,7 @@ pub fn clear_entry(s: &mut [u8], k: u16, e: u8)
     ensures { λ _. ⌜ now (s .exit) ≡ entryCleared (now (s .entry)) (listOf k) k e ⌝ }
 {
     put(s, layout::running_at(layout::list_of(k)), 0);
-    clear(s, layout::entry_at(k, e), layout::ENTRY_SIZE);
+    store32(s, layout::entry_at(k, e), 0);
 }
 
 pub fn set_entry(s: &mut [u8], k: u16, e: u8, n: u8, extension: Extension, address: u32)
@@ -109,6 +112,7 @@ pub fn stop_all(s: &mut [u8])
 }
 
 fn start_one(s: &mut [u8], l: u8)
+    requires { ⌜ (length (now s) ≡ size) × (l < lists) ⌝ }
     ensures { λ _. ⌜ now (s .exit) ≡ startOne (now (s .entry)) l ⌝ }
 {
     if selected(s, l) {
@@ -118,7 +122,8 @@ fn start_one(s: &mut [u8], l: u8)
     }
 }
 
-pub fn start_selected(s: &mut [u8])
+fn start_each(s: &mut [u8])
+    requires { ⌜ length (now s) ≡ size ⌝ }
     ensures { λ _. ⌜ now (s .exit) ≡ startSelected (now (s .entry)) lists ⌝ }
 {
     let mut l = 0;
@@ -129,7 +134,17 @@ pub fn start_selected(s: &mut [u8])
     }
 }
 
+// In a state of the right size, and no other.
+pub fn start_selected(s: &mut [u8])
+    ensures { λ _. ⌜ now (s .exit) ≡ cond (isState (now (s .entry))) (startSelected (now (s .entry)) lists) (now (s .entry)) ⌝ }
+{
+    if s.len() == layout::STATE {
+        start_each(s);
+    }
+}
+
 fn stop_one(s: &mut [u8], l: u8)
+    requires { ⌜ (length (now s) ≡ size) × (l < lists) ⌝ }
     ensures { λ _. ⌜ now (s .exit) ≡ stopOne (now (s .entry)) l ⌝ }
 {
     if selected(s, l) {
@@ -137,7 +152,8 @@ fn stop_one(s: &mut [u8], l: u8)
     }
 }
 
-pub fn stop_selected(s: &mut [u8])
+fn stop_each_selected(s: &mut [u8])
+    requires { ⌜ length (now s) ≡ size ⌝ }
     ensures { λ _. ⌜ now (s .exit) ≡ stopSelected (now (s .entry)) lists ⌝ }
 {
     let mut l = 0;
@@ -145,5 +161,13 @@ pub fn stop_selected(s: &mut [u8])
         stop_one(s, l);
         select(s, l, 0);
         l += 1;
+    }
+}
+
+pub fn stop_selected(s: &mut [u8])
+    ensures { λ _. ⌜ now (s .exit) ≡ cond (isState (now (s .entry))) (stopSelected (now (s .entry)) lists) (now (s .entry)) ⌝ }
+{
+    if s.len() == layout::STATE {
+        stop_each_selected(s);
     }
 }

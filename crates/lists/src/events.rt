@@ -7,7 +7,7 @@ ghost use lib.Seq.{sets};
 ghost use Rattle.state.specs.Layout.{lists, odts, entries, allOdts, events, odtMost, entryMost, size, sampleAt, firstOdt};
 ghost use Rattle.state.specs.Memory.{bytesOf};
 ghost use Rattle.lists.specs.Lists.{sizeOf, odtBytes, odtsFit};
-ghost use Rattle.lists.specs.Event.{samplingOf, entryBytes, gathered, contentsOf, stored, capturedOdts, captured, sampledState, sampledBy, missedBy, Counts, tally, Happens, eventOf};
+ghost use Rattle.lists.specs.Event.{samplingOf, entryBytes, gathered, leadOf, contentsOf, stored, capturedOdts, captured, sampledState, sampledBy, missedBy, Counts, tally, Happens, eventOf};
 use crate::Counted;
 use crate::Sampling;
 use crate::list;
@@ -20,7 +20,7 @@ use words::Extension;
 
 // What an event is to a list.
 fn sampling(s: &[u8], l: u8, event: u8) -> Sampling
-    requires { ⌜ event < events ⌝ }
+    requires { ⌜ (length (now s) ≡ size) × (l < lists) × (event < events) ⌝ }
     ensures { λ r. ⌜ r ≡ samplingOf (now (s .entry)) l event ⌝ }
 {
     if list::mode(s, l) != event + 1 {
@@ -49,9 +49,12 @@ fn take_block(s: &mut [u8], to: usize, mem: &[u8], address: usize, n: usize)
 
 // The n bytes of one entry.
 fn take_entry(s: &mut [u8], to: usize, cal: &[u8], meas: &[u8], k: u16, e: u8, n: usize)
-    requires { ⌜ (n ≡ sizeOf (now s) k e) × (n ≤ entryMost) × (to + n ≤ length (now s)) ⌝ }
+    requires { ⌜ (length (now s) ≡ size) × (k < allOdts) × (e < entries) × (n ≡ sizeOf (now s) k e) × (n ≤ entryMost) × (to + n ≤ length (now s)) ⌝ }
     ensures { λ _. ⌜ now (s .exit) ≡ sets (now (s .entry)) to (entryBytes (now (s .entry)) k e (now (cal .entry)) (now (meas .entry))) ⌝ }
 {
+    if n == 0 {
+        return;
+    }
     let address = list::entry_address(s, k, e) as usize;
     let extension = list::entry_extension(s, k, e);
     match extension {
@@ -60,10 +63,10 @@ fn take_entry(s: &mut [u8], to: usize, cal: &[u8], meas: &[u8], k: u16, e: u8, n
     }
 }
 
-// The bytes of an ODT's entries, in entry order. They go past all entries.
-fn gather(s: &mut [u8], from: usize, cal: &[u8], meas: &[u8], k: u16)
+// The bytes of an ODT's entries, in entry order; says where they end. They go past all entries.
+fn gather(s: &mut [u8], from: usize, cal: &[u8], meas: &[u8], k: u16) -> usize
     requires { ⌜ (length (now s) ≡ size) × (k < allOdts) × (sampleAt 0 ≤ from) × (from + odtBytes (now s) k ≤ size) ⌝ }
-    ensures { λ _. ⌜ now (s .exit) ≡ sets (now (s .entry)) from (gathered (now (s .entry)) k (now (cal .entry)) (now (meas .entry)) entries) ⌝ }
+    ensures { λ r. ⌜ (now (s .exit) ≡ sets (now (s .entry)) from (gathered (now (s .entry)) k (now (cal .entry)) (now (meas .entry)) entries)) × (r ≡ from + odtBytes (now (s .entry)) k) ⌝ }
 {
     let mut to = from;
     let mut e: u8 = 0;
@@ -73,6 +76,19 @@ fn gather(s: &mut [u8], from: usize, cal: &[u8], meas: &[u8], k: u16)
         to += n;
         e += 1;
     }
+    to
+}
+
+// In a list's first ODT the clock; says where the bytes begin.
+fn lead(s: &mut [u8], at: usize, k: u16, clock: u16) -> usize
+    requires { ⌜ at < size ⌝ }
+    ensures { λ r. ⌜ (now (s .exit) ≡ sets (now (s .entry)) at (leadOf k clock)) × (r ≡ at + length (leadOf k clock)) ⌝ }
+{
+    if layout::is_first(k) {
+        store16(s, at, clock as u32);
+        return at + layout::CLOCK_SIZE as usize;
+    }
+    at
 }
 
 // One ODT: its length, in a list's first ODT the clock, then its bytes.
@@ -81,15 +97,9 @@ fn capture_odt(s: &mut [u8], cal: &[u8], meas: &[u8], k: u16, clock: u16)
     ensures { λ _. ⌜ now (s .exit) ≡ stored (now (s .entry)) k (contentsOf (now (s .entry)) k clock (now (cal .entry)) (now (meas .entry))) ⌝ }
 {
     let at = layout::sample_at(k);
-    let n = list::odt_bytes(s, k);
-    if layout::is_first(k) {
-        s[at] = n + layout::CLOCK_SIZE;
-        store16(s, at + 1, clock as u32);
-        gather(s, at + 1 + layout::CLOCK_SIZE as usize, cal, meas, k);
-        return;
-    }
-    s[at] = n;
-    gather(s, at + 1, cal, meas, k);
+    let from = lead(s, at + 1, k, clock);
+    let end = gather(s, from, cal, meas, k);
+    s[at] = (end - at - 1) as u8;
 }
 
 // All ODTs at once: nothing is read when they are sent.

@@ -1,23 +1,32 @@
-// The lists: how they read, for any bytes.
+// The lists: how they read, for any bytes of a state. Each goes straight to its bytes: events and slots read them often.
 ghost use mathlib.Core.Path.{_≡_};
 ghost use mathlib.Core.Bool.{cond, false};
-ghost use Prim.Native.Nat.{_*_, _≤_};
+ghost use Prim.Native.Nat.{_*_, _≤_, _<_};
 ghost use lib.Dec.{eqb};
-ghost use Rattle.state.specs.Layout.{lists, odts, firstOdt, entries, events, storedMost, entryMost};
+ghost use lib.ListN.{length};
+ghost use Rattle.state.specs.Layout.{lists, odts, allOdts, firstOdt, entries, events, storedMost, entryMost, size};
+ghost use Rattle.state.specs.State.{flagOf};
 ghost use Rattle.lists.specs.Lists.{sizeOf, extensionOf, addressOf, odtBytes, modeOf, selectedOf, bytesOfOdts, odtsFit, fitOf, runsOf, anyRuns, mayStart, allFit, leastOf, storedLength, unsent};
-use state::bytes::get;
-use state::bytes::get16;
-use state::fields::flag;
+use state::bytes::wide;
 use state::layout;
 use words::Extension;
+
+// A flag is yes only if its byte is 1.
+pub fn on(s: &[u8], at: usize) -> bool
+    requires { ⌜ at < length (now s) ⌝ }
+    ensures { λ r. ⌜ r ≡ flagOf (now (s .entry)) at ⌝ }
+{
+    s[at] == 1
+}
 
 // ---- entries
 
 // An entry's size; above 4 it reads as 0.
 pub fn entry_size(s: &[u8], k: u16, e: u8) -> u8
+    requires { ⌜ (length (now s) ≡ size) × (k < allOdts) × (e < entries) ⌝ }
     ensures { λ r. ⌜ (r ≡ sizeOf (now (s .entry)) k e) × (r ≤ entryMost) ⌝ }
 {
-    let n = get(s, layout::entry_at(k, e));
+    let n = s[layout::entry_at(k, e)];
     if layout::ENTRY_MOST < n {
         return 0;
     }
@@ -25,9 +34,10 @@ pub fn entry_size(s: &[u8], k: u16, e: u8) -> u8
 }
 
 pub fn entry_extension(s: &[u8], k: u16, e: u8) -> Extension
+    requires { ⌜ (length (now s) ≡ size) × (k < allOdts) × (e < entries) ⌝ }
     ensures { λ r. ⌜ r ≡ extensionOf (now (s .entry)) k e ⌝ }
 {
-    if flag(s, layout::entry_at(k, e) + 1) {
+    if on(s, layout::entry_at(k, e) + 1) {
         Extension::Measured
     } else {
         Extension::Calibration
@@ -35,13 +45,16 @@ pub fn entry_extension(s: &[u8], k: u16, e: u8) -> Extension
 }
 
 pub fn entry_address(s: &[u8], k: u16, e: u8) -> u16
+    requires { ⌜ (length (now s) ≡ size) × (k < allOdts) × (e < entries) ⌝ }
     ensures { λ r. ⌜ r ≡ addressOf (now (s .entry)) k e ⌝ }
 {
-    get16(s, layout::entry_at(k, e) + 2)
+    let at = layout::entry_at(k, e) + 2;
+    (wide(s[at]) + 256 * wide(s[at + 1])) as u16
 }
 
 // The bytes of an ODT.
 pub fn odt_bytes(s: &[u8], k: u16) -> u8
+    requires { ⌜ (length (now s) ≡ size) × (k < allOdts) ⌝ }
     ensures { λ r. ⌜ (r ≡ odtBytes (now (s .entry)) k) × (r ≤ entries * entryMost) ⌝ }
 {
     let mut n = 0;
@@ -57,9 +70,10 @@ pub fn odt_bytes(s: &[u8], k: u16) -> u8
 
 // 0 where a list's mode was never set, else 1 more than its event.
 pub fn mode(s: &[u8], l: u8) -> u8
+    requires { ⌜ (length (now s) ≡ size) × (l < lists) ⌝ }
     ensures { λ r. ⌜ (r ≡ modeOf (now (s .entry)) l) × (r ≤ events) ⌝ }
 {
-    let n = get(s, layout::mode_at(l as u16));
+    let n = s[layout::mode_at(l as u16)];
     if layout::EVENTS < n {
         return 0;
     }
@@ -67,13 +81,15 @@ pub fn mode(s: &[u8], l: u8) -> u8
 }
 
 pub fn selected(s: &[u8], l: u8) -> bool
+    requires { ⌜ (length (now s) ≡ size) × (l < lists) ⌝ }
     ensures { λ r. ⌜ r ≡ selectedOf (now (s .entry)) l ⌝ }
 {
-    flag(s, layout::selected_at(l as u16))
+    on(s, layout::selected_at(l as u16))
 }
 
 // Whether a list's ODTs have some byte, and none has too many.
 fn odts_fit(s: &[u8], l: u8) -> bool
+    requires { ⌜ (length (now s) ≡ size) × (l < lists) ⌝ }
     ensures { λ r. ⌜ r ≡ cond (eqb (bytesOfOdts (now (s .entry)) (firstOdt l) odts) 0) false (odtsFit (now (s .entry)) (firstOdt l) odts) ⌝ }
 {
     let k = layout::first_odt(l);
@@ -95,6 +111,7 @@ fn odts_fit(s: &[u8], l: u8) -> bool
 
 // Whether a list can be started.
 pub fn fit(s: &[u8], l: u8) -> bool
+    requires { ⌜ (length (now s) ≡ size) × (l < lists) ⌝ }
     ensures { λ r. ⌜ r ≡ fitOf (now (s .entry)) l ⌝ }
 {
     if mode(s, l) == 0 {
@@ -104,10 +121,11 @@ pub fn fit(s: &[u8], l: u8) -> bool
 }
 
 pub fn runs(s: &[u8], l: u8) -> bool
+    requires { ⌜ (length (now s) ≡ size) × (l < lists) ⌝ }
     ensures { λ r. ⌜ r ≡ runsOf (now (s .entry)) l ⌝ }
 {
-    if flag(s, layout::OPEN) {
-        if flag(s, layout::running_at(l as u16)) {
+    if on(s, layout::OPEN) {
+        if on(s, layout::running_at(l as u16)) {
             return fit(s, l);
         }
         return false;
@@ -116,6 +134,7 @@ pub fn runs(s: &[u8], l: u8) -> bool
 }
 
 pub fn any_runs(s: &[u8]) -> bool
+    requires { ⌜ length (now s) ≡ size ⌝ }
     ensures { λ r. ⌜ r ≡ anyRuns (now (s .entry)) lists ⌝ }
 {
     let mut l = 0;
@@ -130,6 +149,7 @@ pub fn any_runs(s: &[u8]) -> bool
 
 // Whether a list that is selected can be started.
 fn may_start(s: &[u8], l: u8) -> bool
+    requires { ⌜ (length (now s) ≡ size) × (l < lists) ⌝ }
     ensures { λ r. ⌜ r ≡ mayStart (now (s .entry)) l ⌝ }
 {
     if selected(s, l) {
@@ -140,6 +160,7 @@ fn may_start(s: &[u8], l: u8) -> bool
 
 // Whether every selected list can be started.
 pub fn all_fit(s: &[u8]) -> bool
+    requires { ⌜ length (now s) ≡ size ⌝ }
     ensures { λ r. ⌜ r ≡ allFit (now (s .entry)) lists ⌝ }
 {
     let mut l = 0;
@@ -166,9 +187,10 @@ fn least(k: u16) -> u8
 
 // The length of an ODT's packet in store, without its number; 0 where there is none.
 pub fn stored_length(s: &[u8], k: u16) -> u8
+    requires { ⌜ (length (now s) ≡ size) × (k < allOdts) ⌝ }
     ensures { λ r. ⌜ (r ≡ storedLength (now (s .entry)) k) × (r ≤ storedMost) ⌝ }
 {
-    let n = get(s, layout::sample_at(k));
+    let n = s[layout::sample_at(k)];
     if n < least(k) {
         return 0;
     }
@@ -180,6 +202,7 @@ pub fn stored_length(s: &[u8], k: u16) -> u8
 
 // Whether a list still has an unsent packet.
 pub fn is_unsent(s: &[u8], l: u8) -> bool
+    requires { ⌜ (length (now s) ≡ size) × (l < lists) ⌝ }
     ensures { λ r. ⌜ r ≡ unsent (now (s .entry)) l ⌝ }
 {
     let k = layout::first_odt(l);

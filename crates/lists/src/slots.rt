@@ -15,6 +15,7 @@ use words::Slotted;
 
 // A list's first packet in store.
 fn first_stored(s: &[u8], l: u8) -> Turn
+    requires { ⌜ (length (now s) ≡ size) × (l < lists) ⌝ }
     ensures { λ r. ⌜ r ≡ firstStored (now (s .entry)) (firstOdt l) odts ⌝ }
 {
     let mut k = layout::first_odt(l);
@@ -31,9 +32,10 @@ fn first_stored(s: &[u8], l: u8) -> Turn
 
 // A list's next packet. Whether the list runs is asked in full only where it has one: that takes longer.
 fn packet_in(s: &[u8], l: u8) -> Turn
+    requires { ⌜ (length (now s) ≡ size) × (l < lists) ⌝ }
     ensures { λ r. ⌜ r ≡ packetIn (now (s .entry)) l ⌝ }
 {
-    if !fields::flag(s, layout::running_at(l as u16)) {
+    if !list::on(s, layout::running_at(l as u16)) {
         return Turn::Nobody;
     }
     let turn = first_stored(s, l);

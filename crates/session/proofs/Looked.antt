@@ -5,10 +5,13 @@ use mathlib.Core.Bool.{Bool, true, false, cond}
 use mathlib.Core.List.{List}
 use Prim.Native.Nat.{ℕ, _+_, _≤_, _<_}
 use native.Mathlib.Omega.{arith}
-use borrow.Author.Tests.{lt-leb, ltb-false}
+use borrow.Author.Tests.{eq-eqb, ltb-false}
 use lib.Dec.{eqb, leb, ltb}
 use lib.ListN.{length, getD}
-use Rattle.state.specs.Layout.{lists, packetAt, packetMost, size}
+use Rattle.state.specs.Layout.{lists, listOf, packetAt, packetMost, size}
+use Rattle.state.specs.State.{pointerOf, Pointed}
+use Rattle.words.specs.declared.Pointer.{Pointer}
+use Rattle.words.specs.declared.Pointer.the-variants.{Unset as NoEntry, At as Entry}
 use Rattle.state.specs.Bytes.{block, u16At}
 use Rattle.words.specs.Command.{commandOf, fewest}
 use Rattle.words.specs.declared.Command.{Command}
@@ -22,7 +25,8 @@ use Rattle.judge.specs.Doable.{Doable}
 use Rattle.judge.proofs.Doable.{judge-doable}
 use Rattle.state.proofs.Pointers.{pointed}
 use Rattle.judge.proofs.Looking.{Alike, Seeing, judge-alike, judge-looked}
-use Rattle.session.specs.Look.{numbersOf, numbersAt, seenOf, lookedAt, judgeOf}
+use Rattle.lists.proofs.Named.{there-list}
+use Rattle.session.specs.Look.{numbersOf, numbersAt, pointedRuns, seenOf, pointedNamed, lookedAt, judgeOf}
 use Rattle.session.proofs.Packet.{packet-length, packet-byte, packet-u16, packet-u32}
 
 -- ---- the packet in the buffer
@@ -46,11 +50,15 @@ packet-alike s n e some few =
     }
 
 -- ---- the state
-seeing-all : (l : ℕ) (s : List ℕ) → Seeing (lookedAt s) (seenOf l s)
-seeing-all l s = record { calibration = refl; lists = refl; seed = refl; generator = refl; mta = refl; pointer = refl; pointed = refl; ready = refl }
+pointer-named : (s : List ℕ) (q : Pointer) → length s ≡ size → Pointed q → pointedNamed q s ≡ pointedRuns q s
+pointer-named s NoEntry whole _ = refl
+pointer-named s (Entry k e) whole h = rw (there-list s (listOf k) whole (omega (arith, h .0)))
 
-named : (s : List ℕ) (l : ℕ) → u16At s (packetAt + 2) ≡ l → l < lists → (lookedAt s .runs ≡ seenOf l s .runs) × (lookedAt s .fits ≡ seenOf l s .fits)
-named s l e h = (simp (e, lt-leb _ _ h), simp (e, lt-leb _ _ h))
+seeing-all : (l : ℕ) (s : List ℕ) → length s ≡ size → Seeing (lookedAt s) (seenOf l s)
+seeing-all l s whole = record { calibration = refl; lists = refl; seed = refl; generator = refl; mta = refl; pointer = refl; pointed = pointer-named s (pointerOf s) whole (pointed s); ready = rw (eq-eqb (length s) size whole) }
+
+named : (s : List ℕ) (l : ℕ) → length s ≡ size → u16At s (packetAt + 2) ≡ l → l < lists → (lookedAt s .runs ≡ seenOf l s .runs) × (lookedAt s .fits ≡ seenOf l s .fits)
+named s l whole e h = (simp (e, there-list s l whole h), simp (e, there-list s l whole h))
 
 short : (c : Command) (p : Packet) (v : Seen) (nc nm n : ℕ) → p .n ≡ n → ltb n (fewest c) ≡ true → judgeBy c p v nc nm ≡ Refuse TooShort
 unfolding judgeBy
@@ -67,8 +75,8 @@ module _ (s : List ℕ) (n nc nm : ℕ) (whole : length s ≡ size) (some : 1 �
           let same = packet-alike s n whole some few in
           let long : length (block s packetAt n) ≡ n = packet-length s n few whole in
           judge-alike (lookedAt s) nc nm c (numbersAt s n) (numbersOf (block s packetAt n)) same
-          ∙ judge-looked (numbersOf (block s packetAt n)) (lookedAt s) (seenOf (u16At (block s packetAt n) 2) s) (seeing-all (u16At (block s packetAt n) 2) s) nc nm c
-          (λ h. named s (u16At (block s packetAt n) 2) (same .word2 (omega (arith, long, there))))
+          ∙ judge-looked (numbersOf (block s packetAt n)) (lookedAt s) (seenOf (u16At (block s packetAt n) 2) s) (seeing-all (u16At (block s packetAt n) 2) s whole) nc nm c
+          (λ h. named s (u16At (block s packetAt n) 2) whole (same .word2 (omega (arith, long, there))))
 
   pub judged-there : judgeBy (commandOf (numbersAt s n .b0)) (numbersAt s n) (lookedAt s) nc nm ≡ judgeOf (block s packetAt n) s nc nm
   unfolding judgeOf judge

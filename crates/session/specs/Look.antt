@@ -1,13 +1,12 @@
 -- What the checks look at: the packet's numbers, and what is seen of the state.
 use Prim.Native.Nat.{ℕ, _+_}
-use mathlib.Core.Bool.{Bool, false, cond}
+use mathlib.Core.Bool.{Bool, false}
 use mathlib.Core.List.{List}
-use lib.Dec.{leb}
 use lib.ListN.{length, getD}
 use Rattle.state.specs.Layout.{lists, packetAt, listOf}
 use Rattle.state.specs.Bytes.{u16At, u32At}
 use Rattle.state.specs.State.{generatorOf, unlockedOf, seedOf, mtaOf, pointerOf}
-use Rattle.lists.specs.Lists.{fitOf, runsOf, allFit}
+use Rattle.lists.specs.Lists.{fitOf, runsOf, allFit, runsNamed, fitsNamed, ready}
 use Rattle.words.specs.declared.Resource.the-variants.{Calibration, Lists}
 use Rattle.words.specs.declared.Pointer.{Pointer}
 use Rattle.words.specs.declared.Pointer.the-variants.{Unset as NoEntry, At as Entry}
@@ -80,11 +79,9 @@ unfoldable pub judgeOf : List ℕ → List ℕ → ℕ → ℕ → Deed
 judgeOf p s nc nm = judge (numbersOf p) (seenOf (u16At p 2) s) nc nm
 
 -- ---- the same of a state with such a message: a list that there is not is not looked at
-abbrev pub runsNamed : List ℕ → ℕ → Bool
-runsNamed s l = cond (leb lists l) false (runsOf s l)
-
-abbrev pub fitsNamed : List ℕ → ℕ → Bool
-fitsNamed s l = cond (leb lists l) false (fitOf s l)
+abbrev pub pointedNamed : Pointer → List ℕ → Bool
+pointedNamed NoEntry s = false
+pointedNamed (Entry k e) s = runsNamed s (listOf k)
 
 abbrev pub lookedAt : List ℕ → Seen
-lookedAt s = seeing s (runsNamed s (u16At s (packetAt + 2))) (fitsNamed s (u16At s (packetAt + 2))) (pointedRuns (pointerOf s) s) (allFit s lists)
+lookedAt s = seeing s (runsNamed s (u16At s (packetAt + 2))) (fitsNamed s (u16At s (packetAt + 2))) (pointedNamed (pointerOf s) s) (ready s)

@@ -14,7 +14,7 @@ use crate::answer;
 use crate::blocks::block_sum;
 use crate::blocks::copy;
 use judge::Deed;
-use lists::list::any_runs;
+use lists::asked::any_runs;
 use state::fields;
 use state::layout;
 use words::Extension;

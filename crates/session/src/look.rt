@@ -2,15 +2,15 @@
 ghost use mathlib.Core.Path.{_≡_};
 ghost use Prim.Native.Nat.{_≤_};
 ghost use lib.ListN.{length};
-ghost use Rattle.state.specs.Layout.{packetMost, packetAt, size, lists};
+ghost use Rattle.state.specs.Layout.{packetMost, packetAt, size};
 ghost use Rattle.state.specs.Bytes.{block};
 ghost use Rattle.state.specs.State.{generatorOf, seedOf, pointerOf};
-ghost use Rattle.lists.specs.Lists.{allFit};
+ghost use Rattle.lists.specs.Lists.{runsNamed, fitsNamed, ready};
 ghost use Rattle.judge.specs.Judge.{unlockBy, clearDeed, modeDeed, startStopDeed, synchDeed, writeDeed, judgeThe, lockedBy, judgeBy};
-ghost use Rattle.session.specs.Look.{numbersAt, pointedRuns, runsNamed, fitsNamed, lookedAt, judgeOf};
+ghost use Rattle.session.specs.Look.{numbersAt, pointedNamed, lookedAt, judgeOf};
 use judge::Deed;
 use judge::checks;
-use lists::list;
+use lists::asked;
 use state::bytes::get16;
 use state::bytes::get32;
 use state::fields;
@@ -22,31 +22,13 @@ use words::Reason;
 use words::Resource;
 use words::commands;
 
-fn runs_named(s: &[u8], l: u16) -> bool
-    ensures { λ r. ⌜ r ≡ runsNamed (now (s .entry)) l ⌝ }
-{
-    if layout::LISTS_U16 <= l {
-        return false;
-    }
-    list::runs(s, l as u8)
-}
-
-fn fits_named(s: &[u8], l: u16) -> bool
-    ensures { λ r. ⌜ r ≡ fitsNamed (now (s .entry)) l ⌝ }
-{
-    if layout::LISTS_U16 <= l {
-        return false;
-    }
-    list::fit(s, l as u8)
-}
-
 // Whether the pointer's list runs.
 fn pointed_runs(s: &[u8], pointer: Pointer) -> bool
-    ensures { λ r. ⌜ r ≡ pointedRuns pointer (now (s .entry)) ⌝ }
+    ensures { λ r. ⌜ r ≡ pointedNamed pointer (now (s .entry)) ⌝ }
 {
     match pointer {
         Pointer::Unset => false,
-        Pointer::At { odt, entry: _ } => list::runs(s, layout::list_of(odt as u16) as u8),
+        Pointer::At { odt, entry: _ } => asked::runs(s, layout::list_of(odt as u16)),
     }
 }
 
@@ -60,11 +42,11 @@ fn unlock(s: &[u8], width: u8, n: u8, key: u32) -> Deed
 fn clear_list(s: &[u8], l: u16) -> Deed
     ensures { λ r. ⌜ r ≡ clearDeed (runsNamed (now (s .entry)) l) l ⌝ }
 {
-    checks::clear_list(runs_named(s, l), l)
+    checks::clear_list(asked::runs(s, l), l)
 }
 
 fn write_entry(s: &[u8], bit: u8, n: u8, extension: u8, address: u32, nc: usize, nm: usize) -> Deed
-    ensures { λ r. ⌜ r ≡ writeDeed (pointerOf (now (s .entry))) (pointedRuns (pointerOf (now (s .entry))) (now (s .entry))) bit n extension address nc nm ⌝ }
+    ensures { λ r. ⌜ r ≡ writeDeed (pointerOf (now (s .entry))) (pointedNamed (pointerOf (now (s .entry))) (now (s .entry))) bit n extension address nc nm ⌝ }
 {
     let pointer = fields::pointer(s);
     checks::write_entry(
@@ -82,7 +64,7 @@ fn write_entry(s: &[u8], bit: u8, n: u8, extension: u8, address: u32, nc: usize,
 fn set_mode(s: &[u8], mode: u8, l: u16, event: u16, prescaler: u8, priority: u8) -> Deed
     ensures { λ r. ⌜ r ≡ modeDeed (runsNamed (now (s .entry)) l) mode l event prescaler priority ⌝ }
 {
-    checks::set_mode(runs_named(s, l), mode, l, event, prescaler, priority)
+    checks::set_mode(asked::runs(s, l), mode, l, event, prescaler, priority)
 }
 
 // A start alone asks what a list has.
@@ -92,16 +74,16 @@ fn start_stop(s: &[u8], mode: u8, l: u16) -> Deed
     if mode != 1 {
         return checks::start_stop(false, false, mode, l);
     }
-    checks::start_stop(runs_named(s, l), fits_named(s, l), mode, l)
+    checks::start_stop(asked::runs(s, l), asked::fits(s, l), mode, l)
 }
 
 fn start_stop_synch(s: &[u8], mode: u8) -> Deed
-    ensures { λ r. ⌜ r ≡ synchDeed (allFit (now (s .entry)) lists) mode ⌝ }
+    ensures { λ r. ⌜ r ≡ synchDeed (ready (now (s .entry))) mode ⌝ }
 {
     if mode != 1 {
         return checks::start_stop_synch(false, mode);
     }
-    checks::start_stop_synch(list::all_fit(s), mode)
+    checks::start_stop_synch(asked::all_fit(s), mode)
 }
 
 // Each command's own checks.

@@ -1,5 +1,5 @@
 use mathlib.Core.Path.{_≡_, refl, _∙_, ap}
-use Prim.Native.Nat.{_≤_, _+_, _-_}
+use Prim.Native.Nat.{ℕ, _≤_, _+_, _-_}
 use native.Mathlib.Numerals.{add-one}
 use native.Mathlib.Omega.{arith}
 use lib.ListN.{length}
@@ -8,7 +8,7 @@ use Rattle.state.specs.Layout.{entries}
 use Rattle.lists.specs.Lists.{sizeOf}
 use Rattle.lists.specs.Event.{gathered}
 use Rattle.lists.proofs.Entries.{sets-alike, size-alike, first-most}
-use Rattle.lists.proofs.Gathered.{gathered-length, gathered-first, gathered-next}
+use Rattle.lists.proofs.Gathered.{gathered-length, gathered-first, gathered-odt, gathered-next}
 use borrow.Author.Needs.{needs}
 use Rattle.lists.proofs.events.gather.Statement.{statement}
 use Rattle.lists.proofs.events.gather.Tie as tie
@@ -30,7 +30,7 @@ cast-n : tie.Need-cast-n Inv-loop μ-loop
 cast-n c = search needs
 
 take-entry-requires : tie.Need-take-entry-requires Inv-loop μ-loop
-take-entry-requires c κs = let n : c .before .entry-size .result ≡ sizeOf (c .before .before .before .before .before .before .before .before .args .s .now) (c .before .before .before .before .before .before .before .before .args .k) (c .before .before .before .before .loop .e) = c .before .entry-size .ensures .0 ∙ rw (c .before .before .before .before .loop .inv .1) (size-alike _ (c .before .before .before .before .before .before .before .before .args .s .now) (sets-alike (gathered (c .before .before .before .before .before .before .before .before .args .s .now) (c .before .before .before .before .before .before .before .before .args .k) (c .before .before .before .before .before .before .before .before .args .cal .now) (c .before .before .before .before .before .before .before .before .args .meas .now) (c .before .before .before .before .loop .e)) (c .before .before .before .before .before .before .before .before .args .s .now) (c .before .before .before .before .before .before .before .before .args .from) (omega arith)) (c .before .before .before .before .before .before .before .before .args .k) (omega arith) (c .before .before .before .before .loop .e) (omega arith)) in (c .before .entry-size .ensures .0, c .before .entry-size .ensures .1, omega (arith, n, c .before .before .before .before .loop .inv .2, c .before .before .before .before .loop .inv .3, gathered-first (c .before .before .before .before .before .before .before .before .args .s .now) (c .before .before .before .before .before .before .before .before .args .k) (c .before .before .before .before .before .before .before .before .args .cal .now) (c .before .before .before .before .before .before .before .before .args .meas .now) (c .before .before .before .before .loop .e), first-most (c .before .before .before .before .before .before .before .before .args .s .now) (c .before .before .before .before .before .before .before .before .args .k) (c .before .before .before .before .loop .e) (omega arith)))
+take-entry-requires c κs = let n : c .before .entry-size .result ≡ sizeOf (c .before .before .before .before .before .before .before .before .args .s .now) (c .before .before .before .before .before .before .before .before .args .k) (c .before .before .before .before .loop .e) = c .before .entry-size .ensures .0 ∙ rw (c .before .before .before .before .loop .inv .1) (size-alike _ (c .before .before .before .before .before .before .before .before .args .s .now) (sets-alike (gathered (c .before .before .before .before .before .before .before .before .args .s .now) (c .before .before .before .before .before .before .before .before .args .k) (c .before .before .before .before .before .before .before .before .args .cal .now) (c .before .before .before .before .before .before .before .before .args .meas .now) (c .before .before .before .before .loop .e)) (c .before .before .before .before .before .before .before .before .args .s .now) (c .before .before .before .before .before .before .before .before .args .from) (omega arith)) (c .before .before .before .before .before .before .before .before .args .k) (omega arith) (c .before .before .before .before .loop .e) (omega arith)) in (omega (arith, c .before .before .before .before .loop .inv .0), omega arith, omega arith, c .before .entry-size .ensures .0, c .before .entry-size .ensures .1, omega (arith, n, c .before .before .before .before .loop .inv .2, c .before .before .before .before .loop .inv .3, gathered-first (c .before .before .before .before .before .before .before .before .args .s .now) (c .before .before .before .before .before .before .before .before .args .k) (c .before .before .before .before .before .before .before .before .args .cal .now) (c .before .before .before .before .before .before .before .before .args .meas .now) (c .before .before .before .before .loop .e), first-most (c .before .before .before .before .before .before .before .before .args .s .now) (c .before .before .before .before .before .before .before .before .args .k) (c .before .before .before .before .loop .e) (omega arith)))
 
 add-to : tie.Need-add-to Inv-loop μ-loop
 add-to c = let n : c .before .before .before .before .entry-size .result ≡ sizeOf (c .before .before .before .before .before .before .before .before .before .before .before .args .s .now) (c .before .before .before .before .before .before .before .before .before .before .before .args .k) (c .before .before .before .before .before .before .before .loop .e) = c .before .before .before .before .entry-size .ensures .0 ∙ rw (c .before .before .before .before .before .before .before .loop .inv .1) (size-alike _ (c .before .before .before .before .before .before .before .before .before .before .before .args .s .now) (sets-alike (gathered (c .before .before .before .before .before .before .before .before .before .before .before .args .s .now) (c .before .before .before .before .before .before .before .before .before .before .before .args .k) (c .before .before .before .before .before .before .before .before .before .before .before .args .cal .now) (c .before .before .before .before .before .before .before .before .before .before .before .args .meas .now) (c .before .before .before .before .before .before .before .loop .e)) (c .before .before .before .before .before .before .before .before .before .before .before .args .s .now) (c .before .before .before .before .before .before .before .before .before .before .before .args .from) (omega arith)) (c .before .before .before .before .before .before .before .before .before .before .before .args .k) (omega arith) (c .before .before .before .before .before .before .before .loop .e) (omega arith)) in omega (arith, n, c .before .before .before .before .before .before .before .loop .inv .2, gathered-first (c .before .before .before .before .before .before .before .before .before .before .before .args .s .now) (c .before .before .before .before .before .before .before .before .before .before .before .args .k) (c .before .before .before .before .before .before .before .before .before .before .before .args .cal .now) (c .before .before .before .before .before .before .before .before .before .before .before .args .meas .now) (c .before .before .before .before .before .before .before .loop .e), first-most (c .before .before .before .before .before .before .before .before .before .before .before .args .s .now) (c .before .before .before .before .before .before .before .before .before .before .before .args .k) (c .before .before .before .before .before .before .before .loop .e) (omega arith))
@@ -54,7 +54,7 @@ same-length : tie.Need-same-length Inv-loop μ-loop
 same-length c = c .before .loop .inv .3
 
 returns : tie.Need-returns Inv-loop μ-loop
-returns c = let e : c .before .loop .e ≡ entries = omega arith in rw e at (c .before .loop .inv .1)
+returns c = let e : c .before .loop .e ≡ entries = omega arith in (rw e at (c .before .loop .inv .1), c .before .loop .inv .2 ∙ ap (λ (n : ℕ). c .before .before .before .before .before .args .from + n) (rw e (gathered-odt (c .before .before .before .before .before .args .s .now) (c .before .before .before .before .before .args .k) (c .before .before .before .before .before .args .cal .now) (c .before .before .before .before .before .args .meas .now))))
 
 pub gather-spec : {M : Type 1} → statement M
 gather-spec =

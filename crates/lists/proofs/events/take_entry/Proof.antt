@@ -1,9 +1,14 @@
-use mathlib.Core.Path.{_∙_}
+use mathlib.Core.Path.{sym, _∙_}
 use native.Mathlib.Omega.{arith}
+use Rattle.state.specs.Memory.{bytesOf}
 use Rattle.lists.specs.Event.{entryBytes}
 use borrow.Author.Needs.{needs}
 use Rattle.lists.proofs.events.take_entry.Statement.{statement}
 use Rattle.lists.proofs.events.take_entry.Tie as tie
+
+returns : tie.Need-returns
+unfolding entryBytes bytesOf
+returns c = rw (sym (c .before .before .before .before .pre .3) ∙ c .if1 .taken)
 
 entry-address-requires : tie.Need-entry-address-requires
 entry-address-requires c κs = search needs
@@ -29,21 +34,22 @@ take-block-requires-2 c κs = search needs
 same-length : tie.Need-same-length
 same-length c = search needs
 
-returns : tie.Need-returns
+returns-2 : tie.Need-returns-2
 unfolding entryBytes
-returns c = c .before .before .take-block .ensures ∙ simp (c .before .before .before .before .before .before .before .before .before .before .before .before .before .pre .0, c .before .before .before .before .before .before .before .before .entry-address .ensures, ← (c .before .before .before .before .before .before .entry-extension .ensures), c .before .before .before .before .enum-told .given .1)
+returns-2 c = c .before .before .take-block .ensures ∙ simp (c .before .before .before .before .before .before .before .before .before .before .before .before .before .before .pre .3, c .before .before .before .before .before .before .before .before .entry-address .ensures, ← (c .before .before .before .before .before .before .entry-extension .ensures), c .before .before .before .before .enum-told .given .1)
 
 same-length-2 : tie.Need-same-length-2
 same-length-2 c = search needs
 
-returns-2 : tie.Need-returns-2
+returns-3 : tie.Need-returns-3
 unfolding entryBytes
-returns-2 c = c .before .before .take-block2 .ensures ∙ simp (c .before .before .before .before .before .before .before .before .before .before .before .before .before .pre .0, c .before .before .before .before .before .before .before .before .entry-address .ensures, ← (c .before .before .before .before .before .before .entry-extension .ensures), c .before .before .before .before .enum-told2 .given .1)
+returns-3 c = c .before .before .take-block2 .ensures ∙ simp (c .before .before .before .before .before .before .before .before .before .before .before .before .before .before .pre .3, c .before .before .before .before .before .before .before .before .entry-address .ensures, ← (c .before .before .before .before .before .before .entry-extension .ensures), c .before .before .before .before .enum-told2 .given .1)
 
 pub take-entry-spec : {M : Type 1} → statement M
 take-entry-spec =
     tie.close
     (tie.spec
+    returns
     entry-address-requires
     cast-address
     entry-extension-requires
@@ -52,6 +58,6 @@ take-entry-spec =
     enum-told-2
     take-block-requires-2
     same-length
-    returns
+    returns-2
     same-length-2
-    returns-2)
+    returns-3)

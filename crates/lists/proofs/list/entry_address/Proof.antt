@@ -1,3 +1,5 @@
+use native.Mathlib.Omega.{arith}
+use Rattle.state.specs.Bytes.{u16At}
 use Rattle.lists.specs.Lists.{addressOf}
 use borrow.Author.Needs.{needs}
 use Rattle.lists.proofs.list.entry_address.Statement.{statement}
@@ -6,15 +8,49 @@ use Rattle.lists.proofs.list.entry_address.Tie as tie
 entry-at-requires : tie.Need-entry-at-requires
 entry-at-requires c κs = search needs
 
-add-get16 : tie.Need-add-get16
-add-get16 c = search needs
+add-at : tie.Need-add-at
+add-at c = search needs
 
-get16-requires : tie.Need-get16-requires
-get16-requires c κs = search needs
+shared-slice-read-wide : tie.Need-shared-slice-read-wide
+shared-slice-read-wide c = search needs
+
+wide-requires : tie.Need-wide-requires
+wide-requires c κs = search needs
+
+add-wide : tie.Need-add-wide
+add-wide c = search needs
+
+shared-slice-read-wide-2 : tie.Need-shared-slice-read-wide-2
+shared-slice-read-wide-2 c = search needs
+
+wide-requires-2 : tie.Need-wide-requires-2
+wide-requires-2 c κs = search needs
+
+mul-result : tie.Need-mul-result
+mul-result c = search needs
+
+add-result : tie.Need-add-result
+add-result c = search needs
+
+cast-result : tie.Need-cast-result
+cast-result c = search needs
 
 returns : tie.Need-returns
-unfolding addressOf
-returns c = simp (← (c .before .entry-at .ensures), ← (c .get16 .ensures))
+unfolding addressOf u16At
+returns c = simp (← (c .before .before .before .before .entry-at .ensures)) (omega (arith, c .before .before .wide .ensures, c .wide2 .ensures))
 
 pub entry-address-spec : {M : Type 1} → statement M
-entry-address-spec = tie.close (tie.spec entry-at-requires add-get16 get16-requires returns)
+entry-address-spec =
+    tie.close
+    (tie.spec
+    entry-at-requires
+    add-at
+    shared-slice-read-wide
+    wide-requires
+    add-wide
+    shared-slice-read-wide-2
+    wide-requires-2
+    mul-result
+    add-result
+    cast-result
+    returns)

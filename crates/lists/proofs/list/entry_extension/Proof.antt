@@ -6,20 +6,20 @@ use Rattle.lists.proofs.list.entry_extension.Tie as tie
 entry-at-requires : tie.Need-entry-at-requires
 entry-at-requires c κs = search needs
 
-add-flag : tie.Need-add-flag
-add-flag c = search needs
+add-on : tie.Need-add-on
+add-on c = search needs
 
-flag-requires : tie.Need-flag-requires
-flag-requires c κs = search needs
+on-requires : tie.Need-on-requires
+on-requires c κs = search needs
 
 returns : tie.Need-returns
 unfolding extensionOf
-returns c = simp (c .if1 .taken, ← (c .before .flag .ensures), ← (c .before .before .entry-at .ensures))
+returns c = simp (c .if1 .taken, ← (c .before .on .ensures), ← (c .before .before .entry-at .ensures))
 
 returns-2 : tie.Need-returns-2
 unfolding extensionOf
-returns-2 c = simp (c .if1 .left, ← (c .before .flag .ensures), ← (c .before .before .entry-at .ensures))
+returns-2 c = simp (c .if1 .left, ← (c .before .on .ensures), ← (c .before .before .entry-at .ensures))
 
 pub entry-extension-spec : {M : Type 1} → statement M
 entry-extension-spec =
-    tie.close (tie.spec entry-at-requires add-flag flag-requires returns returns-2)
+    tie.close (tie.spec entry-at-requires add-on on-requires returns returns-2)

@@ -3,37 +3,37 @@ use borrow.Author.Needs.{needs}
 use Rattle.lists.proofs.list.runs.Statement.{statement}
 use Rattle.lists.proofs.list.runs.Tie as tie
 
-flag-requires : tie.Need-flag-requires
-flag-requires c κs = search needs
+on-requires : tie.Need-on-requires
+on-requires c κs = search needs
 
 running-at-requires : tie.Need-running-at-requires
 running-at-requires c κs = search needs
 
-flag-requires-2 : tie.Need-flag-requires-2
-flag-requires-2 c κs = search needs
+on-requires-2 : tie.Need-on-requires-2
+on-requires-2 c κs = search needs
 
 fit-requires : tie.Need-fit-requires
 fit-requires c κs = search needs
 
 returns : tie.Need-returns
 unfolding runsOf
-returns c = simp (c .before .if2 .taken, c .before .before .before .before .if1 .taken, ← (c .fit .ensures), ← (c .before .before .before .running-at .ensures), ← (c .before .before .flag2 .ensures), ← (c .before .before .before .before .before .flag .ensures))
+returns c = simp (c .before .if2 .taken, c .before .before .before .before .if1 .taken, ← (c .fit .ensures), ← (c .before .before .before .running-at .ensures), ← (c .before .before .on2 .ensures), ← (c .before .before .before .before .before .on .ensures))
 
 returns-2 : tie.Need-returns-2
 unfolding runsOf
-returns-2 c = simp (c .if2 .left, c .before .before .before .if1 .taken, ← (c .before .before .running-at .ensures), ← (c .before .flag2 .ensures), ← (c .before .before .before .before .flag .ensures))
+returns-2 c = simp (c .if2 .left, c .before .before .before .if1 .taken, ← (c .before .before .running-at .ensures), ← (c .before .on2 .ensures), ← (c .before .before .before .before .on .ensures))
 
 returns-3 : tie.Need-returns-3
 unfolding runsOf
-returns-3 c = simp (c .if1 .left, ← (c .before .flag .ensures))
+returns-3 c = simp (c .if1 .left, ← (c .before .on .ensures))
 
 pub runs-spec : {M : Type 1} → statement M
 runs-spec =
     tie.close
     (tie.spec
-    flag-requires
+    on-requires
     running-at-requires
-    flag-requires-2
+    on-requires-2
     fit-requires
     returns
     returns-2

@@ -9,11 +9,11 @@ use Rattle.lists.proofs.slots.packet_in.Tie as tie
 running-at-requires : tie.Need-running-at-requires
 running-at-requires c κs = search needs
 
-flag-requires : tie.Need-flag-requires
-flag-requires c κs = search needs
+on-requires : tie.Need-on-requires
+on-requires c κs = search needs
 
 returns : tie.Need-returns
-returns c = sym (never-started (c .before .before .before .before .args .s .now) (c .before .before .before .before .args .l) (simp (← (c .before .before .running-at .ensures)) (sym (c .before .flag .ensures) ∙ not-true (c .before .flag .result) (c .if1 .taken))))
+returns c = sym (never-started (c .before .before .before .before .args .s .now) (c .before .before .before .before .args .l) (simp (← (c .before .before .running-at .ensures)) (sym (c .before .on .ensures) ∙ not-true (c .before .on .result) (c .if1 .taken))))
 
 first-stored-requires : tie.Need-first-stored-requires
 first-stored-requires c κs = search needs
@@ -41,7 +41,7 @@ packet-in-spec =
     tie.close
     (tie.spec
     running-at-requires
-    flag-requires
+    on-requires
     returns
     first-stored-requires
     enum-told

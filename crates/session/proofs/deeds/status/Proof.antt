@@ -1,4 +1,5 @@
 use mathlib.Core.Path.{_∙_}
+use borrow.Author.Tests.{eq-eqb}
 use Rattle.session.specs.Perform.{effect, reply}
 use borrow.Author.Needs.{needs}
 use Rattle.session.proofs.deeds.status.Statement.{statement}
@@ -21,7 +22,7 @@ same-length c = search needs
 
 returns : tie.Need-returns
 unfolding effect reply
-returns c = c .before .before .six .ensures ∙ rw (c .before .before .before .before .before .before .running-bit .ensures, c .before .before .before .before .before .before .before .any-runs .ensures, c .before .before .before .before .mask .ensures)
+returns c = c .before .before .six .ensures ∙ rw (c .before .before .before .before .before .before .running-bit .ensures, c .before .before .before .before .before .before .before .any-runs .ensures, eq-eqb _ _ (c .before .before .before .before .before .before .before .before .before .before .pre), c .before .before .before .before .mask .ensures)
 
 pub status-spec : {M : Type 1} → statement M
 status-spec =

@@ -1,4 +1,5 @@
 use mathlib.Core.Path.{_∙_}
+use borrow.Author.Tests.{eq-eqb}
 use Rattle.session.specs.Perform.{effect, reply}
 use borrow.Author.Needs.{needs}
 use Rattle.session.proofs.list_deeds.start_selected.Statement.{statement}
@@ -15,7 +16,7 @@ same-length c = search needs
 
 returns : tie.Need-returns
 unfolding effect reply
-returns c = c .before .before .ok .ensures ∙ rw (c .before .before .before .before .before .before .start-selected .ensures)
+returns c = c .before .before .ok .ensures ∙ rw (c .before .before .before .before .before .before .start-selected .ensures, eq-eqb _ _ (c .before .before .before .before .before .before .before .before .before .pre))
 
 pub start-selected-spec : {M : Type 1} → statement M
 start-selected-spec = tie.close (tie.spec start-selected-requires ok-requires same-length returns)

@@ -3,14 +3,14 @@ use borrow.Author.Needs.{needs}
 use Rattle.session.proofs.look.clear_list.Statement.{statement}
 use Rattle.session.proofs.look.clear_list.Tie as tie
 
-runs-named-requires : tie.Need-runs-named-requires
-runs-named-requires c κs = search needs
+runs-requires : tie.Need-runs-requires
+runs-requires c κs = search needs
 
 clear-list-requires : tie.Need-clear-list-requires
 clear-list-requires c κs = search needs
 
 returns : tie.Need-returns
-returns c = c .clear-list .ensures ∙ rw (c .before .runs-named .ensures)
+returns c = c .clear-list .ensures ∙ rw (c .before .runs .ensures)
 
 pub clear-list-spec : {M : Type 1} → statement M
-clear-list-spec = tie.close (tie.spec runs-named-requires clear-list-requires returns)
+clear-list-spec = tie.close (tie.spec runs-requires clear-list-requires returns)

@@ -15,9 +15,6 @@ cast-list-of c = search needs
 list-of-requires : tie.Need-list-of-requires
 list-of-requires c κs = search needs
 
-cast-runs : tie.Need-cast-runs
-cast-runs c = search needs
-
 runs-requires : tie.Need-runs-requires
 runs-requires c κs = search needs
 
@@ -35,7 +32,6 @@ pointed-runs-spec =
     enum-known-pointer
     cast-list-of
     list-of-requires
-    cast-runs
     runs-requires
     returns
     returns-2)

@@ -3,14 +3,14 @@ use borrow.Author.Needs.{needs}
 use Rattle.session.proofs.look.set_mode.Statement.{statement}
 use Rattle.session.proofs.look.set_mode.Tie as tie
 
-runs-named-requires : tie.Need-runs-named-requires
-runs-named-requires c κs = search needs
+runs-requires : tie.Need-runs-requires
+runs-requires c κs = search needs
 
 set-mode-requires : tie.Need-set-mode-requires
 set-mode-requires c κs = search needs
 
 returns : tie.Need-returns
-returns c = c .set-mode .ensures ∙ rw (c .before .runs-named .ensures)
+returns c = c .set-mode .ensures ∙ rw (c .before .runs .ensures)
 
 pub set-mode-spec : {M : Type 1} → statement M
-set-mode-spec = tie.close (tie.spec runs-named-requires set-mode-requires returns)
+set-mode-spec = tie.close (tie.spec runs-requires set-mode-requires returns)

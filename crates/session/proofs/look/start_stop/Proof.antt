@@ -11,17 +11,17 @@ start-stop-requires c κs = search needs
 returns : tie.Need-returns
 returns c = c .start-stop .ensures ∙ start-asks _ _ _ _ _ _ (ne-eqb _ _ (c .before .if1 .taken))
 
-runs-named-requires : tie.Need-runs-named-requires
-runs-named-requires c κs = search needs
+runs-requires : tie.Need-runs-requires
+runs-requires c κs = search needs
 
-fits-named-requires : tie.Need-fits-named-requires
-fits-named-requires c κs = search needs
+fits-requires : tie.Need-fits-requires
+fits-requires c κs = search needs
 
 start-stop-requires-2 : tie.Need-start-stop-requires-2
 start-stop-requires-2 c κs = search needs
 
 returns-2 : tie.Need-returns-2
-returns-2 c = c .start-stop2 .ensures ∙ rw (c .before .before .runs-named .ensures, c .before .fits-named .ensures)
+returns-2 c = c .start-stop2 .ensures ∙ rw (c .before .before .runs .ensures, c .before .fits2 .ensures)
 
 pub start-stop-spec : {M : Type 1} → statement M
 start-stop-spec =
@@ -29,7 +29,7 @@ start-stop-spec =
     (tie.spec
     start-stop-requires
     returns
-    runs-named-requires
-    fits-named-requires
+    runs-requires
+    fits-requires
     start-stop-requires-2
     returns-2)
