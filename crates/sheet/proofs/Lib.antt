@@ -1,5 +1,2 @@
--- Laws that the functions' proofs cite, and that a step's line is used up.
-pub mod Choices
-pub mod Lists
-pub mod Spelled
-pub mod Used
+-- Laws that the functions' proofs cite.
+pub mod Places

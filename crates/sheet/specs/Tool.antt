@@ -3,8 +3,8 @@ use Prim.Native.Nat.{ℕ, _+_, _%_}
 use mathlib.Core.Bool.{Bool, true, false, cond}
 use lib.Dec.{eqb}
 use Rattle.sheet.specs.declared.tool.Tool.{Tool}
-use Rattle.sheet.specs.declared.turn.Case.{Case}
-use Rattle.sheet.specs.declared.turn.Case.the-variants.{Closed, Titled, Stepped}
+use Rattle.syntax.specs.declared.Case.{Case}
+use Rattle.syntax.specs.declared.Case.the-variants.{Closed, Titled, Stepped}
 
 -- a count of 32 bits
 abbrev pub oneMore : ℕ → ℕ

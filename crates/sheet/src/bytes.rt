@@ -1,9 +1,8 @@
-// Parts of bytes, and the numbers in them.
-ghost use Prim.Native.Nat.{_+_, _*_, _≤_, _<_};
+// Parts of bytes, and places in them.
+ghost use Prim.Native.Nat.{_+_, _≤_};
 ghost use mathlib.Core.Path.{_≡_};
-ghost use lib.ListN.{length, getD, drop};
-ghost use Rattle.line.specs.Message.{room};
-ghost use Rattle.sheet.specs.Bytes.{leastOf, partOf, before, wordAt, longAt};
+ghost use lib.ListN.{length, drop};
+ghost use Rattle.sheet.specs.Bytes.{leastOf, partOf, before};
 use line::ROOM;
 
 pub fn least(a: usize, b: usize) -> usize
@@ -41,27 +40,4 @@ pub fn find(bytes: &[u8], from: usize, byte: u8) -> usize
         at += 1;
     }
     at
-}
-
-// The byte at a place, and 0 past the end.
-pub fn byte(bytes: &[u8], at: usize) -> u8
-    ensures { λ r. ⌜ r ≡ getD (now (bytes .entry)) at 0 ⌝ }
-{
-    if at < bytes.len() { bytes[at] } else { 0 }
-}
-
-// The number in two bytes.
-pub fn word(bytes: &[u8], at: usize) -> u16
-    requires { ⌜ at < room ⌝ }
-    ensures { λ r. ⌜ r ≡ wordAt (now (bytes .entry)) at ⌝ }
-{
-    byte(bytes, at) as u16 + 256 * (byte(bytes, at + 1) as u16)
-}
-
-// The number in four bytes.
-pub fn long(bytes: &[u8], at: usize) -> u32
-    requires { ⌜ at + 2 < room ⌝ }
-    ensures { λ r. ⌜ r ≡ longAt (now (bytes .entry)) at ⌝ }
-{
-    word(bytes, at) as u32 + 65536 * (word(bytes, at + 2) as u32)
 }

@@ -1,17 +1,13 @@
 // Runs a bench sheet against the slave, as a tool at the other end of the wire would. The sheet
 // comes by standard input; for each step it prints what came, and whether that was expected.
 mod bytes;
-mod fault;
-mod form;
-mod hex;
 mod keys;
 mod run;
-mod show;
 mod steps;
 mod tool;
-mod turn;
 mod wire;
 
+use report::fault;
 use session::STATE_SIZE;
 
 fn main() {

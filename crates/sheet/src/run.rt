@@ -1,17 +1,14 @@
 // Runs a sheet, line by line, up to the first that is wrong.
 use crate::bytes;
-use crate::fault;
-use crate::form;
-use crate::form::Line;
-use crate::form::Step;
-use crate::hex;
-use crate::show;
 use crate::steps;
 use crate::tool::Tool;
-use crate::turn;
-use crate::turn::Turn;
 use line::ROOM;
+use report::fault;
+use report::show;
 use session::STATE_SIZE;
+use syntax::Line;
+use syntax::Step;
+use syntax::Turn;
 
 // A step with n bytes, and m to expect.
 fn run_step(
@@ -24,22 +21,19 @@ fn run_step(
     cal: &mut [u8; 4096],
     meas: &mut [u8; 4096],
 ) -> Tool {
-    let count = bytes::least(n, ROOM);
-    let expect = bytes::least(m, ROOM);
     let mut first = [0; ROOM];
     let mut second = [0; ROOM];
-    hex::list(text, form::BYTES, count, &mut first);
-    let at = form::first_end(step, text, count);
-    hex::list(text, at + form::SIGN, expect, &mut second);
-    let bytes = bytes::front(&first, count);
-    let expected = bytes::front(&second, expect);
+    syntax::bytes(text, n, &mut first);
+    syntax::expected(step, text, m, &mut second);
+    let bytes = bytes::front(&first, n);
+    let expected = bytes::front(&second, m);
     match step {
         Step::PowerUp => steps::power_up(bytes, was, state),
         Step::Measured => {
             steps::measured(bytes, meas);
             was
         }
-        Step::Wire => steps::wire(&first, count, expected, was, state, cal, meas),
+        Step::Wire => steps::wire(&first, n, expected, was, state, cal, meas),
         Step::Command => steps::command(bytes, expected, was, state, cal, meas),
         Step::Slot => steps::slot(bytes, expected, was, state),
         Step::Unlock => steps::unlock(bytes, expected, was, state, cal, meas),
@@ -50,7 +44,7 @@ fn run_step(
 
 fn print_name(text: &[u8]) {
     show::print(b"  ");
-    show::print(bytes::part(text, form::NAME, form::BYTES - form::NAME));
+    show::print(bytes::part(text, syntax::NAME, syntax::BYTES - syntax::NAME));
 }
 
 fn end_case(was: Tool) -> Tool {
@@ -71,7 +65,7 @@ fn run_turn(
     match turn {
         Turn::Pass => was,
         Turn::Begin => {
-            show::print(bytes::part(text, form::NAME, text.len()));
+            show::print(bytes::part(text, syntax::NAME, text.len()));
             show::print(b"\n");
             was.begun()
         }
@@ -98,7 +92,7 @@ fn run_line(
 ) -> Tool {
     let now = was.next_line();
     let case = now.case;
-    let turn = turn::turn_of(case, form::line_of(text), now.line);
+    let turn = syntax::turn_of(case, syntax::line_of(text), now.line);
     run_turn(turn, text, now, state, cal, meas)
 }
 
@@ -146,6 +140,6 @@ pub fn run(text: &[u8], state: &mut [u8; STATE_SIZE], cal: &mut [u8; 4096], meas
     }
     // The sheet's end ends a case, as an empty line does.
     let case = tool.case;
-    let turn = turn::turn_of(case, Line::Empty, tool.line);
+    let turn = syntax::turn_of(case, Line::Empty, tool.line);
     finish(run_turn(turn, b"", tool, state, cal, meas));
 }

@@ -1,25 +1,29 @@
 // What the steps of a sheet do. Each prints what came, and hands the tool on with its verdict.
 ghost use mathlib.Core.Path.{_≡_};
 ghost use lib.ListN.{length};
-ghost use Rattle.sheet.specs.Bytes.{partOf, wordAt, storedIn};
+ghost use Rattle.state.specs.Bytes.{u16At};
+ghost use Rattle.sheet.specs.Bytes.{partOf, storedIn};
 use crate::bytes;
 use crate::keys;
-use crate::show;
 use crate::tool::Tool;
 use crate::wire;
 use line::LONGEST;
 use line::MOST;
 use line::ROOM;
+use report::show;
 use session::STATE_SIZE;
+use state::bytes::get;
+use state::bytes::get16;
+use state::bytes::get32;
+use state::layout::ADDRESSABLE;
+use state::seeds::key_for;
 use words::Evented;
-
-const MEMORY: usize = 4096;
 
 // Power-up: the start number, four bytes.
 pub fn power_up(bytes: &[u8], was: Tool, state: &mut [u8; STATE_SIZE]) -> Tool {
     show::print_bytes(bytes);
     // Done, as the state has its size.
-    session::power_up(state, bytes::long(bytes, 0));
+    session::power_up(state, get32(bytes, 0));
     let mut now = was;
     now.ctr = 0;
     now
@@ -27,13 +31,13 @@ pub fn power_up(bytes: &[u8], was: Tool, state: &mut [u8; STATE_SIZE]) -> Tool {
 
 // Measured bytes: their place, two bytes, and they.
 pub fn measured(bytes: &[u8], meas: &mut [u8; 4096])
-    ensures { λ _. ⌜ now (meas .exit) ≡ storedIn (now (meas .entry)) (wordAt (now (bytes .entry)) 0) (partOf (now (bytes .entry)) 2 (length (now (bytes .entry)))) ⌝ }
+    ensures { λ _. ⌜ now (meas .exit) ≡ storedIn (now (meas .entry)) (u16At (now (bytes .entry)) 0) (partOf (now (bytes .entry)) 2 (length (now (bytes .entry)))) ⌝ }
 {
     show::print_bytes(bytes);
     set(
         bytes::part(bytes, 2, bytes.len()),
         meas,
-        bytes::word(bytes, 0) as usize,
+        get16(bytes, 0) as usize,
     );
 }
 
@@ -41,8 +45,8 @@ pub fn measured(bytes: &[u8], meas: &mut [u8; 4096])
 fn set(bytes: &[u8], meas: &mut [u8; 4096], at: usize)
     ensures { λ _. ⌜ now (meas .exit) ≡ storedIn (now (meas .entry)) at (now (bytes .entry)) ⌝ }
 {
-    let from = bytes::least(at, MEMORY);
-    let count = bytes::least(bytes.len(), MEMORY - from);
+    let from = bytes::least(at, ADDRESSABLE);
+    let count = bytes::least(bytes.len(), ADDRESSABLE - from);
     let mut i = 0;
     while i < count {
         meas[from + i] = bytes[i];
@@ -103,7 +107,7 @@ pub fn slot(
     let good = show::check(packet, expected);
     let good_frame = show::on_the_wire(bytes::front(&frame, size), frame_expected);
     let mut now = was.judged(good & good_frame);
-    now.seed = bytes::long(packet, 2);
+    now.seed = get32(packet, 2);
     now
 }
 
@@ -116,13 +120,18 @@ pub fn unlock(
     cal: &mut [u8; 4096],
     meas: &[u8; 4096],
 ) -> Tool {
-    let key = keys::key_for(keys::resource(bytes::byte(bytes, 0)), was.seed);
-    let packet = keys::unlock(key);
+    let key = key_for(keys::resource(get(bytes, 0)), was.seed);
+    let good = check_key(key, expected);
+    command(&keys::unlock(key), b"", was.judged(good), state, cal, meas)
+}
+
+fn check_key(key: u32, expected: &[u8]) -> bool {
+    let bytes = keys::bytes(key);
     show::print(b"key ");
-    show::print_bytes(&packet[2..]);
-    let good = show::check(&packet[2..], expected);
+    show::print_bytes(&bytes);
+    let good = show::check(&bytes, expected);
     show::print(b"\n    the command               ");
-    command(&packet, b"", was.judged(good), state, cal, meas)
+    good
 }
 
 // A command as often as the first byte says, and the answer that is to come each time.
@@ -134,7 +143,7 @@ pub fn repeat(
     cal: &mut [u8; 4096],
     meas: &[u8; 4096],
 ) -> Tool {
-    let times = bytes::byte(bytes, 0);
+    let times = get(bytes, 0);
     let command = bytes::part(bytes, 1, MOST);
     show::print_bytes(command);
     show::print(b"\n    times                     ");
@@ -157,8 +166,8 @@ pub fn event(
 ) -> Tool {
     show::print_bytes(bytes);
     show::print(b"\n    sampled, missed           ");
-    let number = bytes::byte(bytes, 0) as u32;
-    let evented = session::event(state, cal, meas, number, bytes::word(bytes, 1));
+    let number = get(bytes, 0) as u32;
+    let evented = session::event(state, cal, meas, number, get16(bytes, 1));
     was.judged(counted(evented, expected))
 }
 

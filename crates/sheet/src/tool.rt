@@ -1,7 +1,7 @@
 // What the tool keeps from one line of the sheet to the next.
 ghost use mathlib.Core.Path.{_≡_};
 ghost use Rattle.sheet.specs.Tool.{oneMore, firstOf, differing, fresh, nextLine, judgedOf, sentOf, placedIn, begunOf, steppedOf, endedOf, stoppedOf};
-use crate::turn::Case;
+use syntax::Case;
 
 pub struct Tool {
     // Of its next message.

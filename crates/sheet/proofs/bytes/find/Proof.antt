@@ -5,7 +5,7 @@ use Prim.Native.Nat.{_≤_, _+_, _-_}
 use lib.ListN.{length, drop}
 use Rattle.sheet.specs.Bytes.{before}
 use borrow.Author.Needs.{needs}
-use Rattle.sheet.proofs.Lists.{before-here, before-next, before-end}
+use Rattle.sheet.proofs.Places.{before-here, before-next, before-end}
 use Rattle.sheet.proofs.bytes.find.Statement.{statement}
 use Rattle.sheet.proofs.bytes.find.Tie as tie
 

@@ -9,8 +9,8 @@ print-bytes-requires c κs = search needs
 part-requires : tie.Need-part-requires
 part-requires c κs = search needs
 
-word-requires : tie.Need-word-requires
-word-requires c κs = search needs
+get16-requires : tie.Need-get16-requires
+get16-requires c κs = search needs
 
 cast-set : tie.Need-cast-set
 cast-set c = search needs
@@ -19,9 +19,9 @@ set-requires : tie.Need-set-requires
 set-requires c κs = search needs
 
 returns : tie.Need-returns
-returns c = c .set .ensures ∙ rw (c .before .before .before .part .ensures, c .before .word .ensures)
+returns c = c .set .ensures ∙ rw (c .before .before .before .part .ensures, c .before .get16 .ensures)
 
 pub measured-spec : {M : Type 1} → statement M
 measured-spec =
     tie.close
-    (tie.spec print-bytes-requires part-requires word-requires cast-set set-requires returns)
+    (tie.spec print-bytes-requires part-requires get16-requires cast-set set-requires returns)

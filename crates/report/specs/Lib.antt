@@ -1,0 +1,2 @@
+-- What a verdict says.
+pub mod Verdict

@@ -1,0 +1,82 @@
+// What is said of a sheet that is wrong: `bad` on standard output, and on standard error where it is wrong, and what.
+use syntax::Fault;
+use syntax::Step;
+
+fn tell(text: &[u8]) {
+    io::write_all(2, text);
+}
+
+fn say_bad() {
+    io::write_all(1, b"bad\n");
+}
+
+fn tell_step(step: Step) {
+    match step {
+        Step::PowerUp => tell(b"P takes 4 bytes, and none to expect"),
+        Step::Measured => tell(
+            b"M takes a place of 2 bytes and bytes that lie below 4,096 from there on, and none to expect",
+        ),
+        Step::Wire => tell(b"W takes wire bytes, and after = a number to expect for each"),
+        Step::Command => tell(b"> takes a command of 1 to 8 bytes"),
+        Step::Slot => tell(b"< takes a packet of 1 to 8 bytes, or - alone"),
+        Step::Unlock => tell(b"U takes 01 or 04, and after = the 4 bytes of the key to expect"),
+        Step::Repeat => tell(
+            b"R takes how often, from 01 on, and a command of 1 to 8 bytes, and after = the answer to expect, of 1 to 8 bytes",
+        ),
+        Step::Event => tell(
+            b"E takes a number and 2 bytes of clock, and after = the lists to sample and the lists to miss it, or the number of a refusal",
+        ),
+    }
+}
+
+fn tell_fault(fault: Fault) {
+    match fault {
+        Fault::Sign => tell(
+            b"only printable ASCII can stand in a sheet, no tab and no carriage return",
+        ),
+        Fault::Kind => tell(
+            b"neither a step (P M W > < U R E and a space), nor a title (# and a space), nor empty",
+        ),
+        Fault::Name => tell(
+            b"a step's name ends here with a space, and its bytes begin in the next column",
+        ),
+        Fault::Hex => tell(
+            b"from here on not used: bytes are two capital hex digits, one space between, at most 23, with ' = ' before those to expect",
+        ),
+        Fault::Bytes(step) => tell_step(step),
+        Fault::Expected(step) => tell_step(step),
+        Fault::Stepless => tell(b"a case without a step"),
+        Fault::Unended => tell(b"a title inside a case: an empty line ends a case"),
+        Fault::Untitled => tell(
+            b"a step outside a case: a case begins with a title (# and a space)",
+        ),
+    }
+}
+
+// A line that is wrong, and at which place of it.
+pub fn say(fault: Fault, line: u32, at: usize) {
+    say_bad();
+    tell(b"sheet: line ");
+    io::print_decimal(2, line as u64);
+    tell(b", column ");
+    io::print_decimal(2, std::num::wrapping_add_u64(at as u64, 1));
+    tell(b": ");
+    tell_fault(fault);
+    tell(b"\n");
+}
+
+pub fn say_too_long() {
+    say_bad();
+    tell(b"sheet: it has more than 65,535 bytes and was not run\n");
+}
+
+pub fn say_no_step() {
+    say_bad();
+    tell(b"sheet: it has no step\n");
+}
+
+pub fn tell_first(line: u32) {
+    tell(b"sheet: line ");
+    io::print_decimal(2, line as u64);
+    tell(b" was the first that came out different\n");
+}
