@@ -2,6 +2,7 @@
 pub mod Sets
 pub mod Sums
 pub mod Rotated
+pub mod Xorshift
 pub mod Inside
 pub mod Pointers
 pub mod Consistent
