@@ -5,6 +5,7 @@ use Rattle.demands.proofs.Received.{received-by}
 use Rattle.demands.proofs.Numbering.{power-up-is, frames-numbered, frames-from-power-up}
 use Rattle.demands.proofs.Sends.{slot-is, slot-reads-back, slot-past}
 use Rattle.demands.proofs.Locks.{locked-keeps, unlocks-own}
+use Rattle.demands.proofs.Keys.{seed-opens}
 use Rattle.demands.proofs.Cut.{cut, cutEvent}
 use Rattle.demands.proofs.Downloads.{gives-back}
 use Rattle.demands.proofs.Events.{counts, samples, stores, others, storesOnly}
@@ -24,6 +25,7 @@ demand2 =
       cutEvent = cutEvent;
       givesBack = gives-back;
       unlocks = unlocks-own;
+      seedOpens = seed-opens;
       counts = counts;
       samples = samples;
       stores = stores;

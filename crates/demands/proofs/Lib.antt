@@ -25,6 +25,7 @@ pub mod Deeds
 pub mod ByteKeeps
 pub mod Numbering
 pub mod Locks
+pub mod Keys
 pub mod Downloads
 pub mod CutJudge
 pub mod Cut

@@ -1,9 +1,10 @@
 -- What it does on the wire and in memory is what XCP and its SxI transport say, with our choices in document 01. Bytes are read by those rules, and
 -- what it sends reads back by the same rules as the very packet meant. While calibration is locked no calibration byte changes.
-use Prim.Native.Nat.{ℕ, zero, suc, _+_, _*_, _%_, _≤_, _<_}
+use Prim.Native.Nat.{ℕ, zero, suc, _+_, _*_, _%_, _^_, _≤_, _<_}
 use mathlib.Core.Path.{_≡_}
 use mathlib.Core.Logic.{_≢_}
 use mathlib.Core.Bool.{Bool, true, false, cond}
+use mathlib.Core.Option.{none}
 use mathlib.Core.List.{List, [], _∷_, _++_}
 use lib.Dec.{ltb}
 use lib.ListN.{length, getD, take, drop}
@@ -12,8 +13,8 @@ use Rattle.line.specs.Run as line
 use Rattle.line.specs.Wire.{heard}
 use Rattle.line.specs.declared.Place.{Place}
 use Rattle.state.specs.Layout.{lists, odts, addressable, sampleSize, sampleAt, firstOdt, size}
-use Rattle.state.specs.Bytes.{block}
-use Rattle.state.specs.State.{consistent, ctrOf, openOf, unlockedOf, seedOf, mtaOf, answerOf}
+use Rattle.state.specs.Bytes.{block, bytes32, u32At}
+use Rattle.state.specs.State.{consistent, generatorOf, ctrOf, openOf, unlockedOf, bitOf, seedOf, mtaOf, answerOf}
 use Rattle.session.specs.Receive.{Step, fedOf, receivedBy}
 use Rattle.lists.specs.Event.{samplingOf, captured}
 use Rattle.lists.specs.Slot.{turnOf, sentBy}
@@ -27,8 +28,8 @@ use Rattle.words.specs.declared.Seed.the-variants.{For}
 use Rattle.lists.specs.declared.Sampling.the-variants.{Sampled}
 use Rattle.words.specs.declared.Evented.the-variants.{Done}
 use Rattle.demands.specs.Slave.{Slave}
-use Rattle.demands.specs.Runs.{Call, Byte, Event, Slot, Elsewhere, sends, each, frames}
-use Rattle.demands.specs.Heard.{Commands, bringsKey, keyMatches}
+use Rattle.demands.specs.Runs.{Call, Byte, Event, Slot, Elsewhere, after, run, sends, each, frames}
+use Rattle.demands.specs.Heard.{Commands, doneAt, bringsKey, keyMatches}
 use Rattle.demands.specs.Waiting.{AllBut, waitingOf, packetFor, sampleOf, isSampled, isMissed}
 
 -- the packets that are to go, slot by slot: with room enough, that of whose turn it is
@@ -79,6 +80,36 @@ abbrev pub otherLock : Resource → Resource
 otherLock Calibration = Lists
 otherLock Lists = Calibration
 
+-- ---- the key to a seed, as the bytes on the wire: the number of the resource is added to the seed, and of the four bytes of the sum the last goes first
+abbrev pub keyNumber : Resource → ℕ
+keyNumber Calibration = 0x0000D05E
+keyNumber Lists = 0x0000DA00
+
+abbrev pub lastFirst : List ℕ → List ℕ
+lastFirst bs = drop 3 bs ++ take 3 bs
+
+abbrev pub keyTo : Resource → List ℕ → List ℕ
+keyTo r seed = lastFirst (bytes32 ((u32At seed 0 + keyNumber r) % 2 ^ 32))
+
+-- in no call of the run a command is done
+abbrev pub Uncommanded : Slave → List ℕ → List Call → Type 0
+Uncommanded v s [] = Unit {0}
+Uncommanded v s (Byte cal meas b ∷ cs) = (doneAt s cal meas b ≡ none) × Uncommanded v (after v s (Byte cal meas b)) cs
+Uncommanded v s (Event cal meas event clock ∷ cs) = Uncommanded v (after v s (Event cal meas event clock)) cs
+Uncommanded v s (Slot out ∷ cs) = Uncommanded v (after v s (Slot out)) cs
+Uncommanded v s (Elsewhere ∷ cs) = Uncommanded v s cs
+
+-- GET_SEED has led from state s to t: four bytes are the answer's seed, and UNLOCK with the key to them, the next command whenever it comes, opens the
+-- lock of r and leaves the other
+pub record SeedOpens (v : Slave) (r : Resource) (s t : List ℕ) : Type 0 where
+  pub seed : List ℕ
+  pub four : length seed ≡ 4
+  pub answer : answerOf t ≡ 0xFF ∷ 0x04 ∷ seed
+  pub opens : (between : List Call) (cal meas : List ℕ) (b : ℕ) (p : List ℕ) → Uncommanded v t between
+      → Commands (run v t between) b p → take 6 p ≡ 0xF7 ∷ 0x04 ∷ keyTo r seed
+      → (unlockedOf (v .receive (run v t between) cal meas b .state) r ≡ true)
+      × (unlockedOf (v .receive (run v t between) cal meas b .state) (otherLock r) ≡ unlockedOf s (otherLock r))
+
 -- the bytes in which a list's packets are stored
 abbrev pub storeSize : ℕ
 storeSize = odts * sampleSize
@@ -118,6 +149,9 @@ pub record Demand2 (v : Slave) : Type 0 where
       → Commands s b p → seedOf s ≡ For r → bringsKey p ≡ true → keyMatches p r s ≡ true
       → (unlockedOf (v .receive s cal meas b .state) r ≡ true)
       × (unlockedOf (v .receive s cal meas b .state) (otherLock r) ≡ unlockedOf s (otherLock r))
+  -- GET_SEED of a locked resource gives a seed, whatever the generator, and the key to that seed opens that lock
+  pub seedOpens : (s cal meas : List ℕ) (b : ℕ) (p : List ℕ) (r : Resource) → consistent s ≡ true → generatorOf s < 2 ^ 32
+      → Commands s b p → take 3 p ≡ 0xF8 ∷ 0x00 ∷ bitOf r ∷ [] → unlockedOf s r ≡ false → SeedOpens v r s (v .receive s cal meas b .state)
   -- an event samples the lists that run on it and have no unsent packet, and misses those that have one; exactly these are counted
   pub counts : (s cal meas : List ℕ) (event clock : ℕ) → consistent s ≡ true → event ≤ 1
       → v .event s cal meas event clock .evented ≡ Done (howMany (λ l. isSampled (samplingOf s l event)) lists) (howMany (λ l. isMissed (samplingOf s l event)) lists)
