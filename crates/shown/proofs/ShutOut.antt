@@ -22,14 +22,14 @@ use Rattle.words.specs.declared.Resource.the-variants.{Calibration}
 use Rattle.words.specs.declared.Extension.the-variants.{Calibration as CalibrationMemory}
 use Rattle.words.specs.declared.Mta.{Mta}
 use Rattle.words.specs.declared.Mta.the-variants.{At}
-use Rattle.demands.specs.Slave.{Slave, ours}
+use Rattle.demands.specs.Slave.{Slave}
 use Rattle.demands.specs.Runs.{Byte, Event, Slot}
 use Rattle.demands.specs.Heard.{packetEnded}
 use Rattle.demands.specs.Waiting.{packetFor}
 use Rattle.demands.specs.Demand1.{Demand1}
 use Rattle.demands.specs.Demand2.{Demand2, ReadsBack}
 use Rattle.demands.specs.Demand3.{Demand3}
-use Rattle.shown.specs.Wrong.{refusesAlways, silent, alwaysFF, storesNothing, obeysDamaged, allAtOnce, upTo, sumsEscaped, neverSamples, inventsCounts, movesAfterRefusal, readsLate, rereadEach, opensBoth}
+use Rattle.shown.specs.Wrong.{refusesAlways, silent, onlyConnects, alwaysFF, storesNothing, obeysDamaged, readsEscaped, allAtOnce, upTo, sumsEscaped, neverSamples, inventsCounts, inventsMissed, movesAfterRefusal, readsLate, rereadEach, opensBoth}
 use Rattle.shown.specs.Exchange.{slot, says, asks, askAll, begun, lastByte, reached, connect, synch, seedOfCalibration, keyOfCalibration, upload, uploadFirst, downloadOne, downloading, uploading, measuring}
 use Rattle.shown.proofs.Computed.{computed}
 
@@ -40,11 +40,19 @@ refusesAlways-fails d =
     let e : _≡_ {A = ℕ} 0xFE 0xFF = ap (λ o. getD (answerOf (o .state)) 0 0) (d .reads (reached refusesAlways (begun [] [] connect)) [] [] (lastByte connect) refl)
     in omega arith
 
--- in a session, SYNCH is not answered
+-- CONNECT is answered, and SYNCH is not
 pub silent-fails : Demand3 silent → ⊥
 unfolding computed
 silent-fails d =
-    let e : _≡_ {A = ℕ} 2 1 = ap receivedNumber (d .answered (reached ours (asks [] [] connect)) (begun [] [] synch) [] [] (lastByte synch) [] 0 synch refl (lit≤ tt) (lit≤ tt) refl refl refl .number)
+    let e : _≡_ {A = ℕ} 2 1 = ap receivedNumber (d .answered (reached silent (asks [] [] connect)) (begun [] [] synch) [] [] (lastByte synch) [] 0 synch refl (lit≤ tt) (lit≤ tt) refl refl refl .number)
+    in omega arith
+
+-- CONNECT is answered, and GET_SEED refused: no lock opens, so that case 8 is out of reach
+pub onlyConnects-fails : Demand2 onlyConnects → ⊥
+unfolding computed
+onlyConnects-fails d =
+    let s : List ℕ = reached onlyConnects (asks [] [] connect ++ begun [] [] seedOfCalibration) in
+    let e : _≡_ {A = ℕ} 0xFE 0xFF = ap (λ a. getD a 0 0) (d .seedOpens s [] [] (lastByte seedOfCalibration) seedOfCalibration Calibration refl (lit< tt) (record { ends = refl; opened = refl; free = refl }) refl refl .answer)
     in omega arith
 
 -- CONNECT with a checksum one too high is answered
@@ -52,6 +60,19 @@ pub obeysDamaged-fails : Demand2 obeysDamaged → ⊥
 unfolding computed
 obeysDamaged-fails d =
     let e : _≡_ {A = ℕ} 1 5 = ap (λ o. receivedNumber (o .received)) (d .reads (reached obeysDamaged (begun [] [] connect)) [] [] (lastByte connect + 1) refl) in omega arith
+
+-- CONNECT with one byte more, 9A: its checksum is 9C, and 9E over escaped bytes; the one is refused, the other heeded
+pub readsEscaped-fails : Demand2 readsEscaped → ⊥
+unfolding computed
+readsEscaped-fails d =
+    let s : List ℕ = reached readsEscaped (begun [] [] (0xFF ∷ 0 ∷ 0x9A ∷ [])) in
+    let right : _≡_ {A = ℕ} 5 1 = ap (λ o. receivedNumber (o .received)) (d .reads s [] [] 0x9C refl) in omega arith
+
+pub readsEscaped-heeds : Demand2 readsEscaped → ⊥
+unfolding computed
+readsEscaped-heeds d =
+    let s : List ℕ = reached readsEscaped (begun [] [] (0xFF ∷ 0 ∷ 0x9A ∷ [])) in
+    let wrong : _≡_ {A = ℕ} 1 5 = ap (λ o. receivedNumber (o .received)) (d .reads s [] [] 0x9E refl) in omega arith
 
 -- ---- UPLOAD after DOWNLOAD
 -- how a state stands at a byte, and what two commands come to, the second with the memory that the first left
@@ -115,7 +136,7 @@ storesNothing-fails d =
 pub allAtOnce-fails : Demand2 allAtOnce → ⊥
 unfolding computed upTo
 allAtOnce-fails d =
-    let e : _≡_ {A = ℕ} 19 7 = ap (λ fs. length (getD fs 0 [])) (d .numbers (reached ours (measuring (5 ∷ []))) (Event [] (5 ∷ []) 0 0 ∷ Slot (replicate 46 0) ∷ []) refl (lit< tt)) in omega arith
+    let e : _≡_ {A = ℕ} 19 7 = ap (λ fs. length (getD fs 0 [])) (d .numbers (reached allAtOnce (measuring (5 ∷ []))) (Event [] (5 ∷ []) 0 0 ∷ Slot (replicate 46 0) ∷ []) refl (lit< tt)) in omega arith
 
 -- a frame that reads back carries the packet whose turn it was
 read-back : (f s p : List ℕ) → packetFor (turnOf s) s ≡ p ∷ [] → ReadsBack (f ∷ []) s → line.run Outside (replicate longest 0) f ≡ heard Outside (replicate longest 0) (ctrOf s) p
@@ -133,12 +154,17 @@ sumsEscaped-fails d =
 pub neverSamples-fails : Demand2 neverSamples → ⊥
 unfolding computed
 neverSamples-fails d =
-    let e : _≡_ {A = ℕ} 0 2 = ap length (d .samples (reached ours (measuring (5 ∷ []))) [] (5 ∷ []) 0 0 0 refl (lit≤ tt) (lit< tt) refl) in omega arith
+    let e : _≡_ {A = ℕ} 0 2 = ap length (d .samples (reached neverSamples (measuring (5 ∷ []))) [] (5 ∷ []) 0 0 0 refl (lit≤ tt) (lit< tt) refl) in omega arith
 
 -- no list runs, and one is said to be sampled
 pub inventsCounts-fails : Demand2 inventsCounts → ⊥
 unfolding computed
 inventsCounts-fails d = let e : _≡_ {A = ℕ} 256 0 = ap eventedValue (d .counts (powered 1) [] [] 0 0 refl (lit≤ tt)) in omega arith
+
+-- and one missed
+pub inventsMissed-fails : Demand2 inventsMissed → ⊥
+unfolding computed
+inventsMissed-fails d = let e : _≡_ {A = ℕ} 1 0 = ap eventedValue (d .counts (powered 1) [] [] 0 0 refl (lit≤ tt)) in omega arith
 
 -- ---- slips
 -- refused for want of memory, UPLOAD of 1 moves the MTA from 0 to 1
@@ -152,7 +178,7 @@ movesAfterRefusal-fails d =
 pub readsLate-fails : Demand3 readsLate → ⊥
 unfolding computed rereadEach
 readsLate-fails d =
-    let e : _≡_ {A = ℕ} 6 5 = ap (λ ps. getD (getD ps 1 []) 1 0) (d .sampled (reached ours (measuring (5 ∷ []))) [] (5 ∷ []) 0 0 0 (Byte [] (6 ∷ []) 0 ∷ replicate 16 slot) refl (lit≤ tt) (lit< tt) refl (refl, tt) (lit≤ tt) .1)
+    let e : _≡_ {A = ℕ} 6 5 = ap (λ ps. getD (getD ps 1 []) 1 0) (d .sampled (reached readsLate (measuring (5 ∷ []))) [] (5 ∷ []) 0 0 0 (Byte [] (6 ∷ []) 0 ∷ replicate 16 slot) refl (lit≤ tt) (lit< tt) refl (refl, tt) (lit≤ tt) .1)
     in omega arith
 
 -- the key to calibration unlocks lists

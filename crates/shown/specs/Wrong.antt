@@ -1,6 +1,6 @@
 -- Wrong slaves, to be shut out by name: each is ours but for one thing.
 use Prim.Native.Nat.{ℕ, zero, suc, _+_, _%_}
-use mathlib.Core.Bool.{cond}
+use mathlib.Core.Bool.{Bool, true, cond}
 use mathlib.Core.Option.{Option, none, some}
 use mathlib.Core.List.{List, [], _∷_, _++_}
 use lib.Dec.{eqb, ltb}
@@ -10,9 +10,9 @@ use Rattle.line.specs.Message.{sum}
 use Rattle.line.specs.Writer.{atFront}
 use Rattle.line.specs.Number.{outcomeNumber}
 use Rattle.state.specs.Layout.{lists, calibrationAt, listsAt, firstOdt, entryCount}
-use Rattle.state.specs.State.{consistent, ctrOf, maskOf, mtaOf, setMta, waits, answered}
+use Rattle.state.specs.State.{consistent, ctrOf, openOf, maskOf, mtaOf, setMta, waits, answered}
 use Rattle.lists.specs.Lists.{storedLength}
-use Rattle.session.specs.Receive.{Step, only, obeyed, heeded, fedOf, receiveOf}
+use Rattle.session.specs.Receive.{Step, only, obeyed, goodConnect, heeded, fedOf, receiveOf}
 use Rattle.lists.specs.Event.{Happened, gathered, stored, eventOf}
 use Rattle.lists.specs.Slot.{Slot, turnOf, slotOf}
 use Rattle.words.specs.Number.{slottedValue}
@@ -21,7 +21,7 @@ use Rattle.judge.specs.declared.Deed.the-variants.{Refuse}
 use Rattle.words.specs.declared.Reason.the-variants.{Unknown}
 use Rattle.words.specs.declared.Mta.{Mta}
 use Rattle.words.specs.declared.Mta.the-variants.{Unset, At}
-use Rattle.words.specs.declared.Received.the-variants.{Silent}
+use Rattle.words.specs.declared.Received.the-variants.{Silent, BadChecksum}
 use Rattle.words.specs.declared.Evented.{Evented}
 use Rattle.words.specs.declared.Evented.the-variants.{Done, BadEvent, NoState as EventNoState}
 use Rattle.words.specs.declared.Slotted.{Slotted}
@@ -55,9 +55,13 @@ heeding heed = receiving (λ s cal meas b. cond (consistent s) (heardBy heed (pa
 abbrev pub refusesAlways : Slave
 refusesAlways = heeding (λ p s cal meas. obeyed (Refuse Unknown) p s cal meas)
 
--- no command is answered: it changes the reader's place alone
+-- CONNECT is ours, and no other command is answered: it changes the reader's place alone
 abbrev pub silent : Slave
-silent = heeding (λ p s cal meas. only Silent s cal)
+silent = heeding (λ p s cal meas. cond (goodConnect p) (heeded p s cal meas) (only Silent s cal))
+
+-- CONNECT is ours, and in a session every other command is refused
+abbrev pub onlyConnects : Slave
+onlyConnects = heeding (λ p s cal meas. cond (goodConnect p) (heeded p s cal meas) (cond (openOf s) (obeyed (Refuse Unknown) p s cal meas) (only Silent s cal)))
 
 -- what is done is ours, and each answer is FF alone
 abbrev pub withFF : Step → Step
@@ -80,6 +84,20 @@ packetAnyway s b = cond (eqb (outcomeNumber (fedOf s b .taken .outcome)) 5) (som
 -- a message whose checksum is wrong is obeyed too
 abbrev pub obeysDamaged : Slave
 obeysDamaged = receiving (λ s cal meas b. cond (consistent s) (heardBy heeded (packetAnyway s b) s cal meas b) (receiveOf s cal meas b))
+
+-- a message ends as its checksum byte comes, which is number 1 of the line, or 5; what stands before that byte in the message
+abbrev pub endsAt : List ℕ → ℕ → Bool
+endsAt s b = cond (eqb (outcomeNumber (fedOf s b .taken .outcome)) 5) true (eqb (outcomeNumber (fedOf s b .taken .outcome)) 1)
+
+abbrev pub summedIn : List ℕ → List ℕ
+summedIn m = take (getD m 0 0 + 2) m
+
+-- the reader sums escaped bytes: by that sum alone a message is heeded, or is number 5
+abbrev pub readsEscaped : Slave
+readsEscaped =
+    receiving (λ s cal meas b. cond (consistent s) (cond (endsAt s b)
+    (cond (eqb b (sum (stuff (summedIn (fedOf s b .message))) % 256)) (heeded (packetInside (fedOf s b .message)) (readBy s b) cal meas) (only BadChecksum (readBy s b) cal))
+    (receiveOf s cal meas b)) (receiveOf s cal meas b))
 
 -- ---- slots
 -- a frame is followed at once by what `rest` sends into the bytes after it
@@ -133,6 +151,15 @@ oneSampledMore EventNoState = EventNoState
 
 abbrev pub inventsCounts : Slave
 inventsCounts = happening (λ s cal meas event clock. record { evented = oneSampledMore (eventOf s cal meas event clock .evented); state = eventOf s cal meas event clock .state })
+
+-- and one that counts one missed list more
+abbrev pub oneMissedMore : Evented → Evented
+oneMissedMore (Done sampled missed) = Done sampled (suc missed)
+oneMissedMore BadEvent = BadEvent
+oneMissedMore EventNoState = EventNoState
+
+abbrev pub inventsMissed : Slave
+inventsMissed = happening (λ s cal meas event clock. record { evented = oneMissedMore (eventOf s cal meas event clock .evented); state = eventOf s cal meas event clock .state })
 
 -- ---- slips
 -- the MTA moves on by n bytes
