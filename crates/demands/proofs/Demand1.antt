@@ -46,6 +46,7 @@ use Rattle.demands.proofs.ReadBy.{read-only, read-length, read-seed, re
 use Rattle.demands.proofs.Received.{Does, Reads, rests, acts, received, commanded}
 use Rattle.demands.proofs.Unchanged.{all-but, same-sets}
 use Rattle.demands.proofs.Refusals.{Idles, refusal, wrong-judged, disconnect-judged}
+use Rattle.demands.proofs.Life.{life-kept}
 
 -- ---- a refused command
 -- a byte that is read changes no key
@@ -219,4 +220,5 @@ demand1 = record {
   noRoom = no-room;
   otherwise = λ s cal meas out b event clock c. (seven (received s cal meas b c), good-event s cal meas event clock c, good-slot s out c);
   stays = λ s cal meas out b event clock c. (receive-kept s cal meas b c, event-kept s cal meas event clock c, slot-kept s out c);
+  lasts = life-kept;
 }

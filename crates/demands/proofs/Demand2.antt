@@ -8,6 +8,7 @@ use Rattle.demands.proofs.Locks.{locked-keeps, unlocks-own}
 use Rattle.demands.proofs.Keys.{seed-opens}
 use Rattle.demands.proofs.Cut.{cut, cutEvent}
 use Rattle.demands.proofs.Downloads.{gives-back}
+use Rattle.demands.proofs.Life.{life-locked, gives-back-later, life-numbered}
 use Rattle.demands.proofs.Events.{counts, samples, stores, others, storesOnly}
 
 pub demand2 : Demand2 ours
@@ -18,12 +19,15 @@ demand2 =
       serves = slot-is;
       numbers = frames-numbered;
       fromPowerUp = frames-from-power-up;
+      numbersOn = life-numbered;
       readsBack = slot-reads-back;
       restStays = slot-past;
       locked = locked-keeps;
+      lockedOn = life-locked;
       cut = cut;
       cutEvent = cutEvent;
       givesBack = gives-back;
+      givesBackLater = gives-back-later;
       unlocks = unlocks-own;
       seedOpens = seed-opens;
       counts = counts;

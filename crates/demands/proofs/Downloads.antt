@@ -100,29 +100,31 @@ download-writes : (a n : ℕ) (p cal : List ℕ) → written (Download a n) p ca
 unfolding written
 download-writes a n p cal = refl
 
--- the bytes that were stored are given back
-uploaded : (t meas : List ℕ) (c : ℕ) (q : List ℕ) (a n : ℕ) → consistent t ≡ true → Uploads t c q a n
-    → (cal xs : List ℕ) → n ≢ 0 → n ≤ downloadMost → insideOf a n (length cal) ≡ true → length xs ≡ n → a + n ≤ length cal
-    → answerOf (receiveOf t (sets cal a xs) meas c .state) ≡ 0xFF ∷ xs
-uploaded t meas c q a n v up cal xs z few inside long within =
-    let mem : List ℕ = sets cal a xs in
+-- the bytes that stand there are given
+pub uploaded : (t mem meas : List ℕ) (c : ℕ) (q : List ℕ) (a n : ℕ) → consistent t ≡ true → Uploads t c q a n → n ≢ 0 → n ≤ downloadMost → insideOf a n (length mem) ≡ true
+    → answerOf (receiveOf t mem meas c .state) ≡ 0xFF ∷ block mem a n
+uploaded t mem meas c q a n v up z few inside =
     let t′ : List ℕ = readBy t c in
-    let still : insideOf a n (length mem) ≡ true = rw (length-sets cal a xs) inside in
     let judged : deedOf q t′ mem meas ≡ Upload Calibration a n =
-    upload-judged q t′ a n (length mem) (length meas) (up .code) (read-mta t c v ∙ up .place) (up .count) z (omega arith) still in
-    let stored : block mem a n ≡ xs = rw (← long) (block-sets cal a xs (omega arith)) in
-    command-answer t mem meas c q v (up .command)
-    ∙ ap (λ (d : Deed). reply d t′ mem meas) judged
-    ∙ upload-says a n t′ mem meas
-    ∙ ap (λ (l : List ℕ). 0xFF ∷ l) stored
+    upload-judged q t′ a n (length mem) (length meas) (up .code) (read-mta t c v ∙ up .place) (up .count) z (omega arith) inside in
+    command-answer t mem meas c q v (up .command) ∙ ap (λ (d : Deed). reply d t′ mem meas) judged ∙ upload-says a n t′ mem meas
 
 -- ---- one after the other
-pub gives-back : (s t cal meas meas′ : List ℕ) (b c : ℕ) (p q : List ℕ) (a n : ℕ) → consistent s ≡ true → consistent t ≡ true
-    → Downloads s b p a n → answerOf (ours .receive s cal meas b .state) ≡ 0xFF ∷ [] → Uploads t c q a n
-    → (answerOf (ours .receive t (ours .receive s cal meas b .cal) meas′ c .state) ≡ 0xFF ∷ block p 2 n) × AllBut a (a + n) cal (ours .receive s cal meas b .cal)
-gives-back s t cal meas meas′ b c p q a n u v down said up =
+-- what DOWNLOAD that is answered FF leaves
+pub record Wrote (p : List ℕ) (a n : ℕ) (cal new : List ℕ) : Type 0 where
+  pub some : n ≢ 0
+  pub few : n ≤ downloadMost
+  pub inside : insideOf a n (length new) ≡ true
+  pub there : block new a n ≡ block p 2 n
+  pub others : AllBut a (a + n) cal new
+
+stands : (cal : List ℕ) (a n : ℕ) (xs : List ℕ) → length xs ≡ n → a + n ≤ length cal → block (sets cal a xs) a n ≡ xs
+stands cal a n xs e h = rw (← e) (block-sets cal a xs (omega arith))
+
+pub downloaded : (s cal meas : List ℕ) (b : ℕ) (p : List ℕ) (a n : ℕ) → consistent s ≡ true → Downloads s b p a n → answerOf (ours .receive s cal meas b .state) ≡ 0xFF ∷ []
+    → Wrote p a n cal (ours .receive s cal meas b .cal)
+downloaded s cal meas b p a n u down said =
     let s′ : List ℕ = readBy s b in
-    let t′ : List ℕ = readBy t c in
     let w : Loads p a n (length cal) (deedOf p s′ cal meas) =
     judged-good p s′ cal meas a n (down .code) (read-mta s b u ∙ down .place) (down .count) (sym (command-answer s cal meas b p u (down .command)) ∙ said) in
     let xs : List ℕ = block p 2 n in
@@ -131,6 +133,18 @@ gives-back s t cal meas meas′ b c p q a n u v down said up =
     let within : a + n ≤ length cal = inside-le a n (length cal) (w .inside) .0 in
     let wrote : receiveOf s cal meas b .cal ≡ sets cal a xs =
     ap (λ (o : Step). o .cal) (commanded s cal meas b p u (down .command)) ∙ ap (λ (d : Deed). written d p cal) (w .done) ∙ download-writes a n p cal in
-    let back : answerOf (receiveOf t (sets cal a xs) meas′ c .state) ≡ 0xFF ∷ xs =
-    uploaded t meas′ c q a n v up cal xs (w .some) (w .few) (w .inside) long within in
-    (rw wrote back, rw wrote (all-but (only-sets cal a xs (le-refl a) (omega arith))))
+    rw wrote (record {
+      some = w .some;
+      few = w .few;
+      inside = rw (length-sets cal a xs) (w .inside);
+      there = stands cal a n xs long within;
+      others = all-but (only-sets cal a xs (le-refl a) (omega arith));
+    })
+
+pub gives-back : (s t cal meas meas′ : List ℕ) (b c : ℕ) (p q : List ℕ) (a n : ℕ) → consistent s ≡ true → consistent t ≡ true
+    → Downloads s b p a n → answerOf (ours .receive s cal meas b .state) ≡ 0xFF ∷ [] → Uploads t c q a n
+    → (answerOf (ours .receive t (ours .receive s cal meas b .cal) meas′ c .state) ≡ 0xFF ∷ block p 2 n) × AllBut a (a + n) cal (ours .receive s cal meas b .cal)
+gives-back s t cal meas meas′ b c p q a n u v down said up =
+    let new : List ℕ = receiveOf s cal meas b .cal in
+    let w : Wrote p a n cal new = downloaded s cal meas b p a n u down said in
+    (uploaded t new meas′ c q a n v up (w .some) (w .few) (w .inside) ∙ ap (λ (l : List ℕ). 0xFF ∷ l) (w .there), w .others)

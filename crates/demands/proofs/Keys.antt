@@ -50,19 +50,19 @@ use Rattle.demands.proofs.Sends.{turned, slot-state, slot-stays}
 use Rattle.demands.proofs.Locks.{unlocks-own}
 
 -- ---- what the check of a key looks at, and the locks: the same in both states
-record Alike (s t : List ℕ) : Type 0 where
+record SameLocks (s t : List ℕ) : Type 0 where
   generator : generatorOf t ≡ generatorOf s
   seed : seedOf t ≡ seedOf s
   lock : (r : Resource) → unlockedOf t r ≡ unlockedOf s r
 
-alike : {s t : List ℕ} → Same generatorAt ctrAt s t → Same calibrationAt mtaAt s t → Alike s t
+alike : {s t : List ℕ} → Same generatorAt ctrAt s t → Same calibrationAt mtaAt s t → SameLocks s t
 alike g w =
     record { generator = generator-reads g; seed = seed-reads (same-part (lit≤ tt) (lit≤ tt) w); lock = λ r. lock-reads r (same-part (lit≤ tt) (lit≤ tt) w) }
 
-alike-self : {s : List ℕ} → Alike s s
+alike-self : {s : List ℕ} → SameLocks s s
 alike-self = record { generator = refl; seed = refl; lock = λ r. refl }
 
-alike-then : {s t u : List ℕ} → Alike s t → Alike t u → Alike s u
+alike-then : {s t u : List ℕ} → SameLocks s t → SameLocks t u → SameLocks s u
 alike-then p q = record { generator = q .generator ∙ p .generator; seed = q .seed ∙ p .seed; lock = λ r. q .lock r ∙ p .lock r }
 
 -- a packet that is sent leaves the generator
@@ -76,25 +76,25 @@ packet-front s k =
     (before {lo = ctrAt} {hi = placeAt} (lit≤ tt)
     (only-then (only-set s₁ ctrAt (nextCtr s) (lit≤ tt) (lit< tt)) (only-then (only-set s₂ servedAt (listOf k) (lit≤ tt) (lit< tt)) (only-set s₃ lastAt 0 (lit≤ tt) (lit< tt)))))
 
-turn-alike : (t : Turn) (s : List ℕ) → Alike s (turned t s)
+turn-alike : (t : Turn) (s : List ℕ) → SameLocks s (turned t s)
 turn-alike Nobody s = alike-self
 turn-alike Answer s = alike (same-part (lit≤ tt) (lit≤ tt) (answerSent-front s)) (same-part (lit≤ tt) (lit≤ tt) (answerSent-session s))
 turn-alike (Packet k) s = alike (packet-front s k) (same-part (lit≤ tt) (lit≤ tt) (packetSent-rest s k))
 
-slot-alike : (s out : List ℕ) → consistent s ≡ true → Alike s (slotOf s out .state)
+slot-alike : (s out : List ℕ) → consistent s ≡ true → SameLocks s (slotOf s out .state)
 slot-alike s out c = elim (decLe room (length out)) [ yes r ↦ with-room r | no r ↦ without (lt-of-not-le r) ] where
-  with-room : room ≤ length out → Alike s (slotOf s out .state)
+  with-room : room ≤ length out → SameLocks s (slotOf s out .state)
   with-room r = rw (slot-state s out c r) (turn-alike (turnOf s) s)
 
-  without : length out < room → Alike s (slotOf s out .state)
+  without : length out < room → SameLocks s (slotOf s out .state)
   without r = rw (slot-stays s out c r) alike-self
 
-run-alike : (cs : List Call) (s : List ℕ) → consistent s ≡ true → Uncommanded ours s cs → Alike s (run ours s cs) × (consistent (run ours s cs) ≡ true)
+run-alike : (cs : List Call) (s : List ℕ) → consistent s ≡ true → Uncommanded ours s cs → SameLocks s (run ours s cs) × (consistent (run ours s cs) ≡ true)
 run-alike [] s c u = (alike-self, c)
 run-alike (Byte cal meas b ∷ cs) s c u =
     let t : List ℕ = receiveOf s cal meas b .state in
     let e : t ≡ readBy s b = rests-known s cal meas b c (u .0) .state in
-    let here : Alike s t = rw e (alike (apart tt (read-only s b c)) (apart tt (read-only s b c))) in
+    let here : SameLocks s t = rw e (alike (apart tt (read-only s b c)) (apart tt (read-only s b c))) in
     let later = run-alike cs t (receive-kept s cal meas b c) (u .1) in
     (alike-then here (later .0), later .1)
 run-alike (Event cal meas event clock ∷ cs) s c u =

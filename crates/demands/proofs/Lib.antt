@@ -27,6 +27,7 @@ pub mod Numbering
 pub mod Locks
 pub mod Keys
 pub mod Downloads
+pub mod Life
 pub mod CutJudge
 pub mod Cut
 pub mod Demand2

@@ -1,6 +1,6 @@
 -- Every frame of a run is that of the packet whose turn it was, and its CTR is the first one's plus the frames sent before. Assumes nothing.
 use Prim.Native.Nat.{ℕ, suc, _+_, _%_, _≤_, _<_}
-use mathlib.Core.Path.{_≡_, refl, sym, ap, _∙_}
+use mathlib.Core.Path.{_≡_, refl, sym, ap, ap₂, _∙_}
 use mathlib.Core.Bool.{true}
 use mathlib.Core.List.{List, [], _∷_, _++_}
 use native.Mathlib.Omega.{arith}
@@ -13,59 +13,80 @@ use lib.Seq.{getD-set-other}
 use Rattle.line.specs.Message.{room, frame}
 use Rattle.state.specs.Layout.{size, mark, generatorAt, ctrAt, servedAt, lastList}
 use Rattle.state.specs.Bytes.{put32}
-use Rattle.state.specs.State.{consistent, setGenerator, ctrOf, answerOf}
+use Rattle.state.specs.State.{consistent, setGenerator, ctrOf}
 use Rattle.state.specs.Generator.{startOf}
 use Rattle.session.specs.Receive.{receiveOf}
 use Rattle.lists.specs.Event.{eventOf}
-use Rattle.lists.specs.Slot.{turnOf, packetOf, slotOf}
+use Rattle.lists.specs.Slot.{turnOf, slotOf}
 use Rattle.session.specs.PowerUp.{powered, powerUpOf}
 use Rattle.lists.specs.declared.Turn.{Turn}
 use Rattle.state.proofs.Consistent.{consistent-size}
 use Rattle.fields.proofs.Stores.{put32-out}
 use Rattle.fields.proofs.Kept.{power-consistent, receive-kept, event-kept, slot-kept}
 use Rattle.demands.specs.Slave.{ours}
-use Rattle.demands.specs.Runs.{Call, Byte, Event, Slot, Elsewhere, frames}
+use Rattle.demands.specs.Runs.{Call, Byte, Event, Slot, Elsewhere, sends, frames}
 use Rattle.demands.specs.Waiting.{packetFor}
-use Rattle.demands.specs.Demand2.{due, numbered}
+use Rattle.demands.specs.Demand2.{dueAt, due, numbered}
 use Rattle.demands.proofs.Turns.{Fair, nobody, answer, list, fair}
 use Rattle.demands.proofs.Sends.{turned, framesOf, slot-state, slot-stays, slot-sends, slot-silent, answer-ctr, packet-ctr}
 use Rattle.demands.proofs.ByteKeeps.{byte-round}
 use Rattle.demands.proofs.Events.{event-front}
 
 -- i frames after CTR c
-abbrev At : ℕ → ℕ → List ℕ → Type 0
+abbrev pub At : ℕ → ℕ → List ℕ → Type 0
 At c i s = ctrOf s ≡ (c + i) % 256
 
--- what the rest of the run says
-abbrev Later : ℕ → List Call → Type 0
-Later c cs = (i : ℕ) (s : List ℕ) → consistent s ≡ true → At c i s → frames ours s cs ≡ numbered c i (due ours s cs)
+-- one more, and none
+at-next : (c i : ℕ) {x y : ℕ} → x ≡ (y + 1) % 256 → y ≡ (c + i) % 256 → x ≡ (c + (i + 1)) % 256
+at-next c i e f = let s : c + i + 1 ≡ c + (i + 1) = omega arith in e ∙ rw f (mod-add-mod (c + i) 256 1 ∙ rw s)
 
--- one more
-at-next : (c i : ℕ) {x y : ℕ} → x ≡ (y + 1) % 256 → y ≡ (c + i) % 256 → x ≡ (c + suc i) % 256
-at-next c i e f = let s : c + i + 1 ≡ c + suc i = omega arith in e ∙ rw f (mod-add-mod (c + i) 256 1 ∙ rw s)
+at-same : (c i : ℕ) (s : List ℕ) → At c i s → At c (i + 0) s
+at-same c i s a = let z : i + 0 ≡ i = omega arith in rw z a
 
-by-turn : (c : ℕ) (cs : List Call) (s u : List ℕ) (i : ℕ) (t : Turn) → length s ≡ size → At c i s → u ≡ turned t s → consistent u ≡ true → Fair s t → Later c cs
-    → framesOf (ctrOf s) (packetFor t s) ++ frames ours u cs ≡ numbered c i (packetFor t s ++ due ours u cs)
-by-turn c cs s u i _ h a e k nobody later = later i u k (ap ctrOf e ∙ a)
-by-turn c cs s u i _ h a e k (answer w) later =
-    rw a (ap (λ (x : List (List ℕ)). frame ((c + i) % 256) (answerOf s) ∷ x) (later (suc i) u k (ap ctrOf e ∙ at-next c i (answer-ctr s h) a)))
-by-turn c cs s u i _ h a e k (list j m n) later =
-    rw a (ap (λ (x : List (List ℕ)). frame ((c + i) % 256) (packetOf s m) ∷ x) (later (suc i) u k (ap ctrOf e ∙ at-next c i (packet-ctr s m h) a)))
+numbered-append : (c i : ℕ) (ps qs : List (List ℕ)) → numbered c i (ps ++ qs) ≡ numbered c i ps ++ numbered c (i + length ps) qs
+numbered-append c i [] qs = let z : i + 0 ≡ i = omega arith in rw z
+numbered-append c i (p ∷ ps) qs =
+    let z : suc i + length ps ≡ i + suc (length ps) = omega arith in
+    ap (λ (x : List (List ℕ)). frame ((c + i) % 256) p ∷ x) (numbered-append c (suc i) ps qs ∙ rw z)
 
-numbers-on : (c : ℕ) (cs : List Call) → Later c cs
+-- ---- a slot
+-- what it sends has the CTR that is due, and the next CTR is that of as many more
+pub record Numbered (c i : ℕ) (frames′ packets : List (List ℕ)) (u : List ℕ) : Type 0 where
+  pub sent : frames′ ≡ numbered c i packets
+  pub ctr : At c (i + length packets) u
+
+turn-numbers : (c i : ℕ) (s : List ℕ) (t : Turn) → length s ≡ size → At c i s → Fair s t → Numbered c i (framesOf (ctrOf s) (packetFor t s)) (packetFor t s) (turned t s)
+turn-numbers c i s _ h a nobody = record { sent = refl; ctr = at-same c i s a }
+turn-numbers c i s _ h a (answer w) = record { sent = rw a; ctr = at-next c i (answer-ctr s h) a }
+turn-numbers c i s _ h a (list j m n) = record { sent = rw a; ctr = at-next c i (packet-ctr s m h) a }
+
+pub slot-numbers : (c i : ℕ) (s out : List ℕ) → consistent s ≡ true → At c i s → Numbered c i (sends ours s (Slot out)) (dueAt s (Slot out)) (slotOf s out .state)
+slot-numbers c i s out h a = elim (decLe room (length out)) [ yes r ↦ with-room r | no r ↦ without (lt-of-not-le r) ] where
+  with-room : room ≤ length out → Numbered c i (sends ours s (Slot out)) (dueAt s (Slot out)) (slotOf s out .state)
+  with-room r =
+      rw (slot-sends s out h r, le-ltb (length out) room r, slot-state s out h r) (turn-numbers c i s (turnOf s) (consistent-size s h) a (fair s (consistent-size s h)))
+
+  without : length out < room → Numbered c i (sends ours s (Slot out)) (dueAt s (Slot out)) (slotOf s out .state)
+  without r = rw (slot-silent s out h r, lt-ltb (length out) room r, slot-stays s out h r) (record { sent = refl; ctr = at-same c i s a })
+
+-- ---- a run
+-- a byte and an event leave the CTR
+pub byte-ctr : (s cal meas : List ℕ) (b : ℕ) → consistent s ≡ true → ctrOf (receiveOf s cal meas b .state) ≡ ctrOf s
+byte-ctr s cal meas b h = byte-round s cal meas b h .byte ctrAt (lit≤ tt) (lit< tt)
+
+pub event-ctr : (s cal meas : List ℕ) (event clock : ℕ) → ctrOf (eventOf s cal meas event clock .state) ≡ ctrOf s
+event-ctr s cal meas event clock = event-front s cal meas event clock .byte ctrAt (lit≤ tt) (lit< tt)
+
+numbers-on : (c : ℕ) (cs : List Call) (i : ℕ) (s : List ℕ) → consistent s ≡ true → At c i s → frames ours s cs ≡ numbered c i (due ours s cs)
 numbers-on c [] i s h a = refl
-numbers-on c (Byte cal meas b ∷ cs) i s h a =
-    numbers-on c cs i (receiveOf s cal meas b .state) (receive-kept s cal meas b h) (byte-round s cal meas b h .byte ctrAt (lit≤ tt) (lit< tt) ∙ a)
+numbers-on c (Byte cal meas b ∷ cs) i s h a = numbers-on c cs i (receiveOf s cal meas b .state) (receive-kept s cal meas b h) (byte-ctr s cal meas b h ∙ a)
 numbers-on c (Event cal meas event clock ∷ cs) i s h a =
-    numbers-on c cs i (eventOf s cal meas event clock .state) (event-kept s cal meas event clock h) (event-front s cal meas event clock .byte ctrAt (lit≤ tt) (lit< tt) ∙ a)
-numbers-on c (Slot out ∷ cs) i s h a = elim (decLe room (length out)) [ yes r ↦ with-room r (numbers-on c cs) | no r ↦ without (lt-of-not-le r) (numbers-on c cs) ] where
-  with-room : room ≤ length out → Later c cs → frames ours s (Slot out ∷ cs) ≡ numbered c i (due ours s (Slot out ∷ cs))
-  with-room r later =
-      rw (slot-sends s out h r, le-ltb (length out) room r)
-      (by-turn c cs s (slotOf s out .state) i (turnOf s) (consistent-size s h) a (slot-state s out h r) (slot-kept s out h) (fair s (consistent-size s h)) later)
-
-  without : length out < room → Later c cs → frames ours s (Slot out ∷ cs) ≡ numbered c i (due ours s (Slot out ∷ cs))
-  without r later = rw (slot-silent s out h r, lt-ltb (length out) room r) (later i (slotOf s out .state) (slot-kept s out h) (ap ctrOf (slot-stays s out h r) ∙ a))
+    numbers-on c cs i (eventOf s cal meas event clock .state) (event-kept s cal meas event clock h) (event-ctr s cal meas event clock ∙ a)
+numbers-on c (Slot out ∷ cs) i s h a =
+    let here : List (List ℕ) = dueAt s (Slot out) in
+    let u : List ℕ = slotOf s out .state in
+    let w : Numbered c i (sends ours s (Slot out)) here u = slot-numbers c i s out h a in
+    ap₂ (λ (x y : List (List ℕ)). x ++ y) (w .sent) (numbers-on c cs (i + length here) u (slot-kept s out h) (w .ctr)) ∙ sym (numbered-append c i here (due ours u cs))
 numbers-on c (Elsewhere ∷ cs) i s h a = numbers-on c cs i s h a
 
 pub frames-numbered : (s : List ℕ) (cs : List Call) → consistent s ≡ true → ctrOf s < 256 → frames ours s cs ≡ numbered (ctrOf s) 0 (due ours s cs)
@@ -78,7 +99,7 @@ blank-ctr : ctrOf (put32 (replicate size 0) 0 mark) ≡ 0
 unfolding put32
 blank-ctr = refl
 
-power-ctr : (start : ℕ) → ctrOf (powered start) ≡ 0
+pub power-ctr : (start : ℕ) → ctrOf (powered start) ≡ 0
 unfolding powered setGenerator
 power-ctr start =
     let blank : List ℕ = put32 (replicate size 0) 0 mark in

@@ -11,6 +11,7 @@ use Rattle.state.specs.Layout.{placeAt, answerAt, size, sessionAt}
 use Rattle.state.specs.State.{consistent, closed, answerOf}
 use Rattle.words.specs.Number.{receivedNumber, eventedNumber, slottedNumber, poweredUpNumber}
 use Rattle.demands.specs.Slave.{Slave}
+use Rattle.demands.specs.Life.{Device, Moment, lived}
 use Rattle.demands.specs.Heard.{readBy, Commands, wrongKey, wrongKeyAt}
 use Rattle.demands.specs.Waiting.{AllBut}
 
@@ -58,3 +59,5 @@ pub record Demand1 (v : Slave) : Type 0 where
   -- whatever calls come, a consistent state stays one
   pub stays : (s cal meas out : List ℕ) (b event clock : ℕ) → consistent s ≡ true
       → (consistent (v .receive s cal meas b .state) ≡ true) × (consistent (v .event s cal meas event clock .state) ≡ true) × (consistent (v .slot s out .state) ≡ true)
+  -- so it does whatever calls and power-ups come
+  pub lasts : (h : Device) (ms : List Moment) → consistent (h .state) ≡ true → consistent (lived v h ms .state) ≡ true

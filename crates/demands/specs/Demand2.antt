@@ -2,9 +2,9 @@
 -- what it sends reads back by the same rules as the very packet meant. While calibration is locked no calibration byte changes.
 use Prim.Native.Nat.{ℕ, zero, suc, _+_, _*_, _%_, _^_, _≤_, _<_}
 use mathlib.Core.Path.{_≡_}
-use mathlib.Core.Logic.{_≢_}
+use mathlib.Core.Logic.{_≢_, _⊎_}
 use mathlib.Core.Bool.{Bool, true, false, cond}
-use mathlib.Core.Option.{none}
+use mathlib.Core.Option.{none, some}
 use mathlib.Core.List.{List, [], _∷_, _++_}
 use lib.Dec.{ltb}
 use lib.ListN.{length, getD, take, drop}
@@ -25,10 +25,12 @@ use Rattle.words.specs.declared.Resource.the-variants.{Calibration, Lists}
 use Rattle.words.specs.declared.Extension.the-variants.{Calibration as CalibrationMemory}
 use Rattle.words.specs.declared.Mta.the-variants.{At}
 use Rattle.words.specs.declared.Seed.the-variants.{For}
+use Rattle.judge.specs.declared.Deed.the-variants.{Download}
 use Rattle.lists.specs.declared.Sampling.the-variants.{Sampled}
 use Rattle.words.specs.declared.Evented.the-variants.{Done}
 use Rattle.demands.specs.Slave.{Slave}
 use Rattle.demands.specs.Runs.{Call, Byte, Event, Slot, Elsewhere, after, run, sends, each, frames}
+use Rattle.demands.specs.Life.{Device, Moment, PowerOn, Hears, Samples, Serves, passed, lived, sentIn, Always}
 use Rattle.demands.specs.Heard.{Commands, doneAt, bringsKey, keyMatches}
 use Rattle.demands.specs.Waiting.{AllBut, waitingOf, packetFor, sampleOf, isSampled, isMissed}
 
@@ -75,6 +77,29 @@ pub record Uploads (s : List ℕ) (b : ℕ) (p : List ℕ) (a n : ℕ) : Type 0 
   pub code : getD p 0 0 ≡ 0xF5
   pub count : getD p 1 0 ≡ n
   pub place : mtaOf s ≡ At CalibrationMemory a
+
+-- ---- over a life
+-- the frames that are to go, of which i have gone since the power came on: the CTR is i, modulo 256
+abbrev pub dueIn : Slave → ℕ → Device → List Moment → List (List ℕ)
+dueIn v i h [] = []
+dueIn v i h (PowerOn start ∷ ms) = dueIn v 0 (passed v h (PowerOn start)) ms
+dueIn v i h (Hears meas b ∷ ms) = dueIn v i (passed v h (Hears meas b)) ms
+dueIn v i h (Samples meas event clock ∷ ms) = dueIn v i (passed v h (Samples meas event clock)) ms
+dueIn v i h (Serves out ∷ ms) = numbered 0 i (dueAt (h .state) (Slot out)) ++ dueIn v (i + length (dueAt (h .state) (Slot out))) (passed v h (Serves out)) ms
+
+-- a byte comes while calibration is locked, or no session is open
+abbrev pub ShutAt : Device → Moment → Type 0
+ShutAt h (PowerOn start) = Unit {0}
+ShutAt h (Hears meas b) = shut (h .state) ≡ true
+ShutAt h (Samples meas event clock) = Unit {0}
+ShutAt h (Serves out) = Unit {0}
+
+-- no DOWNLOAD writes one of the n bytes from a
+abbrev pub ClearAt : ℕ → ℕ → Device → Moment → Type 0
+ClearAt a n h (PowerOn start) = Unit {0}
+ClearAt a n h (Hears meas b) = (at many : ℕ) → doneAt (h .state) (h .cal) meas b ≡ some (Download at many) → (at + many ≤ a) ⊎ (a + n ≤ at)
+ClearAt a n h (Samples meas event clock) = Unit {0}
+ClearAt a n h (Serves out) = Unit {0}
 
 abbrev pub otherLock : Resource → Resource
 otherLock Calibration = Lists
@@ -131,12 +156,16 @@ pub record Demand2 (v : Slave) : Type 0 where
   -- from power-up on the first CTR is 0
   pub fromPowerUp : (s : List ℕ) (start : ℕ) (cs : List Call) → length s ≡ size
       → frames v (v .powerUp s start .state) cs ≡ numbered 0 0 (due v (v .powerUp s start .state) cs)
+  -- in a life with power-ups in it each begins the CTR at 0 again
+  pub numbersOn : (h : Device) (start : ℕ) (ms : List Moment) → length (h .state) ≡ size → sentIn v h (PowerOn start ∷ ms) ≡ dueIn v 0 h (PowerOn start ∷ ms)
   -- what a slot sends is one frame, and reads back as the very packet meant
   pub readsBack : (s out : List ℕ) → consistent s ≡ true → room ≤ length out → ReadsBack (sends v s (Slot out)) s
   -- bytes past the frame stay
   pub restStays : (s out : List ℕ) → AllBut 0 (slottedValue (v .slot s out .slotted)) out (v .slot s out .out)
   -- while calibration is locked, or no session is open, no calibration byte changes
   pub locked : (s cal meas : List ℕ) (b : ℕ) → shut s ≡ true → v .receive s cal meas b .cal ≡ cal
+  -- so does a memory that nothing else writes, through a whole life in which calibration stays locked
+  pub lockedOn : (h : Device) (ms : List Moment) → Always ShutAt v h ms → lived v h ms .cal ≡ h .cal
   -- only the first 4,096 bytes of a memory matter, and the rest stays
   pub cut : (s cal meas : List ℕ) (b : ℕ) → v .receive s cal meas b ≡ putBack (v .receive s (take addressable cal) (take addressable meas) b) (drop addressable cal)
   pub cutEvent : (s cal meas : List ℕ) (event clock : ℕ) → v .event s cal meas event clock ≡ v .event s (take addressable cal) (take addressable meas) event clock
@@ -144,6 +173,11 @@ pub record Demand2 (v : Slave) : Type 0 where
   pub givesBack : (s t cal meas meas′ : List ℕ) (b c : ℕ) (p q : List ℕ) (a n : ℕ) → consistent s ≡ true → consistent t ≡ true
       → Downloads s b p a n → answerOf (v .receive s cal meas b .state) ≡ 0xFF ∷ [] → Uploads t c q a n
       → (answerOf (v .receive t (v .receive s cal meas b .cal) meas′ c .state) ≡ 0xFF ∷ block p 2 n) × AllBut a (a + n) cal (v .receive s cal meas b .cal)
+  -- so does UPLOAD any time later, if nothing but the slave writes that memory and no DOWNLOAD has written there since, whatever calls and power-ups came
+  pub givesBackLater : (h : Device) (meas : List ℕ) (b : ℕ) (p : List ℕ) (a n : ℕ) (between : List Moment) (meas′ : List ℕ) (c : ℕ) (q : List ℕ) → consistent (h .state) ≡ true
+      → Downloads (h .state) b p a n → answerOf (passed v h (Hears meas b) .state) ≡ 0xFF ∷ [] → Always (ClearAt a n) v (passed v h (Hears meas b)) between
+      → Uploads (lived v (passed v h (Hears meas b)) between .state) c q a n
+      → answerOf (passed v (lived v (passed v h (Hears meas b)) between) (Hears meas′ c) .state) ≡ 0xFF ∷ block p 2 n
   -- a right key unlocks its own resource alone
   pub unlocks : (s cal meas : List ℕ) (b : ℕ) (p : List ℕ) (r : Resource) → consistent s ≡ true
       → Commands s b p → seedOf s ≡ For r → bringsKey p ≡ true → keyMatches p r s ≡ true

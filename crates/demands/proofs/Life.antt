@@ -1,0 +1,158 @@
+-- Over a whole life, power-ups in it and one memory that the slave alone writes: the state stays consistent, the memory is as DOWNLOAD left it, and the
+-- CTR begins at 0 with each power-up. Assumes nothing.
+use Prim.Native.Nat.{ℕ, _+_, _≤_}
+use mathlib.Core.Path.{_≡_, refl, ap, ap₂, _∙_}
+use mathlib.Core.Logic.{_⊎_, ⊎-elim}
+use mathlib.Core.Bool.{true}
+use mathlib.Core.Option.{Option, some}
+use mathlib.Core.List.{List, [], _∷_, _++_}
+use native.Mathlib.Nat.{le-refl}
+use native.Mathlib.Omega.{arith}
+use lib.ListN.{length, length-take}
+use lib.Seq.{sets}
+use Rattle.state.specs.Layout.{size}
+use Rattle.state.specs.Bytes.{block}
+use Rattle.state.specs.State.{consistent, ctrOf, answerOf}
+use Rattle.session.specs.Perform.{written}
+use Rattle.session.specs.PowerUp.{powered}
+use Rattle.session.specs.Receive.{Step}
+use Rattle.judge.specs.declared.Deed.{Deed}
+use Rattle.judge.specs.declared.Deed.the-variants.{Refuse, RefuseSize, WrongKey, Connect, Disconnect, Status, Synch, NoSeed, GiveSeed, Unlock, SetMta, Upload, ShortUpload, Checksum, Download, ClearList, SetPointer, ClearEntry, WriteEntry, SetMode, Stop, Start, KeepRunning, Select, StopAll, StartSelected, StopSelected, ProcessorInfo, ResolutionInfo}
+use Rattle.state.proofs.Consistent.{consistent-size}
+use Rattle.fields.proofs.Frames.{Only, only-sets}
+use Rattle.fields.proofs.Readers.{Same, before, behind, same-block}
+use Rattle.fields.proofs.Kept.{power-consistent, receive-kept, event-kept, slot-kept}
+use Rattle.demands.specs.Slave.{ours}
+use Rattle.demands.specs.Runs.{Slot, sends}
+use Rattle.demands.specs.Life.{Device, Moment, PowerOn, Hears, Samples, Serves, passed, lived, sentIn, Always}
+use Rattle.demands.specs.Demand2.{Downloads, Uploads, dueAt, dueIn, ShutAt, ClearAt}
+use Rattle.demands.proofs.Received.{Reads, rests, acts, received}
+use Rattle.demands.proofs.Locks.{locked-keeps}
+use Rattle.demands.proofs.Downloads.{uploaded, Wrote, downloaded}
+use Rattle.demands.proofs.Numbering.{At, Numbered, slot-numbers, byte-ctr, event-ctr, power-ctr, power-up-is}
+
+-- ---- the state stays consistent
+passed-kept : (h : Device) (m : Moment) → consistent (h .state) ≡ true → consistent (passed ours h m .state) ≡ true
+passed-kept h (PowerOn start) c = rw (power-up-is (h .state) start (consistent-size (h .state) c)) (power-consistent start)
+passed-kept h (Hears meas b) c = receive-kept (h .state) (h .cal) meas b c
+passed-kept h (Samples meas event clock) c = event-kept (h .state) (h .cal) meas event clock c
+passed-kept h (Serves out) c = slot-kept (h .state) out c
+
+pub life-kept : (h : Device) (ms : List Moment) → consistent (h .state) ≡ true → consistent (lived ours h ms .state) ≡ true
+life-kept h [] c = c
+life-kept h (m ∷ ms) c = life-kept (passed ours h m) ms (passed-kept h m c)
+
+-- ---- while calibration is locked the memory stays
+passed-locked : (h : Device) (m : Moment) → ShutAt h m → passed ours h m .cal ≡ h .cal
+passed-locked h (PowerOn start) u = refl
+passed-locked h (Hears meas b) u = locked-keeps (h .state) (h .cal) meas b u
+passed-locked h (Samples meas event clock) u = refl
+passed-locked h (Serves out) u = refl
+
+pub life-locked : (h : Device) (ms : List Moment) → Always ShutAt ours h ms → lived ours h ms .cal ≡ h .cal
+life-locked h [] u = refl
+life-locked h (m ∷ ms) u = life-locked (passed ours h m) ms (u .1) ∙ passed-locked h m (u .0)
+
+-- ---- n bytes from a stay where no DOWNLOAD writes
+abbrev Beside : ℕ → ℕ → Option Deed → Type 0
+Beside a n x = (at many : ℕ) → x ≡ some (Download at many) → (at + many ≤ a) ⊎ (a + n ≤ at)
+
+record Leaves (a n : ℕ) (cal new : List ℕ) : Type 0 where
+  long : length new ≡ length cal
+  bytes : block new a n ≡ block cal a n
+
+module _ (a n : ℕ) where
+  leaves-all : {cal : List ℕ} → Leaves a n cal cal
+  leaves-all = record { long = refl; bytes = refl }
+
+  leaves-same : {cal new : List ℕ} → Same a (a + n) cal new → Leaves a n cal new
+  leaves-same w = record { long = w .long; bytes = same-block a n (le-refl a) (le-refl (a + n)) w }
+
+  download-leaves : (at many : ℕ) (p cal : List ℕ) → (at + many ≤ a) ⊎ (a + n ≤ at) → Leaves a n cal (sets cal at (block p 2 many))
+  download-leaves at many p cal u =
+      let w : Only at (at + many) cal (sets cal at (block p 2 many)) = only-sets cal at (block p 2 many) (le-refl at) (omega (arith, few)) in
+      ⊎-elim (λ h. leaves-same (behind h w)) (λ h. leaves-same (before h w)) u where
+        few : length (block p 2 many) ≤ many
+        few = rw length-take (omega arith)
+
+  deed-leaves : (d : Deed) (p cal : List ℕ) → Beside a n (some d) → Leaves a n cal (written d p cal)
+  unfolding written
+  deed-leaves (Refuse r) p cal u = leaves-all
+  deed-leaves RefuseSize p cal u = leaves-all
+  deed-leaves WrongKey p cal u = leaves-all
+  deed-leaves Connect p cal u = leaves-all
+  deed-leaves Disconnect p cal u = leaves-all
+  deed-leaves Status p cal u = leaves-all
+  deed-leaves Synch p cal u = leaves-all
+  deed-leaves NoSeed p cal u = leaves-all
+  deed-leaves (GiveSeed r) p cal u = leaves-all
+  deed-leaves (Unlock r) p cal u = leaves-all
+  deed-leaves (SetMta e x) p cal u = leaves-all
+  deed-leaves (Upload e x m) p cal u = leaves-all
+  deed-leaves (ShortUpload e x m) p cal u = leaves-all
+  deed-leaves (Checksum e x m) p cal u = leaves-all
+  deed-leaves (Download x m) p cal u = download-leaves x m p cal (u x m refl)
+  deed-leaves (ClearList l) p cal u = leaves-all
+  deed-leaves (SetPointer k e) p cal u = leaves-all
+  deed-leaves (ClearEntry k e) p cal u = leaves-all
+  deed-leaves (WriteEntry k e m y x) p cal u = leaves-all
+  deed-leaves (SetMode l event) p cal u = leaves-all
+  deed-leaves (Stop l) p cal u = leaves-all
+  deed-leaves (Start l) p cal u = leaves-all
+  deed-leaves (KeepRunning l) p cal u = leaves-all
+  deed-leaves (Select l) p cal u = leaves-all
+  deed-leaves StopAll p cal u = leaves-all
+  deed-leaves StartSelected p cal u = leaves-all
+  deed-leaves StopSelected p cal u = leaves-all
+  deed-leaves ProcessorInfo p cal u = leaves-all
+  deed-leaves ResolutionInfo p cal u = leaves-all
+
+  byte-leaves : {s cal meas : List ℕ} {b : ℕ} {o : Step} {x : Option Deed} → Reads s cal meas b o x → Beside a n x → Leaves a n cal (o .cal)
+  byte-leaves (rests r other few) u = leaves-all
+  byte-leaves {cal = cal} (acts d p w) u = deed-leaves d p cal u
+
+  passed-leaves : (h : Device) (m : Moment) → consistent (h .state) ≡ true → ClearAt a n h m → Leaves a n (h .cal) (passed ours h m .cal)
+  passed-leaves h (PowerOn start) c u = leaves-all
+  passed-leaves h (Hears meas b) c u = byte-leaves (received (h .state) (h .cal) meas b c) u
+  passed-leaves h (Samples meas event clock) c u = leaves-all
+  passed-leaves h (Serves out) c u = leaves-all
+
+  life-leaves : (h : Device) (ms : List Moment) → consistent (h .state) ≡ true → Always (ClearAt a n) ours h ms → Leaves a n (h .cal) (lived ours h ms .cal)
+  life-leaves h [] c u = leaves-all
+  life-leaves h (m ∷ ms) c u =
+      let here : Leaves a n (h .cal) (passed ours h m .cal) = passed-leaves h m c (u .0) in
+      let later : Leaves a n (passed ours h m .cal) (lived ours h (m ∷ ms) .cal) = life-leaves (passed ours h m) ms (passed-kept h m c) (u .1) in
+      record { long = later .long ∙ here .long; bytes = later .bytes ∙ here .bytes }
+
+-- ---- so what DOWNLOAD wrote is given back
+pub gives-back-later : (h : Device) (meas : List ℕ) (b : ℕ) (p : List ℕ) (a n : ℕ) (between : List Moment) (meas′ : List ℕ) (c : ℕ) (q : List ℕ) → consistent (h .state) ≡ true
+    → Downloads (h .state) b p a n → answerOf (passed ours h (Hears meas b) .state) ≡ 0xFF ∷ [] → Always (ClearAt a n) ours (passed ours h (Hears meas b)) between
+    → Uploads (lived ours (passed ours h (Hears meas b)) between .state) c q a n
+    → answerOf (passed ours (lived ours (passed ours h (Hears meas b)) between) (Hears meas′ c) .state) ≡ 0xFF ∷ block p 2 n
+gives-back-later h meas b p a n between meas′ c q k down said clear up =
+    let h₁ : Device = passed ours h (Hears meas b) in
+    let h₂ : Device = lived ours h₁ between in
+    let k₁ : consistent (h₁ .state) ≡ true = passed-kept h (Hears meas b) k in
+    let w : Wrote p a n (h .cal) (h₁ .cal) = downloaded (h .state) (h .cal) meas b p a n k down said in
+    let l : Leaves a n (h₁ .cal) (h₂ .cal) = life-leaves a n h₁ between k₁ clear in
+    uploaded (h₂ .state) (h₂ .cal) meas′ c q a n (life-kept h₁ between k₁) up (w .some) (w .few) (rw (l .long) (w .inside))
+    ∙ ap (λ (x : List ℕ). 0xFF ∷ x) (l .bytes ∙ w .there)
+
+-- ---- the CTR
+life-numbers : (ms : List Moment) (i : ℕ) (h : Device) → consistent (h .state) ≡ true → At 0 i (h .state) → sentIn ours h ms ≡ dueIn ours i h ms
+life-numbers [] i h c a = refl
+life-numbers (PowerOn start ∷ ms) i h c a =
+    life-numbers ms 0 (passed ours h (PowerOn start)) (passed-kept h (PowerOn start) c) (ap ctrOf (power-up-is (h .state) start (consistent-size (h .state) c)) ∙ power-ctr start)
+life-numbers (Hears meas b ∷ ms) i h c a = life-numbers ms i (passed ours h (Hears meas b)) (passed-kept h (Hears meas b) c) (byte-ctr (h .state) (h .cal) meas b c ∙ a)
+life-numbers (Samples meas event clock ∷ ms) i h c a =
+    life-numbers ms i (passed ours h (Samples meas event clock)) (passed-kept h (Samples meas event clock) c) (event-ctr (h .state) (h .cal) meas event clock ∙ a)
+life-numbers (Serves out ∷ ms) i h c a =
+    let here : List (List ℕ) = dueAt (h .state) (Slot out) in
+    let u : Device = passed ours h (Serves out) in
+    let w : Numbered 0 i (sends ours (h .state) (Slot out)) here (u .state) = slot-numbers 0 i (h .state) out c a in
+    ap₂ (λ (x y : List (List ℕ)). x ++ y) (w .sent) (life-numbers ms (i + length here) u (passed-kept h (Serves out) c) (w .ctr))
+
+pub life-numbered : (h : Device) (start : ℕ) (ms : List Moment) → length (h .state) ≡ size → sentIn ours h (PowerOn start ∷ ms) ≡ dueIn ours 0 h (PowerOn start ∷ ms)
+life-numbered h start ms e =
+    let is : passed ours h (PowerOn start) .state ≡ powered start = power-up-is (h .state) start e in
+    life-numbers ms 0 (passed ours h (PowerOn start)) (rw is (power-consistent start)) (ap ctrOf is ∙ power-ctr start)

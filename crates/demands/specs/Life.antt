@@ -1,0 +1,44 @@
+-- The life of a slave: power-ups and calls in any order, over one calibration memory that nothing else writes.
+use Prim.Native.Nat.{ℕ}
+use mathlib.Core.List.{List, [], _∷_, _++_}
+use Rattle.demands.specs.Slave.{Slave}
+use Rattle.demands.specs.Runs.{Slot, sends}
+
+-- what lasts from call to call
+pub record Device : Type 0 where
+  pub state : List ℕ
+  pub cal : List ℕ
+
+-- the power comes on; or a call: a byte or an event, with the measured memory that is lent to it, or a slot, with the bytes lent to it
+pub data Moment : Type 0 where
+  PowerOn : (start : ℕ) → Moment
+  Hears : (meas : List ℕ) (b : ℕ) → Moment
+  Samples : (meas : List ℕ) (event clock : ℕ) → Moment
+  Serves : (out : List ℕ) → Moment
+
+-- the device once a moment has passed, and once a life has
+abbrev pub passed : Slave → Device → Moment → Device
+passed v h (PowerOn start) = record { state = v .powerUp (h .state) start .state; cal = h .cal }
+passed v h (Hears meas b) = record { state = v .receive (h .state) (h .cal) meas b .state; cal = v .receive (h .state) (h .cal) meas b .cal }
+passed v h (Samples meas event clock) = record { state = v .event (h .state) (h .cal) meas event clock .state; cal = h .cal }
+passed v h (Serves out) = record { state = v .slot (h .state) out .state; cal = h .cal }
+
+abbrev pub lived : Slave → Device → List Moment → Device
+lived v h [] = h
+lived v h (m ∷ ms) = lived v (passed v h m) ms
+
+-- the frame that a moment sends, if any; those of a life
+abbrev pub sendsAt : Slave → Device → Moment → List (List ℕ)
+sendsAt v h (PowerOn start) = []
+sendsAt v h (Hears meas b) = []
+sendsAt v h (Samples meas event clock) = []
+sendsAt v h (Serves out) = sends v (h .state) (Slot out)
+
+abbrev pub sentIn : Slave → Device → List Moment → List (List ℕ)
+sentIn v h [] = []
+sentIn v h (m ∷ ms) = sendsAt v h m ++ sentIn v (passed v h m) ms
+
+-- P holds at every moment of a life, of the device as it then is
+abbrev pub Always : (Device → Moment → Type 0) → Slave → Device → List Moment → Type 0
+Always P v h [] = Unit {0}
+Always P v h (m ∷ ms) = P h m × Always P v (passed v h m) ms
