@@ -1,102 +1,109 @@
--- Each public function's promise leaves one outcome: two outcomes that meet it are the same, result, next state and every lent byte. Assumes nothing.
-use Prim.Native.Nat.{ℕ, _+_, _%_}
+-- Each public function's promise leaves one outcome: two outcomes that meet it are the same, result, next state and every lent byte. The promise is the
+-- function's own contract, as its callers' proofs read it. Assumes nothing.
+use Prim.Native.Nat.{ℕ}
 use mathlib.Core.Path.{_≡_, sym, _∙_}
 use mathlib.Core.List.{List}
-use Rattle.line.specs.Unstuffing.{Does}
-use Rattle.line.specs.Reader.{takeOf}
-use Rattle.line.specs.Writer.{Writes, writeOf}
-use Rattle.line.specs.Number.{outcomeNumber, writtenNumber}
-use Rattle.line.specs.declared.Place.{Place}
+use denote.Ref.{now}
 use Rattle.line.specs.declared.Taken.{Taken}
-use Rattle.line.specs.declared.Outcome.{Outcome}
 use Rattle.line.specs.declared.Written.{Written}
-use Rattle.state.specs.Layout.{size}
-use Rattle.session.specs.Receive.{Receives, receiveOf}
-use Rattle.lists.specs.Event.{Happens, eventOf}
-use Rattle.lists.specs.Slot.{Sends, slotOf}
-use Rattle.session.specs.PowerUp.{Powers, powerUpOf}
-use Rattle.words.specs.Number.{receivedNumber, eventedNumber, slottedNumber, poweredUpNumber, receivedC, eventedC, slottedC, poweredUpC}
-use Rattle.state.specs.Generator.{startOf, nextOf}
 use Rattle.state.specs.declared.Generator.{Generator}
 use Rattle.words.specs.declared.Received.{Received}
 use Rattle.words.specs.declared.Evented.{Evented}
 use Rattle.words.specs.declared.Slotted.{Slotted}
 use Rattle.words.specs.declared.PoweredUp.{PoweredUp}
-use Rattle.slave.specs.Returns as c
-use Rattle.demands.specs.Tight.{Tight}
+use Rattle.line.proofs.take.Reads as take
+use Rattle.line.proofs.write.Reads as write
+use Rattle.line.proofs.next_ctr.Reads as next-ctr
+use Rattle.line.proofs.Outcome.number.Reads as outcome-number
+use Rattle.line.proofs.Written.number.Reads as written-number
+use Rattle.session.proofs.power_up.Reads as power-up
+use Rattle.session.proofs.receive_byte.Reads as receive-byte
+use Rattle.session.proofs.event.Reads as event
+use Rattle.session.proofs.slot.Reads as slot
+use Rattle.session.proofs.state_size.Reads as state-size
+use Rattle.words.proofs.Received.number.Reads as received-number
+use Rattle.words.proofs.Evented.number.Reads as evented-number
+use Rattle.words.proofs.Slotted.number.Reads as slotted-number
+use Rattle.words.proofs.PoweredUp.number.Reads as powered-up-number
+use Rattle.state.proofs.Generator.new.Reads as generator-new
+use Rattle.state.proofs.Generator.next.Reads as generator-next
+use Rattle.slave.proofs.xcp_power_up.Reads as xcp-power-up
+use Rattle.slave.proofs.xcp_receive_byte.Reads as xcp-receive-byte
+use Rattle.slave.proofs.xcp_event.Reads as xcp-event
+use Rattle.slave.proofs.xcp_slot.Reads as xcp-slot
+use Rattle.slave.proofs.xcp_state_size.Reads as xcp-state-size
+use Rattle.demands.specs.Tight.{Tight, TightCall}
 
--- as where the inputs alone give the one that does
-pinned : {O : Type 0} (P : O → Type 0) (one : O) → ((o : O) → P o → o ≡ one) → Tight P
-pinned P one only o o′ h h′ = only o h ∙ sym (only o′ h′)
+-- both are what the inputs alone give
+same : {O : Type 0} {one o o′ : O} → o ≡ one → o′ ≡ one → o ≡ o′
+same h h′ = h ∙ sym h′
 
--- and where the promise is an equation, as that of the programs' `pair` is too
+-- where the promise is an equation, as that of the programs' `pair` is too
 pub equation-tight : {O : Type 0} (one : O) → Tight (λ r. r ≡ one)
-equation-tight one = pinned _ one (λ r h. h)
+equation-tight one o o′ h h′ = same h h′
 
 -- ---- line
-pub take-tight : (place : Place) (message : List ℕ) (byte : ℕ) → Tight (λ (o : Taken × List ℕ). Does (takeOf place message byte) (o .0) (o .1))
-take-tight place message byte = pinned _ (takeOf place message byte .taken, takeOf place message byte .message) (λ o h i. (h .result i, h .bytes i))
+pub take-tight : TightCall {O = Taken × List ℕ} take.Post (λ l r e. (r, now (e .1 .0)))
+take-tight l a r r′ e e′ h h′ i = (same (h .result) (h′ .result) i, same (h .bytes) (h′ .bytes) i)
 
-pub write-tight : (packet : List ℕ) (ctr : ℕ) (out : List ℕ) → Tight (λ (o : Written × List ℕ). Writes (writeOf packet ctr out) (o .0) (o .1))
-write-tight packet ctr out = pinned _ (writeOf packet ctr out .written, writeOf packet ctr out .out) (λ o h i. (h .result i, h .bytes i))
+pub write-tight : TightCall {O = Written × List ℕ} write.Post (λ l r e. (r, now (e .1 .1 .0)))
+write-tight l a r r′ e e′ h h′ i = (same (h .result) (h′ .result) i, same (h .bytes) (h′ .bytes) i)
 
-pub next-ctr-tight : (ctr : ℕ) → Tight (λ r. r ≡ (ctr + 1) % 256)
-next-ctr-tight ctr = equation-tight ((ctr + 1) % 256)
+pub next-ctr-tight : TightCall {O = ℕ} next-ctr.Post (λ l r e. r)
+next-ctr-tight l a r r′ e e′ h h′ = same h h′
 
-pub outcome-number-tight : (o : Outcome) → Tight (λ r. r ≡ outcomeNumber o)
-outcome-number-tight o = equation-tight (outcomeNumber o)
+pub outcome-number-tight : TightCall {O = ℕ} outcome-number.Post (λ l r e. r)
+outcome-number-tight l a r r′ e e′ h h′ = same h h′
 
-pub written-number-tight : (w : Written) → Tight (λ r. r ≡ writtenNumber w)
-written-number-tight w = equation-tight (writtenNumber w)
+pub written-number-tight : TightCall {O = ℕ} written-number.Post (λ l r e. r)
+written-number-tight l a r r′ e e′ h h′ = same h h′
 
 -- ---- session
-pub power-up-tight : (state : List ℕ) (start : ℕ) → Tight (λ (o : PoweredUp × List ℕ). Powers (powerUpOf state start) (o .0) (o .1))
-power-up-tight state start = pinned _ (powerUpOf state start .poweredUp, powerUpOf state start .state) (λ o h i. (h .result i, h .state i))
+pub power-up-tight : TightCall {O = PoweredUp × List ℕ} power-up.Post (λ l r e. (r, now (e .0)))
+power-up-tight l a r r′ e e′ h h′ i = (same (h .result) (h′ .result) i, same (h .state) (h′ .state) i)
 
-pub receive-byte-tight : (state cal meas : List ℕ) (byte : ℕ) → Tight (λ (o : Received × List ℕ × List ℕ). Receives (receiveOf state cal meas byte) (o .0) (o .1) (o .2))
-receive-byte-tight state cal meas byte =
-    pinned _ (receiveOf state cal meas byte .received, receiveOf state cal meas byte .state, receiveOf state cal meas byte .cal) (λ o h i. (h .result i, h .state i, h .memory i))
+pub receive-byte-tight : TightCall {O = Received × List ℕ × List ℕ} receive-byte.Post (λ l r e. (r, now (e .0), now (e .1 .0)))
+receive-byte-tight l a r r′ e e′ h h′ i = (same (h .result) (h′ .result) i, same (h .state) (h′ .state) i, same (h .memory) (h′ .memory) i)
 
-pub event-tight : (state cal meas : List ℕ) (number clock : ℕ) → Tight (λ (o : Evented × List ℕ). Happens (eventOf state cal meas number clock) (o .0) (o .1))
-event-tight state cal meas number clock =
-    pinned _ (eventOf state cal meas number clock .evented, eventOf state cal meas number clock .state) (λ o h i. (h .result i, h .state i))
+pub event-tight : TightCall {O = Evented × List ℕ} event.Post (λ l r e. (r, now (e .0)))
+event-tight l a r r′ e e′ h h′ i = (same (h .result) (h′ .result) i, same (h .state) (h′ .state) i)
 
-pub slot-tight : (state out : List ℕ) → Tight (λ (o : Slotted × List ℕ × List ℕ). Sends (slotOf state out) (o .0) (o .1) (o .2))
-slot-tight state out = pinned _ (slotOf state out .slotted, slotOf state out .state, slotOf state out .out) (λ o h i. (h .result i, h .state i, h .bytes i))
+pub slot-tight : TightCall {O = Slotted × List ℕ × List ℕ} slot.Post (λ l r e. (r, now (e .0), now (e .1 .0)))
+slot-tight l a r r′ e e′ h h′ i = (same (h .result) (h′ .result) i, same (h .state) (h′ .state) i, same (h .bytes) (h′ .bytes) i)
 
--- xcp_state_size promises the same
-pub state-size-tight : Tight (λ r. r ≡ size)
-state-size-tight = equation-tight size
+pub state-size-tight : TightCall {O = ℕ} state-size.Post (λ l r e. r)
+state-size-tight l a r r′ e e′ h h′ = same h h′
 
-pub received-number-tight : (o : Received) → Tight (λ r. r ≡ receivedNumber o)
-received-number-tight o = equation-tight (receivedNumber o)
+pub received-number-tight : TightCall {O = ℕ} received-number.Post (λ l r e. r)
+received-number-tight l a r r′ e e′ h h′ = same h h′
 
-pub evented-number-tight : (o : Evented) → Tight (λ r. r ≡ eventedNumber o)
-evented-number-tight o = equation-tight (eventedNumber o)
+pub evented-number-tight : TightCall {O = ℕ} evented-number.Post (λ l r e. r)
+evented-number-tight l a r r′ e e′ h h′ = same h h′
 
-pub slotted-number-tight : (o : Slotted) → Tight (λ r. r ≡ slottedNumber o)
-slotted-number-tight o = equation-tight (slottedNumber o)
+pub slotted-number-tight : TightCall {O = ℕ} slotted-number.Post (λ l r e. r)
+slotted-number-tight l a r r′ e e′ h h′ = same h h′
 
-pub powered-up-number-tight : (o : PoweredUp) → Tight (λ r. r ≡ poweredUpNumber o)
-powered-up-number-tight o = equation-tight (poweredUpNumber o)
+pub powered-up-number-tight : TightCall {O = ℕ} powered-up-number.Post (λ l r e. r)
+powered-up-number-tight l a r r′ e e′ h h′ = same h h′
 
-pub generator-new-tight : (start : ℕ) → Tight (λ (g : Generator). g .x ≡ startOf start)
-generator-new-tight start = pinned _ (record { x = startOf start }) (λ g h i. record { x = h i })
+pub generator-new-tight : TightCall {O = Generator} generator-new.Post (λ l r e. r)
+generator-new-tight l a r r′ e e′ h h′ i = record { x = same h h′ i }
 
-pub generator-next-tight : (g : Generator) → Tight (λ (r : Generator). r .x ≡ nextOf (g .x))
-generator-next-tight g = pinned _ (record { x = nextOf (g .x) }) (λ r h i. record { x = h i })
+pub generator-next-tight : TightCall {O = Generator} generator-next.Post (λ l r e. r)
+generator-next-tight l a r r′ e e′ h h′ i = record { x = same h h′ i }
 
 -- ---- the C interface
-pub xcp-power-up-tight : (state : List ℕ) (start : ℕ) → Tight (λ (o : ℕ × List ℕ). c.PowersUp (powerUpOf state start) (o .0) (o .1))
-xcp-power-up-tight state start = pinned _ (poweredUpC (powerUpOf state start .poweredUp), powerUpOf state start .state) (λ o h i. (h .result i, h .state i))
+pub xcp-power-up-tight : TightCall {O = ℕ × List ℕ} xcp-power-up.Post (λ l r e. (r, now (e .0)))
+xcp-power-up-tight l a r r′ e e′ h h′ i = (same (h .result) (h′ .result) i, same (h .state) (h′ .state) i)
 
-pub xcp-receive-byte-tight : (state cal meas : List ℕ) (byte : ℕ) → Tight (λ (o : ℕ × List ℕ × List ℕ). c.Receives (receiveOf state cal meas byte) (o .0) (o .1) (o .2))
-xcp-receive-byte-tight state cal meas byte =
-    pinned _ (receivedC (receiveOf state cal meas byte .received), receiveOf state cal meas byte .state, receiveOf state cal meas byte .cal) (λ o h i. (h .result i, h .state i, h .memory i))
+pub xcp-receive-byte-tight : TightCall {O = ℕ × List ℕ × List ℕ} xcp-receive-byte.Post (λ l r e. (r, now (e .0), now (e .1 .0)))
+xcp-receive-byte-tight l a r r′ e e′ h h′ i = (same (h .result) (h′ .result) i, same (h .state) (h′ .state) i, same (h .memory) (h′ .memory) i)
 
-pub xcp-event-tight : (state cal meas : List ℕ) (event clock : ℕ) → Tight (λ (o : ℕ × List ℕ). c.Happens (eventOf state cal meas event clock) (o .0) (o .1))
-xcp-event-tight state cal meas event clock =
-    pinned _ (eventedC (eventOf state cal meas event clock .evented), eventOf state cal meas event clock .state) (λ o h i. (h .result i, h .state i))
+pub xcp-event-tight : TightCall {O = ℕ × List ℕ} xcp-event.Post (λ l r e. (r, now (e .0)))
+xcp-event-tight l a r r′ e e′ h h′ i = (same (h .result) (h′ .result) i, same (h .state) (h′ .state) i)
 
-pub xcp-slot-tight : (state out : List ℕ) → Tight (λ (o : ℕ × List ℕ × List ℕ). c.Sends (slotOf state out) (o .0) (o .1) (o .2))
-xcp-slot-tight state out = pinned _ (slottedC (slotOf state out .slotted), slotOf state out .state, slotOf state out .out) (λ o h i. (h .result i, h .state i, h .bytes i))
+pub xcp-slot-tight : TightCall {O = ℕ × List ℕ × List ℕ} xcp-slot.Post (λ l r e. (r, now (e .0), now (e .1 .0)))
+xcp-slot-tight l a r r′ e e′ h h′ i = (same (h .result) (h′ .result) i, same (h .state) (h′ .state) i, same (h .bytes) (h′ .bytes) i)
+
+pub xcp-state-size-tight : TightCall {O = ℕ} xcp-state-size.Post (λ l r e. r)
+xcp-state-size-tight l a r r′ e e′ h h′ = same h h′
