@@ -17,7 +17,7 @@ use Rattle.state.proofs.Consistent.{consistent-size}
 use Rattle.fields.proofs.Readers.{same-part, waits-reads, answer-reads}
 use Rattle.fields.proofs.Served.{answerSent-waits, packetSent-rest}
 use Rattle.demands.specs.Slave.{ours}
-use Rattle.demands.specs.Runs.{Call, Byte, Event, Slot, Elsewhere, after, run, sends, each, frames}
+use Rattle.demands.specs.Runs.{Call, Byte, Event, SendingSlot, Elsewhere, afterCall, run, sends, each, frames}
 use Rattle.demands.specs.Heard.{stopsAt}
 use Rattle.demands.specs.Waiting.{waitingAnswer, waitingOf, packetFor, isAnswer, isOf, carried, answersIn}
 use Rattle.demands.specs.Kept.{accepts, gains, goes as goesOf, NothingLost}
@@ -32,27 +32,27 @@ use Rattle.demands.proofs.Events.{event-waiting, event-waits, event-ans
 -- ---- whatever waits, goes and comes: if each call keeps the sum, a run does
 module _ (waiting : List ℕ → List (List ℕ)) (goes comes : List ℕ → Call → List (List ℕ)) where
   abbrev Balanced : Type 0
-  Balanced = (s : List ℕ) (c : Call) → consistent s ≡ true → goes s c ++ waiting (after ours s c) ≡ waiting s ++ comes s c
+  Balanced = (s : List ℕ) (c : Call) → consistent s ≡ true → goes s c ++ waiting (afterCall ours s c) ≡ waiting s ++ comes s c
 
   pub balanced : Balanced → (s : List ℕ) (cs : List Call) → consistent s ≡ true → each goes ours s cs ++ waiting (run ours s cs) ≡ waiting s ++ each comes ours s cs
   balanced step s [] h = sym (append-nil (waiting s))
   balanced step s (c ∷ cs) h =
-      let t : List ℕ = after ours s c in
-      append-assoc (goes s c) (each goes ours (after ours s c) cs) (waiting (run ours (after ours s c) cs))
-      ∙ ap (λ (x : List (List ℕ)). goes s c ++ x) (balanced step (after ours s c) cs (after-kept s c h))
-      ∙ sym (append-assoc (goes s c) (waiting (after ours s c)) (each comes ours (after ours s c) cs))
-      ∙ ap (λ (x : List (List ℕ)). x ++ each comes ours (after ours s c) cs) (step s c h)
-      ∙ append-assoc (waiting s) (comes s c) (each comes ours (after ours s c) cs)
+      let t : List ℕ = afterCall ours s c in
+      append-assoc (goes s c) (each goes ours (afterCall ours s c) cs) (waiting (run ours (afterCall ours s c) cs))
+      ∙ ap (λ (x : List (List ℕ)). goes s c ++ x) (balanced step (afterCall ours s c) cs (after-kept s c h))
+      ∙ sym (append-assoc (goes s c) (waiting (afterCall ours s c)) (each comes ours (afterCall ours s c) cs))
+      ∙ ap (λ (x : List (List ℕ)). x ++ each comes ours (afterCall ours s c) cs) (step s c h)
+      ∙ append-assoc (waiting s) (comes s c) (each comes ours (afterCall ours s c) cs)
 
 -- ---- a slot, of which w is left and whose frames carry what passes a test
 slot-balanced : (test : List ℕ → Bool) (w : List ℕ → List (List ℕ)) (s out : List ℕ) → consistent s ≡ true
     → ((t : Turn) → Fair s t → carried test (framesOf (ctrOf s) (packetFor t s)) ++ w (turned t s) ≡ w s)
-    → carried test (sends ours s (Slot out)) ++ w (slotOf s out .state) ≡ w s ++ []
+    → carried test (sends ours s (SendingSlot out)) ++ w (slotOf s out .state) ≡ w s ++ []
 slot-balanced test w s out c f = elim (decLe room (length out)) [ yes r ↦ with-room r | no r ↦ without (lt-of-not-le r) ] where
-  with-room : room ≤ length out → carried test (sends ours s (Slot out)) ++ w (slotOf s out .state) ≡ w s ++ []
+  with-room : room ≤ length out → carried test (sends ours s (SendingSlot out)) ++ w (slotOf s out .state) ≡ w s ++ []
   with-room r = rw (slot-sends s out c r, slot-state s out c r) (f (turnOf s) (fair s (consistent-size s c)) ∙ sym (append-nil (w s)))
 
-  without : length out < room → carried test (sends ours s (Slot out)) ++ w (slotOf s out .state) ≡ w s ++ []
+  without : length out < room → carried test (sends ours s (SendingSlot out)) ++ w (slotOf s out .state) ≡ w s ++ []
   without r = rw (slot-silent s out c r, slot-stays s out c r) (sym (append-nil (w s)))
 
 -- ---- answers
@@ -63,17 +63,17 @@ answered-turn s _ h (list j k n) =
     let y = packetSent-rest s k in
     rw (carries-none isAnswer (ctrOf s) (packetOf s k) (packet-no-answer s k (n .odt)), waits-reads (same-part (lit≤ tt) (lit≤ tt) y), answer-reads (same-part (lit≤ tt) (lit≤ tt) y))
 
-answers-step : (s : List ℕ) (c : Call) → consistent s ≡ true → answersIn (sends ours s c) ++ waitingAnswer (after ours s c) ≡ waitingAnswer s ++ accepts ours s c
+answers-step : (s : List ℕ) (c : Call) → consistent s ≡ true → answersIn (sends ours s c) ++ waitingAnswer (afterCall ours s c) ≡ waitingAnswer s ++ accepts ours s c
 answers-step s (Byte cal meas b) h = byte-answer s cal meas b h
 answers-step s (Event cal meas event clock) h = rw (event-waits s cal meas event clock, event-answer s cal meas event clock) (sym (append-nil (waitingAnswer s)))
-answers-step s (Slot out) h = slot-balanced isAnswer waitingAnswer s out h (λ t f. answered-turn s t (consistent-size s h) f)
+answers-step s (SendingSlot out) h = slot-balanced isAnswer waitingAnswer s out h (λ t f. answered-turn s t (consistent-size s h) f)
 answers-step s Elsewhere h = sym (append-nil (waitingAnswer s))
 
 -- the answers that a run's frames carry, call by call
 answers-each : (s : List ℕ) (cs : List Call) → answersIn (frames ours s cs) ≡ each (λ (t : List ℕ) (c : Call). answersIn (sends ours t c)) ours s cs
 answers-each s [] = refl
 answers-each s (c ∷ cs) =
-    carried-append isAnswer (sends ours s c) (frames ours (after ours s c) cs) ∙ ap (λ (x : List (List ℕ)). answersIn (sends ours s c) ++ x) (answers-each (after ours s c) cs)
+    carried-append isAnswer (sends ours s c) (frames ours (afterCall ours s c) cs) ∙ ap (λ (x : List (List ℕ)). answersIn (sends ours s c) ++ x) (answers-each (afterCall ours s c) cs)
 
 -- ---- the packets of list l
 packet-turn : (s : List ℕ) (l : ℕ) (t : Turn) → length s ≡ size → l < lists → Fair s t → carried (isOf l) (framesOf (ctrOf s) (packetFor t s)) ++ waitingOf (turned t s) l ≡ waitingOf s l
@@ -90,10 +90,10 @@ stopped-or-kept : (t : Bool) (w : List (List ℕ)) → cond t w [] ++ cond t [] 
 stopped-or-kept true w = refl
 stopped-or-kept false w = sym (append-nil w)
 
-packets-step : (l : ℕ) → l < lists → (s : List ℕ) (c : Call) → consistent s ≡ true → goesOf ours l s c ++ waitingOf (after ours s c) l ≡ waitingOf s l ++ gains l s c
+packets-step : (l : ℕ) → l < lists → (s : List ℕ) (c : Call) → consistent s ≡ true → goesOf ours l s c ++ waitingOf (afterCall ours s c) l ≡ waitingOf s l ++ gains l s c
 packets-step l q s (Byte cal meas b) h = rw (byte-waiting s cal meas b h l q) (stopped-or-kept (stopsAt l s cal meas b) (waitingOf s l))
 packets-step l q s (Event cal meas event clock) h = event-waiting s cal meas event clock l h q
-packets-step l q s (Slot out) h = slot-balanced (isOf l) (λ (t : List ℕ). waitingOf t l) s out h (λ t f. packet-turn s l t (consistent-size s h) q f)
+packets-step l q s (SendingSlot out) h = slot-balanced (isOf l) (λ (t : List ℕ). waitingOf t l) s out h (λ t f. packet-turn s l t (consistent-size s h) q f)
 packets-step l q s Elsewhere h = sym (append-nil (waitingOf s l))
 
 pub nothing-lost : NothingLost ours

@@ -40,7 +40,7 @@ use Rattle.fields.proofs.Stores.{put32-same}
 use Rattle.fields.proofs.Served.{answerSent-front, answerSent-session, packetSent-rest}
 use Rattle.fields.proofs.Kept.{receive-kept, event-kept, slot-kept}
 use Rattle.demands.specs.Slave.{ours}
-use Rattle.demands.specs.Runs.{Call, Byte, Event, Slot, Elsewhere, run}
+use Rattle.demands.specs.Runs.{Call, Byte, Event, SendingSlot, Elsewhere, run}
 use Rattle.demands.specs.Heard.{readBy, Commands, deedOf, bringsKey}
 use Rattle.demands.specs.Demand2.{otherLock, keyNumber, keyTo, Uncommanded, SeedOpens}
 use Rattle.demands.proofs.ReadBy.{read-only, read-length, read-generator, read-lock}
@@ -102,7 +102,7 @@ run-alike (Event cal meas event clock ∷ cs) s c u =
     let front : Same 0 (sampleAt 0) s t = event-front s cal meas event clock in
     let later = run-alike cs t (event-kept s cal meas event clock c) u in
     (alike-then (alike (same-part (lit≤ tt) (lit≤ tt) front) (same-part (lit≤ tt) (lit≤ tt) front)) (later .0), later .1)
-run-alike (Slot out ∷ cs) s c u =
+run-alike (SendingSlot out ∷ cs) s c u =
     let later = run-alike cs (slotOf s out .state) (slot-kept s out c) u in
     (alike-then (slot-alike s out c) (later .0), later .1)
 run-alike (Elsewhere ∷ cs) s c u = run-alike cs s c u

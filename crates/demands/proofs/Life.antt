@@ -23,7 +23,7 @@ use Rattle.fields.proofs.Frames.{Only, only-sets}
 use Rattle.fields.proofs.Readers.{Same, before, behind, same-block}
 use Rattle.fields.proofs.Kept.{power-consistent, receive-kept, event-kept, slot-kept}
 use Rattle.demands.specs.Slave.{ours}
-use Rattle.demands.specs.Runs.{Slot, sends}
+use Rattle.demands.specs.Runs.{SendingSlot, sends}
 use Rattle.demands.specs.Life.{Device, Moment, PowerOn, Hears, Samples, Serves, passed, lived, sentIn, Always}
 use Rattle.demands.specs.Demand2.{Downloads, Uploads, dueAt, dueIn, ShutAt, ClearAt}
 use Rattle.demands.proofs.Received.{Reads, rests, acts, received}
@@ -147,9 +147,9 @@ life-numbers (Hears meas b ∷ ms) i h c a = life-numbers ms i (passed ours h (H
 life-numbers (Samples meas event clock ∷ ms) i h c a =
     life-numbers ms i (passed ours h (Samples meas event clock)) (passed-kept h (Samples meas event clock) c) (event-ctr (h .state) (h .cal) meas event clock ∙ a)
 life-numbers (Serves out ∷ ms) i h c a =
-    let here : List (List ℕ) = dueAt (h .state) (Slot out) in
+    let here : List (List ℕ) = dueAt (h .state) (SendingSlot out) in
     let u : Device = passed ours h (Serves out) in
-    let w : Numbered 0 i (sends ours (h .state) (Slot out)) here (u .state) = slot-numbers 0 i (h .state) out c a in
+    let w : Numbered 0 i (sends ours (h .state) (SendingSlot out)) here (u .state) = slot-numbers 0 i (h .state) out c a in
     ap₂ (λ (x y : List (List ℕ)). x ++ y) (w .sent) (life-numbers ms (i + length here) u (passed-kept h (Serves out) c) (w .ctr))
 
 pub life-numbered : (h : Device) (start : ℕ) (ms : List Moment) → length (h .state) ≡ size → sentIn ours h (PowerOn start ∷ ms) ≡ dueIn ours 0 h (PowerOn start ∷ ms)

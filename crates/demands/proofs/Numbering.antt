@@ -24,7 +24,7 @@ use Rattle.state.proofs.Consistent.{consistent-size}
 use Rattle.fields.proofs.Stores.{put32-out}
 use Rattle.fields.proofs.Kept.{power-consistent, receive-kept, event-kept, slot-kept}
 use Rattle.demands.specs.Slave.{ours}
-use Rattle.demands.specs.Runs.{Call, Byte, Event, Slot, Elsewhere, sends, frames}
+use Rattle.demands.specs.Runs.{Call, Byte, Event, SendingSlot, Elsewhere, sends, frames}
 use Rattle.demands.specs.Waiting.{packetFor}
 use Rattle.demands.specs.Demand2.{dueAt, due, numbered}
 use Rattle.demands.proofs.Turns.{Fair, nobody, answer, list, fair}
@@ -60,13 +60,13 @@ turn-numbers c i s _ h a nobody = record { sent = refl; ctr = at-same c i s a }
 turn-numbers c i s _ h a (answer w) = record { sent = rw a; ctr = at-next c i (answer-ctr s h) a }
 turn-numbers c i s _ h a (list j m n) = record { sent = rw a; ctr = at-next c i (packet-ctr s m h) a }
 
-pub slot-numbers : (c i : ℕ) (s out : List ℕ) → consistent s ≡ true → At c i s → Numbered c i (sends ours s (Slot out)) (dueAt s (Slot out)) (slotOf s out .state)
+pub slot-numbers : (c i : ℕ) (s out : List ℕ) → consistent s ≡ true → At c i s → Numbered c i (sends ours s (SendingSlot out)) (dueAt s (SendingSlot out)) (slotOf s out .state)
 slot-numbers c i s out h a = elim (decLe room (length out)) [ yes r ↦ with-room r | no r ↦ without (lt-of-not-le r) ] where
-  with-room : room ≤ length out → Numbered c i (sends ours s (Slot out)) (dueAt s (Slot out)) (slotOf s out .state)
+  with-room : room ≤ length out → Numbered c i (sends ours s (SendingSlot out)) (dueAt s (SendingSlot out)) (slotOf s out .state)
   with-room r =
       rw (slot-sends s out h r, le-ltb (length out) room r, slot-state s out h r) (turn-numbers c i s (turnOf s) (consistent-size s h) a (fair s (consistent-size s h)))
 
-  without : length out < room → Numbered c i (sends ours s (Slot out)) (dueAt s (Slot out)) (slotOf s out .state)
+  without : length out < room → Numbered c i (sends ours s (SendingSlot out)) (dueAt s (SendingSlot out)) (slotOf s out .state)
   without r = rw (slot-silent s out h r, lt-ltb (length out) room r, slot-stays s out h r) (record { sent = refl; ctr = at-same c i s a })
 
 -- ---- a run
@@ -82,10 +82,10 @@ numbers-on c [] i s h a = refl
 numbers-on c (Byte cal meas b ∷ cs) i s h a = numbers-on c cs i (receiveOf s cal meas b .state) (receive-kept s cal meas b h) (byte-ctr s cal meas b h ∙ a)
 numbers-on c (Event cal meas event clock ∷ cs) i s h a =
     numbers-on c cs i (eventOf s cal meas event clock .state) (event-kept s cal meas event clock h) (event-ctr s cal meas event clock ∙ a)
-numbers-on c (Slot out ∷ cs) i s h a =
-    let here : List (List ℕ) = dueAt s (Slot out) in
+numbers-on c (SendingSlot out ∷ cs) i s h a =
+    let here : List (List ℕ) = dueAt s (SendingSlot out) in
     let u : List ℕ = slotOf s out .state in
-    let w : Numbered c i (sends ours s (Slot out)) here u = slot-numbers c i s out h a in
+    let w : Numbered c i (sends ours s (SendingSlot out)) here u = slot-numbers c i s out h a in
     ap₂ (λ (x y : List (List ℕ)). x ++ y) (w .sent) (numbers-on c cs (i + length here) u (slot-kept s out h) (w .ctr)) ∙ sym (numbered-append c i here (due ours u cs))
 numbers-on c (Elsewhere ∷ cs) i s h a = numbers-on c cs i s h a
 

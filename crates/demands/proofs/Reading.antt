@@ -48,7 +48,7 @@ use Rattle.fields.proofs.Effects.{answering, effect-place, effect-message}
 use Rattle.fields.proofs.Kept.{receive-kept, event-kept, slot-kept}
 use Rattle.judge.specs.Doable.{Doable}
 use Rattle.demands.specs.Slave.{ours}
-use Rattle.demands.specs.Runs.{Call, Byte, Event, Slot, Elsewhere, run, received}
+use Rattle.demands.specs.Runs.{Call, Byte, Event, SendingSlot, Elsewhere, run, received}
 use Rattle.demands.specs.Heard.{packetBy, packetEnded, readBy}
 use Rattle.demands.proofs.Received.{Reads, rests, acts}
 use Rattle.demands.proofs.Received as byte
@@ -72,13 +72,13 @@ unfolding messageOf setMessage
 message-set s m h k = rw (drop-at (take messageAt s) (m ++ drop answerAt s) messageAt (length-take-le messageAt s (omega arith))) (take-at m (drop answerAt s) longest k)
 
 -- what the reader of a state holds: its place, and the message so far
-pub record Holds (t : List ℕ) (p : Place) (m : List ℕ) : Type 0 where
+pub record ReaderAt (t : List ℕ) (p : Place) (m : List ℕ) : Type 0 where
   pub place : placeOf t ≡ p
   pub message : messageOf t ≡ m
 
 -- after byte b
 abbrev Fed-by : List ℕ → ℕ → List ℕ → Type 0
-Fed-by s b t = Holds t (fedOf s b .taken .place) (fedOf s b .message)
+Fed-by s b t = ReaderAt t (fedOf s b .taken .place) (fedOf s b .message)
 
 read-place : (s : List ℕ) (f : Fed) → length s ≡ size → length (f .message) ≡ longest → placeBy messages (f .taken .place) (f .message) ≡ f .taken .place
     → placeOf (readOn s f) ≡ f .taken .place
@@ -99,7 +99,7 @@ read-holds s b h =
     }
 
 -- a deed leaves the reader
-after-reader : (d : Deed) (s cal meas : List ℕ) (n : ℕ) → Doable d n (length cal) (length meas) → Holds (after d s cal meas) (placeOf s) (messageOf s)
+after-reader : (d : Deed) (s cal meas : List ℕ) (n : ℕ) → Doable d n (length cal) (length meas) → ReaderAt (after d s cal meas) (placeOf s) (messageOf s)
 after-reader d s cal meas n h =
     let a : Answering (reply d s cal meas) = answering d s cal meas n h in
     let w = only-answered (effect d s) (reply d s cal meas) (a .few) in
@@ -108,7 +108,7 @@ after-reader d s cal meas n h =
       message = message-reads (apart tt w) ∙ effect-message d s n (length cal) (length meas) h;
     }
 
-holds-then : {t u : List ℕ} {p : Place} {m : List ℕ} → Holds u (placeOf t) (messageOf t) → Holds t p m → Holds u p m
+holds-then : {t u : List ℕ} {p : Place} {m : List ℕ} → ReaderAt u (placeOf t) (messageOf t) → ReaderAt t p m → ReaderAt u p m
 holds-then a b = record { place = a .place ∙ b .place; message = a .message ∙ b .message }
 
 byte-by : {s cal meas : List ℕ} {b : ℕ} {o : Step} {x : Option Deed} → length s ≡ size → Reads s cal meas b o x → Fed-by s b (o .state)
@@ -119,18 +119,18 @@ byte-holds : (s cal meas : List ℕ) (b : ℕ) → consistent s ≡ true → Fed
 byte-holds s cal meas b c = byte-by (consistent-size s c) (byte.received s cal meas b c)
 
 -- ---- events and slots leave the reader
-same-holds : {s t : List ℕ} → Same placeAt answerAt s t → Holds t (placeOf s) (messageOf s)
+same-holds : {s t : List ℕ} → Same placeAt answerAt s t → ReaderAt t (placeOf s) (messageOf s)
 same-holds w = record { place = place-reads (same-part (lit≤ tt) (lit≤ tt) w); message = message-reads (same-part (lit≤ tt) (lit≤ tt) w) }
 
-event-holds : (s cal meas : List ℕ) (event clock : ℕ) → Holds (eventOf s cal meas event clock .state) (placeOf s) (messageOf s)
+event-holds : (s cal meas : List ℕ) (event clock : ℕ) → ReaderAt (eventOf s cal meas event clock .state) (placeOf s) (messageOf s)
 event-holds s cal meas event clock = same-holds (same-part (lit≤ tt) (lit≤ tt) (event-back s cal meas event clock))
 
-turned-holds : (s : List ℕ) (t : Turn) → Fair s t → Holds (turned t s) (placeOf s) (messageOf s)
+turned-holds : (s : List ℕ) (t : Turn) → Fair s t → ReaderAt (turned t s) (placeOf s) (messageOf s)
 turned-holds s _ nobody = record { place = refl; message = refl }
 turned-holds s _ (answer w) = same-holds (answerSent-reader s)
 turned-holds s _ (list j k n) = same-holds (same-part (lit≤ tt) (lit≤ tt) (packetSent-rest s k))
 
-slot-holds : (s out : List ℕ) → consistent s ≡ true → Holds (slotOf s out .state) (placeOf s) (messageOf s)
+slot-holds : (s out : List ℕ) → consistent s ≡ true → ReaderAt (slotOf s out .state) (placeOf s) (messageOf s)
 slot-holds s out c =
     elim (decLe room (length out)) [
       | yes h ↦ rw (slot-state s out c h) (turned-holds s (turnOf s) (fair s (consistent-size s c)))
@@ -139,7 +139,7 @@ slot-holds s out c =
 
 -- ---- a run
 pub reader-runs : (cs : List Call) (s : List ℕ) → consistent s ≡ true
-    → Holds (run ours s cs) (reads (placeOf s) (messageOf s) (received cs) .place) (reads (placeOf s) (messageOf s) (received cs) .message)
+    → ReaderAt (run ours s cs) (reads (placeOf s) (messageOf s) (received cs) .place) (reads (placeOf s) (messageOf s) (received cs) .message)
 reader-runs [] s c = record { place = refl; message = refl }
 reader-runs (Byte cal meas b ∷ cs) s c =
     let t : List ℕ = receiveOf s cal meas b .state in
@@ -148,7 +148,7 @@ reader-runs (Byte cal meas b ∷ cs) s c =
 reader-runs (Event cal meas event clock ∷ cs) s c =
     let w = event-holds s cal meas event clock in
     rw (w .place, w .message) at (reader-runs cs (eventOf s cal meas event clock .state) (event-kept s cal meas event clock c))
-reader-runs (Slot out ∷ cs) s c =
+reader-runs (SendingSlot out ∷ cs) s c =
     let w = slot-holds s out c in
     rw (w .place, w .message) at (reader-runs cs (slotOf s out .state) (slot-kept s out c))
 reader-runs (Elsewhere ∷ cs) s c = reader-runs cs s c

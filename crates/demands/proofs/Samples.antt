@@ -21,7 +21,7 @@ use Rattle.fields.proofs.Stores.{sets-in, block-sets}
 use Rattle.fields.proofs.Fields.{empty-stored}
 use Rattle.fields.proofs.Frames.{Only, only-none, only-then, only-wider, only-sets}
 use Rattle.fields.proofs.Readers.{Same, before, same-part, mode-reads, runs-reads}
-use Rattle.demands.specs.Waiting.{packetAt, packetsFrom, waitingOf, packetWith, sampleFrom, sampleOf}
+use Rattle.demands.specs.Waiting.{packetStored, packetsFrom, waitingOf, packetWith, sampleFrom, sampleOf}
 use Rattle.demands.proofs.Waiting.{StoresSame, stored-same, packetAt-same, waiting-same, empty-at, this-or-other}
 
 -- ---- the store of list l
@@ -60,12 +60,12 @@ module _ (s : List ℕ) (k : ℕ) (bs : List ℕ) (long : length s ≡ size) (od
   unfolding storedLength
   stored-length h = rw (stored-byte, le-ltb (length bs) (leastOf k) h, le-ltb storedMost (length bs) few)
 
-  packet-stored : leastOf k ≤ length bs → 1 ≤ length bs → packetAt (stored s k bs) k ≡ (k ∷ bs) ∷ []
+  packet-stored : leastOf k ≤ length bs → 1 ≤ length bs → packetStored (stored s k bs) k ≡ (k ∷ bs) ∷ []
   unfolding packetOf
   packet-stored h p = rw (stored-length h, lt-ltb 0 (length bs) p, stored-block)
 
 -- one that waits if it has something to send
-waits-stored : (s : List ℕ) (k : ℕ) (bs : List ℕ) → length s ≡ size → k < allOdts → length bs ≤ storedMost → (1 ≤ length bs → leastOf k ≤ length bs) → packetAt (stored s k bs) k ≡ packetWith k bs
+waits-stored : (s : List ℕ) (k : ℕ) (bs : List ℕ) → length s ≡ size → k < allOdts → length bs ≤ storedMost → (1 ≤ length bs → leastOf k ≤ length bs) → packetStored (stored s k bs) k ≡ packetWith k bs
 waits-stored s k [] long odt few least = empty-at (stored s k []) k (empty-stored (stored s k []) k (stored-byte s k [] long odt few))
 waits-stored s k (b ∷ bs) long odt few least = packet-stored s k (b ∷ bs) long odt few (least (omega arith)) (omega arith)
 
@@ -97,25 +97,25 @@ module _ (s : List ℕ) (k clock : ℕ) (cal meas : List ℕ) (long : length s �
       (only-wider (omega arith) (omega arith) (stored-only (upTo n) (k + n) (contentsOf s (k + n) clock cal meas) (before-it .long ∙ long) (omega arith) (few n (omega arith))))
 
   -- and each one's packet waits there
-  odt-waits : (n j : ℕ) → n ≤ m → j < n → packetAt (upTo n) (k + j) ≡ packetWith (k + j) (contentsOf s (k + j) clock cal meas)
+  odt-waits : (n j : ℕ) → n ≤ m → j < n → packetStored (upTo n) (k + j) ≡ packetWith (k + j) (contentsOf s (k + j) clock cal meas)
   unfolding capturedOdts
   odt-waits zero j h q = absurd (omega arith)
   odt-waits (suc n) j h q =
       let whole : length (upTo n) ≡ size = odts-only n (omega arith) .long ∙ long in
       let bs : List ℕ = contentsOf s (k + n) clock cal meas in
       this-or-other j n
-      (λ e. subst (λ (i : ℕ). packetAt (stored (upTo n) (k + n) (contentsOf s (k + n) clock cal meas)) (k + i) ≡ packetWith (k + i) (contentsOf s (k + i) clock cal meas)) (sym e)
+      (λ e. subst (λ (i : ℕ). packetStored (stored (upTo n) (k + n) (contentsOf s (k + n) clock cal meas)) (k + i) ≡ packetWith (k + i) (contentsOf s (k + i) clock cal meas)) (sym e)
       (waits-stored (upTo n) (k + n) bs whole (omega arith) (few n (omega arith)) (contents-least s (k + n) clock cal meas)))
       (λ other.
       packetAt-same (k + j) (before (omega arith) (stored-only (upTo n) (k + n) bs whole (omega arith) (few n (omega arith)))) ∙ odt-waits n j (omega arith) (omega arith))
 
 -- what waits, ODT by ODT
-by-odts : (t s : List ℕ) (k clock : ℕ) (cal meas : List ℕ) (n : ℕ) → ((j : ℕ) → j < n → packetAt t (k + j) ≡ packetWith (k + j) (contentsOf s (k + j) clock cal meas)) → packetsFrom t k n ≡ sampleFrom s k clock cal meas n
+by-odts : (t s : List ℕ) (k clock : ℕ) (cal meas : List ℕ) (n : ℕ) → ((j : ℕ) → j < n → packetStored t (k + j) ≡ packetWith (k + j) (contentsOf s (k + j) clock cal meas)) → packetsFrom t k n ≡ sampleFrom s k clock cal meas n
 unfolding packetsFrom sampleFrom
 by-odts t s k clock cal meas zero each = refl
 by-odts t s k clock cal meas (suc n) each =
-    let here : packetAt t k ≡ packetWith k (contentsOf s k clock cal meas) = rw add-zero at (each 0 (omega arith)) in
-    rw (here, by-odts t s (k + 1) clock cal meas n (λ j h. subst (λ (i : ℕ). packetAt t i ≡ packetWith i (contentsOf s i clock cal meas)) (further j) (each (suc j) (omega arith)))) where
+    let here : packetStored t k ≡ packetWith k (contentsOf s k clock cal meas) = rw add-zero at (each 0 (omega arith)) in
+    rw (here, by-odts t s (k + 1) clock cal meas n (λ j h. subst (λ (i : ℕ). packetStored t i ≡ packetWith i (contentsOf s i clock cal meas)) (further j) (each (suc j) (omega arith)))) where
       further : (j : ℕ) → k + suc j ≡ k + 1 + j
       further j = omega arith
 

@@ -26,8 +26,7 @@ use Rattle.state.proofs.Consistent.{consistent-size}
 use Rattle.fields.proofs.Readers.{answer-most}
 use Rattle.state.proofs.Sets.{block-length}
 use Rattle.demands.specs.Slave.{ours}
-use Rattle.demands.specs.Runs.{frameIn, sends}
-use Rattle.demands.specs.Runs as call
+use Rattle.demands.specs.Runs.{SendingSlot, frameIn, sends}
 use Rattle.demands.specs.Waiting.{AllBut, packetFor}
 use Rattle.demands.specs.Demand2.{ReadsBack}
 use Rattle.demands.proofs.Waiting.{stored-most, packet-length}
@@ -110,12 +109,12 @@ sent-turn s out _ h r nobody = sent-nobody s out
 sent-turn s out _ h r (answer w) = sent-answer s out (answer-packed s h w) r
 sent-turn s out _ h r (list j k n) = sent-packet s out k (packet-packed s k h (n .odt)) r
 
-pub slot-sends : (s out : List ℕ) → consistent s ≡ true → room ≤ length out → sends ours s (call.Slot out) ≡ framesOf (ctrOf s) (packetFor (turnOf s) s)
+pub slot-sends : (s out : List ℕ) → consistent s ≡ true → room ≤ length out → sends ours s (SendingSlot out) ≡ framesOf (ctrOf s) (packetFor (turnOf s) s)
 slot-sends s out c h =
     let n : length s ≡ size = consistent-size s c in
     ap (λ (o : Slot). frameIn (o .slotted) (o .out)) (slot-is s out c h) ∙ sent-turn s out (turnOf s) n h (fair s n)
 
-pub slot-silent : (s out : List ℕ) → consistent s ≡ true → length out < room → sends ours s (call.Slot out) ≡ []
+pub slot-silent : (s out : List ℕ) → consistent s ≡ true → length out < room → sends ours s (SendingSlot out) ≡ []
 slot-silent s out c h = ap (λ (o : Slot). frameIn (o .slotted) (o .out)) (slot-refused s out c h)
 
 -- ---- the CTR grows by one
@@ -144,7 +143,7 @@ reads-back s _ e h (list j k n) =
     let p = packet-packed s k h (n .odt) in
     (refl, packetOf s k, rw e refl, λ place m fits. round-trip place m (packetOf s k) (ctrOf s) fits (p .some) (p .few))
 
-pub slot-reads-back : (s out : List ℕ) → consistent s ≡ true → room ≤ length out → ReadsBack (sends ours s (call.Slot out)) s
+pub slot-reads-back : (s out : List ℕ) → consistent s ≡ true → room ≤ length out → ReadsBack (sends ours s (SendingSlot out)) s
 slot-reads-back s out c h = let n : length s ≡ size = consistent-size s c in rw (slot-sends s out c h) (reads-back s (turnOf s) refl n (fair s n))
 
 -- ---- and the bytes past it stay

@@ -23,7 +23,7 @@ use Rattle.fields.proofs.Readers.{Same, same-part, flag-reads, waits-reads, ans
 use Rattle.fields.proofs.Served.{answerSent-waits, packetSent-rest}
 use Rattle.fields.proofs.Kept.{receive-kept, event-kept, slot-kept}
 use Rattle.demands.specs.Slave.{ours}
-use Rattle.demands.specs.Runs.{Call, Byte, Event, Slot, Elsewhere, after, frames, sends, oneMore, slots}
+use Rattle.demands.specs.Runs.{Call, Byte, Event, SendingSlot, Elsewhere, afterCall, frames, sends, oneMore, slots}
 use Rattle.demands.specs.Waiting.{packetFor, isAnswer, answersIn}
 use Rattle.demands.specs.Demand3.{LeavesWithin}
 use Rattle.demands.proofs.Turns.{Next, Fair, nobody, answer, list, round-fair}
@@ -43,7 +43,7 @@ uncounted out n h = rw (lt-leb room (length out) h)
 pub slots-cons : (c : Call) (cs : List Call) → slots (c ∷ cs) ≡ slots (c ∷ []) + slots cs
 slots-cons (Byte cal meas b) cs = omega arith
 slots-cons (Event cal meas event clock) cs = omega arith
-slots-cons (Slot out) cs = go (leb room (length out)) where
+slots-cons (SendingSlot out) cs = go (leb room (length out)) where
   go : (t : Bool) → oneMore t (slots cs) ≡ oneMore t 0 + slots cs
   go true = omega arith
   go false = omega arith
@@ -79,7 +79,7 @@ need-most true = omega arith
 need-most false = omega arith
 
 -- ---- a call before
-goes-on : (c : Call) (s a : List ℕ) (cs : List Call) (m n : ℕ) → LeavesWithin m ours (after ours s c) a cs → slots (c ∷ []) + m ≤ n → answersIn (sends ours s c) ≡ []
+goes-on : (c : Call) (s a : List ℕ) (cs : List Call) (m n : ℕ) → LeavesWithin m ours (afterCall ours s c) a cs → slots (c ∷ []) + m ≤ n → answersIn (sends ours s c) ≡ []
     → LeavesWithin n ours s a (c ∷ cs)
 goes-on c s a cs m n g h e =
     record {
@@ -89,7 +89,7 @@ goes-on c s a cs m n g h e =
       split = ap (λ l. c ∷ l) (g .split);
       roomy = g .roomy;
       early = omega (arith, slots-cons c (g .before), g .early);
-      noneBefore = carried-append isAnswer (sends ours s c) (frames ours (after ours s c) (g .before)) ∙ rw (e, g .noneBefore);
+      noneBefore = carried-append isAnswer (sends ours s c) (frames ours (afterCall ours s c) (g .before)) ∙ rw (e, g .noneBefore);
       sent = g .sent;
       noneAfter = g .noneAfter;
     }
@@ -107,7 +107,7 @@ Later cs = (a : List ℕ) (last : Bool) (s : List ℕ) → Waits a last s → ne
 
 -- by whose turn it is
 slot-by : (cs : List Call) (a : List ℕ) (last : Bool) (s out : List ℕ) → Waits a last s → room ≤ length out → need last ≤ suc (slots cs) → Later cs
-    → (t : Turn) → turnOf s ≡ t → Soon s t → LeavesWithin (need last) ours s a (Slot out ∷ cs)
+    → (t : Turn) → turnOf s ≡ t → Soon s t → LeavesWithin (need last) ours s a (SendingSlot out ∷ cs)
 slot-by cs a last s out w r h later _ e now =
     let c : consistent s ≡ true = w .fit in
     record {
@@ -134,9 +134,9 @@ slot-by cs a last s out w r h later _ e (next j k n f) =
       flag = rw st (packet-last s k z);
     } in
     let two : need last ≡ 2 = ap need (sym (w .flag) ∙ f) in
-    let quiet : answersIn (sends ours s (Slot out)) ≡ [] =
+    let quiet : answersIn (sends ours s (SendingSlot out)) ≡ [] =
     ap answersIn (slot-sends s out c r ∙ ap (λ t. framesOf (ctrOf s) (packetFor t s)) e) ∙ carries-none isAnswer (ctrOf s) (packetOf s k) (packet-no-answer s k (n .odt)) in
-    goes-on (Slot out) s a cs 1 (need last) (later a false (slotOf s out .state) u (omega (arith, two))) (omega (arith, two, counted out 0 r)) quiet
+    goes-on (SendingSlot out) s a cs 1 (need last) (later a false (slotOf s out .state) u (omega (arith, two))) (omega (arith, two, counted out 0 r)) quiet
 
 goes : (cs : List Call) → Later cs
 goes [] a last s w h = absurd (omega (arith, need-some last))
@@ -163,14 +163,14 @@ goes (Event cal meas event clock ∷ cs) a last s w h =
       flag = flag-reads lastAt (same-part (lit≤ tt) (lit≤ tt) (event-front s cal meas event clock)) ∙ w .flag;
     }) h)
     (omega arith) refl
-goes (Slot out ∷ cs) a last s w h = elim (decLe room (length out)) [ yes r ↦ with-room r (goes cs) | no r ↦ without (lt-of-not-le r) (goes cs) ] where
-  with-room : room ≤ length out → Later cs → LeavesWithin (need last) ours s a (Slot out ∷ cs)
+goes (SendingSlot out ∷ cs) a last s w h = elim (decLe room (length out)) [ yes r ↦ with-room r (goes cs) | no r ↦ without (lt-of-not-le r) (goes cs) ] where
+  with-room : room ≤ length out → Later cs → LeavesWithin (need last) ours s a (SendingSlot out ∷ cs)
   with-room r later =
       slot-by cs a last s out w r (rw (counted out (slots cs) r) at h) later (turnOf s) refl (soon s (consistent-size s (w .fit)) (w .waits))
 
-  without : length out < room → Later cs → LeavesWithin (need last) ours s a (Slot out ∷ cs)
+  without : length out < room → Later cs → LeavesWithin (need last) ours s a (SendingSlot out ∷ cs)
   without r later =
-      goes-on (Slot out) s a cs (need last) (need last)
+      goes-on (SendingSlot out) s a cs (need last) (need last)
       (subst (λ (u : List ℕ). LeavesWithin (need last) ours u a cs) (sym (slot-stays s out (w .fit) r)) (later a last s w (rw (uncounted out (slots cs) r) at h)))
       (omega (arith, uncounted out 0 r)) (ap answersIn (slot-silent s out (w .fit) r))
 goes (Elsewhere ∷ cs) a last s w h = goes-on Elsewhere s a cs (need last) (need last) (goes cs a last s w h) (omega arith) refl

@@ -17,7 +17,7 @@ use Rattle.lists.specs.Slot.{packetOf, packetSent}
 use Rattle.state.proofs.Sets.{block-length}
 use Rattle.fields.proofs.Readers.{Same, same-part, same-block, stored-reads, runs-reads}
 use Rattle.fields.proofs.Served.{packetSent-rest, packetSent-stored, packetSent-others}
-use Rattle.demands.specs.Waiting.{packetAt, packetsFrom, waitingOf}
+use Rattle.demands.specs.Waiting.{packetStored, packetsFrom, waitingOf}
 
 -- either it is that one, or another
 pub this-or-other : {P : Type 0} (j l : ℕ) → (j ≡ l → P) → (j ≢ l → P) → P
@@ -49,7 +49,7 @@ unfolding packetOf
 packet-same {s} {t} k w =
     rw (stored-same k w) (ap (λ bs. k ∷ bs) (same-block (sampleAt k + 1) (storedLength s k) (omega arith) (omega (arith, stored-most s k)) w))
 
-pub packetAt-same : {s t : List ℕ} (k : ℕ) → StoreSame k s t → packetAt t k ≡ packetAt s k
+pub packetAt-same : {s t : List ℕ} (k : ℕ) → StoreSame k s t → packetStored t k ≡ packetStored s k
 packetAt-same k w = rw (stored-same k w, packet-same k w)
 
 pub packets-same : {s t : List ℕ} (k n : ℕ) → StoresSame k n s t → packetsFrom t k n ≡ packetsFrom s k n
@@ -61,7 +61,7 @@ pub waiting-same : {s t : List ℕ} (l : ℕ) → runsOf t l ≡ runsOf s l → 
 unfolding waitingOf
 waiting-same l r w = rw (r, packets-same (firstOdt l) (odtCount l) w)
 
-pub empty-at : (s : List ℕ) (k : ℕ) → storedLength s k ≡ 0 → packetAt s k ≡ []
+pub empty-at : (s : List ℕ) (k : ℕ) → storedLength s k ≡ 0 → packetStored s k ≡ []
 empty-at s k e = rw e
 
 -- ODTs without a packet in store are passed over
@@ -125,7 +125,7 @@ module _ (s : List ℕ) (l d n : ℕ) (h : length s ≡ size) (k : l < lists) (r
   unfolding waitingOf packetsFrom
   first-sent =
       let t : List ℕ = packetSent s (firstOdt l + d) in
-      let gone : packetAt (packetSent s (firstOdt l + d)) (firstOdt l + d) ≡ [] = empty-at t (firstOdt l + d) (packetSent-stored s (firstOdt l + d) h (omega arith)) in
+      let gone : packetStored (packetSent s (firstOdt l + d)) (firstOdt l + d) ≡ [] = empty-at t (firstOdt l + d) (packetSent-stored s (firstOdt l + d) h (omega arith)) in
       let rest : packetsFrom (packetSent s (firstOdt l + d)) (firstOdt l + d + 1) n ≡ packetsFrom s (firstOdt l + d + 1) n
       = packets-same (firstOdt l + d + 1) n (stores-kept s (firstOdt l + d) (firstOdt l + d + 1) n (λ i q e. omega arith)) in
       rw (runs-kept s (firstOdt l + d) l k, runs) (ap (packetsFrom t (firstOdt l)) (sym there) ∙ skipped t (firstOdt l) d (suc n) still-none ∙ rw (gone, rest))

@@ -23,7 +23,7 @@ use Rattle.state.proofs.Consistent.{consistent-size}
 use Rattle.fields.proofs.Readers.{Same, same-part, flag-reads}
 use Rattle.fields.proofs.Kept.{receive-kept, event-kept, slot-kept}
 use Rattle.demands.specs.Slave.{ours}
-use Rattle.demands.specs.Runs.{Call, Byte, Event, Slot, Elsewhere, sends, frames, slots}
+use Rattle.demands.specs.Runs.{Call, Byte, Event, SendingSlot, Elsewhere, sends, frames, slots}
 use Rattle.demands.specs.Waiting.{waitingOf, packetFor, sampleOf, isSampled, isOf, packetsIn}
 use Rattle.demands.specs.Demand3.{Undisturbed, Begins}
 use Rattle.demands.specs.Kept.{gains}
@@ -81,16 +81,16 @@ event-seen s cal meas event clock l far last p ps h x =
 -- ---- a slot with room, by whose turn it is
 -- what the run sends of the list: what this slot does, and then the rest
 sent-on : (l : ℕ) (s out : List ℕ) (cs : List Call) (t : Turn) (xs : List (List ℕ)) → consistent s ≡ true → room ≤ length out → turnOf s ≡ t → packetsIn l (framesOf (ctrOf s) (packetFor t s)) ≡ xs
-    → packetsIn l (frames ours s (Slot out ∷ cs)) ≡ xs ++ packetsIn l (frames ours (slotOf s out .state) cs)
+    → packetsIn l (frames ours s (SendingSlot out ∷ cs)) ≡ xs ++ packetsIn l (frames ours (slotOf s out .state) cs)
 sent-on l s out cs t xs c r e x =
-    carried-append (isOf l) (sends ours s (Slot out)) (frames ours (slotOf s out .state) cs)
+    carried-append (isOf l) (sends ours s (SendingSlot out)) (frames ours (slotOf s out .state) cs)
     ∙ ap (λ (fs : List (List ℕ)). packetsIn l fs ++ packetsIn l (frames ours (slotOf s out .state) cs)) (slot-sends s out c r ∙ ap (λ u. framesOf (ctrOf s) (packetFor u s)) e)
     ∙ ap (λ (ys : List (List ℕ)). ys ++ packetsIn l (frames ours (slotOf s out .state) cs)) x
 
 module _ (l : ℕ) (inside : l < lists) (cs : List Call) (later : Later l cs) (s out : List ℕ) (r : room ≤ length out) (k : Undisturbed ours l (slotOf s out .state) cs) where
   -- an answer went
   by-the-answer : (far : ℕ) (q : List (List ℕ)) → Seen l far false q s → 1 ≤ far → far ≤ lists → turnOf s ≡ Answer → isOf l (answerOf s) ≡ false
-      → Proceeds lists q far false (suc (slots cs)) (packetsIn l (frames ours s (Slot out ∷ cs)))
+      → Proceeds lists q far false (suc (slots cs)) (packetsIn l (frames ours s (SendingSlot out ∷ cs)))
   by-the-answer far q x a b e n =
       let c : consistent s ≡ true = x .fit in
       let st : slotOf s out .state ≡ answerSent s = slot-state s out c r ∙ ap (λ t. turned t s) e in
@@ -118,7 +118,7 @@ module _ (l : ℕ) (inside : l < lists) (cs : List Call) (later : Later l cs) (s
       }
 
   by-its-own : (far : ℕ) (last : Bool) (m : ℕ) → Next s l m → consistent s ≡ true → turnOf s ≡ Packet m
-      → Proceeds lists (waitingOf s l) far last (suc (slots cs)) (packetsIn l (frames ours s (Slot out ∷ cs)))
+      → Proceeds lists (waitingOf s l) far last (suc (slots cs)) (packetsIn l (frames ours s (SendingSlot out ∷ cs)))
   by-its-own far last m n c e =
       let w : (l + lists) % lists ≡ l = omega arith in
       let y = seen-packet l m lists (n .rest) n c e (n .left) w in
@@ -126,7 +126,7 @@ module _ (l : ℕ) (inside : l < lists) (cs : List Call) (later : Later l cs) (s
       (own-packet (later lists false (n .rest) (slotOf s out .state) y (lit≤ tt) (omega arith) k))
 
   by-another : (far : ℕ) (last : Bool) (q : List (List ℕ)) (j m near : ℕ) → Seen l far last q s → Next s j m → (l ≡ j → ⊥) → 1 ≤ near → near < far → far ≤ lists → (j + near) % lists ≡ l
-      → turnOf s ≡ Packet m → Proceeds lists q far last (suc (slots cs)) (packetsIn l (frames ours s (Slot out ∷ cs)))
+      → turnOf s ≡ Packet m → Proceeds lists q far last (suc (slots cs)) (packetsIn l (frames ours s (SendingSlot out ∷ cs)))
   by-another far last q j m near x n ne a b d t e =
       let c : consistent s ≡ true = x .fit in
       let y = seen-packet j m near q n c e (n .others l inside ne ∙ x .waiting) t in
@@ -135,7 +135,7 @@ module _ (l : ℕ) (inside : l < lists) (cs : List Call) (later : Later l cs) (s
       (other-list near a b (later near false q (slotOf s out .state) y a (omega arith) k))
 
   by-turn : (far : ℕ) (last : Bool) (q : List (List ℕ)) (t : Turn) → Seen l far last q s → 1 ≤ far → far ≤ lists → turnOf s ≡ t → Moves s l far t
-      → Proceeds lists q far last (suc (slots cs)) (packetsIn l (frames ours s (Slot out ∷ cs)))
+      → Proceeds lists q far last (suc (slots cs)) (packetsIn l (frames ours s (SendingSlot out ∷ cs)))
   by-turn far last q _ x a b e (by-answer w f) =
       let n = answer-of-none l (answerOf s) (answer-answers s (consistent-size s (x .fit)) w) in
       let g : last ≡ false = sym (x .flag) ∙ f in
@@ -153,15 +153,15 @@ goes-so l h (Byte cal meas b ∷ cs) far last q s x u v k =
 goes-so l h (Event cal meas event clock ∷ cs) far last [] s x u v k = all-gone
 goes-so l h (Event cal meas event clock ∷ cs) far last (p ∷ ps) s x u v k =
     goes-so l h cs far last (p ∷ ps) (eventOf s cal meas event clock .state) (event-seen s cal meas event clock l far last p ps h x) u v k
-goes-so l h (Slot out ∷ cs) far last [] s x u v k = all-gone
-goes-so l h (Slot out ∷ cs) far last (p ∷ ps) s x u v k = elim (decLe room (length out)) [ yes r ↦ with-room r (goes-so l h cs) | no r ↦ without (lt-of-not-le r) (goes-so l h cs) ] where
-  with-room : room ≤ length out → Later l cs → Proceeds lists (p ∷ ps) far last (slots (Slot out ∷ cs)) (packetsIn l (frames ours s (Slot out ∷ cs)))
+goes-so l h (SendingSlot out ∷ cs) far last [] s x u v k = all-gone
+goes-so l h (SendingSlot out ∷ cs) far last (p ∷ ps) s x u v k = elim (decLe room (length out)) [ yes r ↦ with-room r (goes-so l h cs) | no r ↦ without (lt-of-not-le r) (goes-so l h cs) ] where
+  with-room : room ≤ length out → Later l cs → Proceeds lists (p ∷ ps) far last (slots (SendingSlot out ∷ cs)) (packetsIn l (frames ours s (SendingSlot out ∷ cs)))
   with-room r later =
       rw (counted out (slots cs) r)
       (by-turn l h cs later s out r k far last (p ∷ ps) (turnOf s) x u v refl
       (moves s l p ps (consistent-size s (x .fit)) h (x .waiting) (record { far = far; some = u; most = v; turn = x .turn })))
 
-  without : length out < room → Later l cs → Proceeds lists (p ∷ ps) far last (slots (Slot out ∷ cs)) (packetsIn l (frames ours s (Slot out ∷ cs)))
+  without : length out < room → Later l cs → Proceeds lists (p ∷ ps) far last (slots (SendingSlot out ∷ cs)) (packetsIn l (frames ours s (SendingSlot out ∷ cs)))
   without r later =
       let st : slotOf s out .state ≡ s = slot-stays s out (x .fit) r in
       rw (uncounted out (slots cs) r, slot-silent s out (x .fit) r)

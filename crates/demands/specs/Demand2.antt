@@ -29,7 +29,7 @@ use Rattle.judge.specs.declared.Deed.the-variants.{Download}
 use Rattle.lists.specs.declared.Sampling.the-variants.{Sampled}
 use Rattle.words.specs.declared.Evented.the-variants.{Done}
 use Rattle.demands.specs.Slave.{Slave}
-use Rattle.demands.specs.Runs.{Call, Byte, Event, Slot, Elsewhere, after, run, sends, each, frames}
+use Rattle.demands.specs.Runs.{Call, Byte, Event, SendingSlot, Elsewhere, afterCall, run, sends, each, frames}
 use Rattle.demands.specs.Life.{Device, Moment, PowerOn, Hears, Samples, Serves, passed, lived, sentIn, Always}
 use Rattle.demands.specs.Heard.{Commands, doneAt, bringsKey, keyMatches}
 use Rattle.demands.specs.Waiting.{AllBut, waitingOf, packetFor, sampleOf, isSampled, isMissed}
@@ -38,7 +38,7 @@ use Rattle.demands.specs.Waiting.{AllBut, waitingOf, packetFor, sampleOf
 abbrev pub dueAt : List ℕ → Call → List (List ℕ)
 dueAt s (Byte cal meas b) = []
 dueAt s (Event cal meas event clock) = []
-dueAt s (Slot out) = cond (ltb (length out) room) [] (packetFor (turnOf s) s)
+dueAt s (SendingSlot out) = cond (ltb (length out) room) [] (packetFor (turnOf s) s)
 dueAt s Elsewhere = []
 
 abbrev pub due : Slave → List ℕ → List Call → List (List ℕ)
@@ -85,7 +85,7 @@ dueIn v i h [] = []
 dueIn v i h (PowerOn start ∷ ms) = dueIn v 0 (passed v h (PowerOn start)) ms
 dueIn v i h (Hears meas b ∷ ms) = dueIn v i (passed v h (Hears meas b)) ms
 dueIn v i h (Samples meas event clock ∷ ms) = dueIn v i (passed v h (Samples meas event clock)) ms
-dueIn v i h (Serves out ∷ ms) = numbered 0 i (dueAt (h .state) (Slot out)) ++ dueIn v (i + length (dueAt (h .state) (Slot out))) (passed v h (Serves out)) ms
+dueIn v i h (Serves out ∷ ms) = numbered 0 i (dueAt (h .state) (SendingSlot out)) ++ dueIn v (i + length (dueAt (h .state) (SendingSlot out))) (passed v h (Serves out)) ms
 
 -- a byte comes while calibration is locked, or no session is open
 abbrev pub ShutAt : Device → Moment → Type 0
@@ -119,9 +119,9 @@ keyTo r seed = lastFirst (bytes32 ((u32At seed 0 + keyNumber r) % 2 ^ 32))
 -- in no call of the run a command is done
 abbrev pub Uncommanded : Slave → List ℕ → List Call → Type 0
 Uncommanded v s [] = Unit {0}
-Uncommanded v s (Byte cal meas b ∷ cs) = (doneAt s cal meas b ≡ none) × Uncommanded v (after v s (Byte cal meas b)) cs
-Uncommanded v s (Event cal meas event clock ∷ cs) = Uncommanded v (after v s (Event cal meas event clock)) cs
-Uncommanded v s (Slot out ∷ cs) = Uncommanded v (after v s (Slot out)) cs
+Uncommanded v s (Byte cal meas b ∷ cs) = (doneAt s cal meas b ≡ none) × Uncommanded v (afterCall v s (Byte cal meas b)) cs
+Uncommanded v s (Event cal meas event clock ∷ cs) = Uncommanded v (afterCall v s (Event cal meas event clock)) cs
+Uncommanded v s (SendingSlot out ∷ cs) = Uncommanded v (afterCall v s (SendingSlot out)) cs
 Uncommanded v s (Elsewhere ∷ cs) = Uncommanded v s cs
 
 -- GET_SEED has led from state s to t: four bytes are the answer's seed, and UNLOCK with the key to them, the next command whenever it comes, opens the
@@ -159,7 +159,7 @@ pub record Demand2 (v : Slave) : Type 0 where
   -- in a life with power-ups in it each begins the CTR at 0 again
   pub numbersOn : (h : Device) (start : ℕ) (ms : List Moment) → length (h .state) ≡ size → sentIn v h (PowerOn start ∷ ms) ≡ dueIn v 0 h (PowerOn start ∷ ms)
   -- what a slot sends is one frame, and reads back as the very packet meant
-  pub readsBack : (s out : List ℕ) → consistent s ≡ true → room ≤ length out → ReadsBack (sends v s (Slot out)) s
+  pub readsBack : (s out : List ℕ) → consistent s ≡ true → room ≤ length out → ReadsBack (sends v s (SendingSlot out)) s
   -- bytes past the frame stay
   pub restStays : (s out : List ℕ) → AllBut 0 (slottedValue (v .slot s out .slotted)) out (v .slot s out .out)
   -- while calibration is locked, or no session is open, no calibration byte changes

@@ -12,7 +12,7 @@ use Rattle.lists.specs.Event.{samplingOf}
 use Rattle.words.specs.declared.Received.the-variants.{Answered, Unread}
 use Rattle.lists.specs.declared.Sampling.the-variants.{Sampled}
 use Rattle.demands.specs.Slave.{Slave}
-use Rattle.demands.specs.Runs.{Call, Byte, Event, Slot, Elsewhere, after, run, frames, sends, slots, received}
+use Rattle.demands.specs.Runs.{Call, Byte, Event, SendingSlot, Elsewhere, afterCall, run, frames, sends, slots, received}
 use Rattle.demands.specs.Heard.{packetEnded, readBy, answerTo, stopsAt}
 use Rattle.demands.specs.Waiting.{waitingOf, sampleOf, answersIn, packetsIn}
 use Rattle.demands.specs.Demand1.{ChangesOnly}
@@ -22,12 +22,12 @@ pub record LeavesWithin (n : ℕ) (v : Slave) (s : List ℕ) (a : List ℕ) (cs 
   pub before : List Call
   pub out : List ℕ
   pub later : List Call
-  pub split : cs ≡ before ++ Slot out ∷ later
+  pub split : cs ≡ before ++ SendingSlot out ∷ later
   pub roomy : room ≤ length out
   pub early : slots before < n
   pub noneBefore : answersIn (frames v s before) ≡ []
-  pub sent : sends v (run v s before) (Slot out) ≡ frame (ctrOf (run v s before)) a ∷ []
-  pub noneAfter : waits (after v (run v s before) (Slot out)) ≡ false
+  pub sent : sends v (run v s before) (SendingSlot out) ≡ frame (ctrOf (run v s before)) a ∷ []
+  pub noneAfter : waits (afterCall v (run v s before) (SendingSlot out)) ≡ false
 
 -- byte b ends command p in state s: it is answered, and the answer that the definitions give leaves in one of the first n counted slots after
 pub record AnsweredSoon (n : ℕ) (v : Slave) (s cal meas : List ℕ) (b : ℕ) (p : List ℕ) (later : List Call) : Type 0 where
@@ -39,9 +39,9 @@ pub record AnsweredSoon (n : ℕ) (v : Slave) (s cal meas : List ℕ) (b : ℕ) 
 -- in no call of the run list l is stopped, or its session ended or renewed
 abbrev pub Undisturbed : Slave → ℕ → List ℕ → List Call → Type 0
 Undisturbed v l s [] = Unit {0}
-Undisturbed v l s (Byte cal meas b ∷ cs) = (stopsAt l s cal meas b ≡ false) × Undisturbed v l (after v s (Byte cal meas b)) cs
-Undisturbed v l s (Event cal meas event clock ∷ cs) = Undisturbed v l (after v s (Event cal meas event clock)) cs
-Undisturbed v l s (Slot out ∷ cs) = Undisturbed v l (after v s (Slot out)) cs
+Undisturbed v l s (Byte cal meas b ∷ cs) = (stopsAt l s cal meas b ≡ false) × Undisturbed v l (afterCall v s (Byte cal meas b)) cs
+Undisturbed v l s (Event cal meas event clock ∷ cs) = Undisturbed v l (afterCall v s (Event cal meas event clock)) cs
+Undisturbed v l s (SendingSlot out ∷ cs) = Undisturbed v l (afterCall v s (SendingSlot out)) cs
 Undisturbed v l s (Elsewhere ∷ cs) = Undisturbed v l s cs
 
 -- xs are the first of ys

@@ -10,7 +10,7 @@ use Rattle.lists.specs.Event.{samplingOf}
 use Rattle.words.specs.declared.Received.{Received}
 use Rattle.words.specs.declared.Received.the-variants.{Nothing, Answered, Silent, BadLength, BadEscape, BadChecksum, Unread, CutOff, NoState}
 use Rattle.demands.specs.Slave.{Slave}
-use Rattle.demands.specs.Runs.{Call, Byte, Event, Slot, Elsewhere, run, sends, each, frames}
+use Rattle.demands.specs.Runs.{Call, Byte, Event, SendingSlot, Elsewhere, run, sends, each, frames}
 use Rattle.demands.specs.Heard.{stopsAt}
 use Rattle.demands.specs.Waiting.{waitingAnswer, waitingOf, sampleOf, isSampled, answersIn, packetsIn}
 
@@ -29,7 +29,7 @@ answerBy NoState s = []
 abbrev pub accepts : Slave → List ℕ → Call → List (List ℕ)
 accepts v s (Byte cal meas b) = answerBy (v .receive s cal meas b .received) (v .receive s cal meas b .state)
 accepts v s (Event cal meas event clock) = []
-accepts v s (Slot out) = []
+accepts v s (SendingSlot out) = []
 accepts v s Elsewhere = []
 
 abbrev pub accepted : Slave → List ℕ → List Call → List (List ℕ)
@@ -39,7 +39,7 @@ accepted v s cs = each (accepts v) v s cs
 abbrev pub gains : ℕ → List ℕ → Call → List (List ℕ)
 gains l s (Byte cal meas b) = []
 gains l s (Event cal meas event clock) = cond (ltb 1 event) [] (cond (isSampled (samplingOf s l event)) (sampleOf s l clock cal meas) [])
-gains l s (Slot out) = []
+gains l s (SendingSlot out) = []
 gains l s Elsewhere = []
 
 abbrev pub gained : Slave → ℕ → List ℕ → List Call → List (List ℕ)
@@ -49,7 +49,7 @@ gained v l s cs = each (gains l) v s cs
 abbrev pub goes : Slave → ℕ → List ℕ → Call → List (List ℕ)
 goes v l s (Byte cal meas b) = cond (stopsAt l s cal meas b) (waitingOf s l) []
 goes v l s (Event cal meas event clock) = []
-goes v l s (Slot out) = packetsIn l (sends v s (Slot out))
+goes v l s (SendingSlot out) = packetsIn l (sends v s (SendingSlot out))
 goes v l s Elsewhere = []
 
 abbrev pub gone : Slave → ℕ → List ℕ → List Call → List (List ℕ)

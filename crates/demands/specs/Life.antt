@@ -2,7 +2,7 @@
 use Prim.Native.Nat.{ℕ}
 use mathlib.Core.List.{List, [], _∷_, _++_}
 use Rattle.demands.specs.Slave.{Slave}
-use Rattle.demands.specs.Runs.{Slot, sends}
+use Rattle.demands.specs.Runs.{SendingSlot, sends}
 
 -- what lasts from call to call
 pub record Device : Type 0 where
@@ -32,7 +32,7 @@ abbrev pub sendsAt : Slave → Device → Moment → List (List ℕ)
 sendsAt v h (PowerOn start) = []
 sendsAt v h (Hears meas b) = []
 sendsAt v h (Samples meas event clock) = []
-sendsAt v h (Serves out) = sends v (h .state) (Slot out)
+sendsAt v h (Serves out) = sends v (h .state) (SendingSlot out)
 
 abbrev pub sentIn : Slave → Device → List Moment → List (List ℕ)
 sentIn v h [] = []

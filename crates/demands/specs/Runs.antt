@@ -14,18 +14,18 @@ use Rattle.demands.specs.Slave.{Slave}
 pub data Call : Type 0 where
   Byte : (cal meas : List ℕ) (b : ℕ) → Call
   Event : (cal meas : List ℕ) (event clock : ℕ) → Call
-  Slot : (out : List ℕ) → Call
+  SendingSlot : (out : List ℕ) → Call
   Elsewhere : Call
 
-abbrev pub after : Slave → List ℕ → Call → List ℕ
-after v s (Byte cal meas b) = v .receive s cal meas b .state
-after v s (Event cal meas event clock) = v .event s cal meas event clock .state
-after v s (Slot out) = v .slot s out .state
-after v s Elsewhere = s
+abbrev pub afterCall : Slave → List ℕ → Call → List ℕ
+afterCall v s (Byte cal meas b) = v .receive s cal meas b .state
+afterCall v s (Event cal meas event clock) = v .event s cal meas event clock .state
+afterCall v s (SendingSlot out) = v .slot s out .state
+afterCall v s Elsewhere = s
 
 abbrev pub run : Slave → List ℕ → List Call → List ℕ
 run v s [] = s
-run v s (c ∷ cs) = run v (after v s c) cs
+run v s (c ∷ cs) = run v (afterCall v s c) cs
 
 -- the frame that a slot sent: the first bytes of what was lent
 abbrev pub frameIn : Slotted → List ℕ → List (List ℕ)
@@ -37,13 +37,13 @@ frameIn NoState out = []
 abbrev pub sends : Slave → List ℕ → Call → List (List ℕ)
 sends v s (Byte cal meas b) = []
 sends v s (Event cal meas event clock) = []
-sends v s (Slot out) = frameIn (v .slot s out .slotted) (v .slot s out .out)
+sends v s (SendingSlot out) = frameIn (v .slot s out .slotted) (v .slot s out .out)
 sends v s Elsewhere = []
 
 -- what each call of a run gives, one after the other
 abbrev pub each : (List ℕ → Call → List (List ℕ)) → Slave → List ℕ → List Call → List (List ℕ)
 each give v s [] = []
-each give v s (c ∷ cs) = give s c ++ each give v (after v s c) cs
+each give v s (c ∷ cs) = give s c ++ each give v (afterCall v s c) cs
 
 abbrev pub frames : Slave → List ℕ → List Call → List (List ℕ)
 frames v s cs = each (sends v) v s cs
@@ -56,7 +56,7 @@ abbrev pub slots : List Call → ℕ
 slots [] = 0
 slots (Byte cal meas b ∷ cs) = slots cs
 slots (Event cal meas event clock ∷ cs) = slots cs
-slots (Slot out ∷ cs) = oneMore (leb room (length out)) (slots cs)
+slots (SendingSlot out ∷ cs) = oneMore (leb room (length out)) (slots cs)
 slots (Elsewhere ∷ cs) = slots cs
 
 -- the bytes that are received
@@ -64,5 +64,5 @@ abbrev pub received : List Call → List ℕ
 received [] = []
 received (Byte cal meas b ∷ cs) = b ∷ received cs
 received (Event cal meas event clock ∷ cs) = received cs
-received (Slot out ∷ cs) = received cs
+received (SendingSlot out ∷ cs) = received cs
 received (Elsewhere ∷ cs) = received cs

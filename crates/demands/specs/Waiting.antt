@@ -28,13 +28,13 @@ abbrev pub waitingAnswer : List ℕ → List (List ℕ)
 waitingAnswer s = cond (waits s) (answerOf s ∷ []) []
 
 -- ODT k's packet, if one is in store
-abbrev pub packetAt : List ℕ → ℕ → List (List ℕ)
-packetAt s k = cond (ltb 0 (storedLength s k)) (packetOf s k ∷ []) []
+abbrev pub packetStored : List ℕ → ℕ → List (List ℕ)
+packetStored s k = cond (ltb 0 (storedLength s k)) (packetOf s k ∷ []) []
 
 -- those of the n ODTs from k on
 unfoldable pub packetsFrom : List ℕ → ℕ → ℕ → List (List ℕ)
 packetsFrom s k zero = []
-packetsFrom s k (suc n) = packetAt s k ++ packetsFrom s (k + 1) n
+packetsFrom s k (suc n) = packetStored s k ++ packetsFrom s (k + 1) n
 
 -- the packets of list l that wait, in the order in which they leave
 unfoldable pub waitingOf : List ℕ → ℕ → List (List ℕ)

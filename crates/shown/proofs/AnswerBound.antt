@@ -8,7 +8,7 @@ use lib.ListN.{length, length-append, getD, replicate}
 use Rattle.line.specs.Message.{room, frame}
 use Rattle.state.specs.State.{ctrOf}
 use Rattle.demands.specs.Slave.{Slave, ours}
-use Rattle.demands.specs.Runs.{Call, Byte, Event, Slot, Elsewhere, run, frames, sends}
+use Rattle.demands.specs.Runs.{Call, Byte, Event, SendingSlot, Elsewhere, run, frames, sends}
 use Rattle.demands.specs.Waiting.{answersIn}
 use Rattle.demands.specs.Demand3.{LeavesWithin, AnsweredBy}
 use Rattle.shown.specs.Exchange.{slot, begun, lastByte, reached, synch, measuring}
@@ -19,20 +19,20 @@ abbrev lent : List Call → List ℕ
 lent [] = []
 lent (Byte cal meas b ∷ cs) = []
 lent (Event cal meas event clock ∷ cs) = []
-lent (Slot out ∷ cs) = out
+lent (SendingSlot out ∷ cs) = out
 lent (Elsewhere ∷ cs) = []
 
-none-before : (out out′ : List ℕ) (before later : List Call) → Slot out ∷ [] ≡ before ++ Slot out′ ∷ later → before ≡ []
+none-before : (out out′ : List ℕ) (before later : List Call) → SendingSlot out ∷ [] ≡ before ++ SendingSlot out′ ∷ later → before ≡ []
 none-before out out′ [] later e = refl
-none-before out out′ (c ∷ cs) later e = absurd (omega (arith, ap length e, length-append cs (Slot out′ ∷ later)))
+none-before out out′ (c ∷ cs) later e = absurd (omega (arith, ap length e, length-append cs (SendingSlot out′ ∷ later)))
 
-that-slot : (out out′ : List ℕ) (before later : List Call) → before ≡ [] → Slot out ∷ [] ≡ before ++ Slot out′ ∷ later → out′ ≡ out
-that-slot out out′ before later n e = sym (ap lent (subst (λ cs. Slot out ∷ [] ≡ cs ++ Slot out′ ∷ later) n e))
+that-slot : (out out′ : List ℕ) (before later : List Call) → before ≡ [] → SendingSlot out ∷ [] ≡ before ++ SendingSlot out′ ∷ later → out′ ≡ out
+that-slot out out′ before later n e = sym (ap lent (subst (λ cs. SendingSlot out ∷ [] ≡ cs ++ SendingSlot out′ ∷ later) n e))
 
-in-the-first : (n : ℕ) (v : Slave) (s a out : List ℕ) → LeavesWithin n v s a (Slot out ∷ []) → sends v s (Slot out) ≡ frame (ctrOf s) a ∷ []
+in-the-first : (n : ℕ) (v : Slave) (s a out : List ℕ) → LeavesWithin n v s a (SendingSlot out ∷ []) → sends v s (SendingSlot out) ≡ frame (ctrOf s) a ∷ []
 in-the-first n v s a out w =
     let e : w .before ≡ [] = none-before out (w .out) (w .before) (w .later) (w .split) in
-    subst₂ (λ cs o. sends v (run v s cs) (Slot o) ≡ frame (ctrOf (run v s cs)) a ∷ []) e (that-slot out (w .out) (w .before) (w .later) e (w .split)) (w .sent)
+    subst₂ (λ cs o. sends v (run v s cs) (SendingSlot o) ≡ frame (ctrOf (run v s cs)) a ∷ []) e (that-slot out (w .out) (w .before) (w .later) e (w .split)) (w .sent)
 
 -- ---- the run: list 0 runs and the last frame was an answer; an event samples the list, and SYNCH comes
 abbrev calls : List Call

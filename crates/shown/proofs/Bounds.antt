@@ -14,7 +14,7 @@ use Rattle.lists.specs.Event.{samplingOf}
 use Rattle.lists.specs.declared.Sampling.{Sampling}
 use Rattle.lists.specs.declared.Sampling.the-variants.{Sampled}
 use Rattle.demands.specs.Slave.{Slave, ours}
-use Rattle.demands.specs.Runs.{Call, Byte, Event, Slot, Elsewhere, after, frames, slots}
+use Rattle.demands.specs.Runs.{Call, Byte, Event, SendingSlot, Elsewhere, afterCall, frames, slots}
 use Rattle.demands.specs.Heard.{stopsAt}
 use Rattle.demands.specs.Waiting.{waitingOf, sampleOf, packetsIn}
 use Rattle.demands.specs.Demand3.{Undisturbed, Begins, WholeBy, SampledBy}
@@ -24,18 +24,18 @@ use Rattle.shown.proofs.Computed.{computed}
 -- ---- whether a run is undisturbed can be computed
 unfoldable undisturbed : Slave → ℕ → List ℕ → List Call → Bool
 undisturbed v l s [] = true
-undisturbed v l s (Byte cal meas b ∷ cs) = cond (stopsAt l s cal meas b) false (undisturbed v l (after v s (Byte cal meas b)) cs)
-undisturbed v l s (Event cal meas event clock ∷ cs) = undisturbed v l (after v s (Event cal meas event clock)) cs
-undisturbed v l s (Slot out ∷ cs) = undisturbed v l (after v s (Slot out)) cs
+undisturbed v l s (Byte cal meas b ∷ cs) = cond (stopsAt l s cal meas b) false (undisturbed v l (afterCall v s (Byte cal meas b)) cs)
+undisturbed v l s (Event cal meas event clock ∷ cs) = undisturbed v l (afterCall v s (Event cal meas event clock)) cs
+undisturbed v l s (SendingSlot out ∷ cs) = undisturbed v l (afterCall v s (SendingSlot out)) cs
 undisturbed v l s (Elsewhere ∷ cs) = undisturbed v l s cs
 
 told : (v : Slave) (l : ℕ) (s : List ℕ) (cs : List Call) → undisturbed v l s cs ≡ true → Undisturbed v l s cs
 unfolding undisturbed
 told v l s [] e = tt
 told v l s (Byte cal meas b ∷ cs) e =
-    cond-ind (λ (t : Bool). t ≡ true → (stopsAt l s cal meas b ≡ false) × Undisturbed v l (after v s (Byte cal meas b)) cs) (stopsAt l s cal meas b) (λ _ x. absurd (false-true x)) (λ f x. (f, told v l (after v s (Byte cal meas b)) cs x)) e
-told v l s (Event cal meas event clock ∷ cs) e = told v l (after v s (Event cal meas event clock)) cs e
-told v l s (Slot out ∷ cs) e = told v l (after v s (Slot out)) cs e
+    cond-ind (λ (t : Bool). t ≡ true → (stopsAt l s cal meas b ≡ false) × Undisturbed v l (afterCall v s (Byte cal meas b)) cs) (stopsAt l s cal meas b) (λ _ x. absurd (false-true x)) (λ f x. (f, told v l (afterCall v s (Byte cal meas b)) cs x)) e
+told v l s (Event cal meas event clock ∷ cs) e = told v l (afterCall v s (Event cal meas event clock)) cs e
+told v l s (SendingSlot out ∷ cs) e = told v l (afterCall v s (SendingSlot out)) cs e
 told v l s (Elsewhere ∷ cs) e = told v l s cs e
 
 -- ---- the run

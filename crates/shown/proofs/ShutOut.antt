@@ -23,7 +23,7 @@ use Rattle.words.specs.declared.Extension.the-variants.{Calibration as Calibrat
 use Rattle.words.specs.declared.Mta.{Mta}
 use Rattle.words.specs.declared.Mta.the-variants.{At}
 use Rattle.demands.specs.Slave.{Slave}
-use Rattle.demands.specs.Runs.{Byte, Event, Slot}
+use Rattle.demands.specs.Runs.{Byte, Event, SendingSlot}
 use Rattle.demands.specs.Heard.{packetEnded}
 use Rattle.demands.specs.Waiting.{packetFor}
 use Rattle.demands.specs.Demand1.{Demand1}
@@ -136,7 +136,7 @@ storesNothing-fails d =
 pub allAtOnce-fails : Demand2 allAtOnce → ⊥
 unfolding computed upTo
 allAtOnce-fails d =
-    let e : _≡_ {A = ℕ} 19 7 = ap (λ fs. length (getD fs 0 [])) (d .numbers (reached allAtOnce (measuring (5 ∷ []))) (Event [] (5 ∷ []) 0 0 ∷ Slot (replicate 46 0) ∷ []) refl (lit< tt)) in omega arith
+    let e : _≡_ {A = ℕ} 19 7 = ap (λ fs. length (getD fs 0 [])) (d .numbers (reached allAtOnce (measuring (5 ∷ []))) (Event [] (5 ∷ []) 0 0 ∷ SendingSlot (replicate 46 0) ∷ []) refl (lit< tt)) in omega arith
 
 -- a frame that reads back carries the packet whose turn it was
 read-back : (f s p : List ℕ) → packetFor (turnOf s) s ≡ p ∷ [] → ReadsBack (f ∷ []) s → line.run Outside (replicate longest 0) f ≡ heard Outside (replicate longest 0) (ctrOf s) p

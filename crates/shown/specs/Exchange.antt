@@ -5,11 +5,11 @@ use lib.ListN.{length, getD, take, replicate}
 use Rattle.line.specs.Message.{room, frame}
 use Rattle.session.specs.PowerUp.{powered}
 use Rattle.demands.specs.Slave.{Slave, ours}
-use Rattle.demands.specs.Runs.{Call, Byte, Event, Slot, run}
+use Rattle.demands.specs.Runs.{Call, Byte, Event, SendingSlot, run}
 
 -- a slot with just the room
 abbrev pub slot : Call
-slot = Slot (replicate room 0)
+slot = SendingSlot (replicate room 0)
 
 -- wire bytes, with both memories lent
 abbrev pub bytes : List ℕ → List ℕ → List ℕ → List Call

@@ -12,7 +12,7 @@ use Rattle.words.specs.declared.Extension.the-variants.{Calibration, Measured}
 
 -- how many bytes of a memory of that length can be addressed
 abbrev pub reach : ℕ → ℕ
-reach length = min length addressable
+reach len = min len addressable
 
 -- what an extension stands for: extension 0 is calibration, 1 is measured values
 abbrev pub pick : {A : Type 0} → Extension → A → A → A
@@ -21,7 +21,7 @@ pick Measured cal meas = meas
 
 -- a block is inside a memory of that length when its address plus size is within what can be addressed
 unfoldable pub insideOf : ℕ → ℕ → ℕ → Bool
-insideOf address n length = leb (address + n) (reach length)
+insideOf address n len = leb (address + n) (reach len)
 
 -- the sum of a block's bytes, modulo 65,536
 unfoldable pub blockSum : List ℕ → ℕ → ℕ → ℕ
