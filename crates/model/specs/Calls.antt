@@ -1,0 +1,73 @@
+-- What else a call makes of the slave: an answer put to wait, a byte read, an answer or a packet sent, a list sampled, power-up.
+use Prim.Native.Nat.{ℕ, zero, suc, _+_, _%_}
+use mathlib.Core.Bool.{true, false, cond}
+use mathlib.Core.List.{List, [], _++_}
+use lib.Dec.{ltb}
+use lib.ListN.{replicate}
+use Rattle.line.specs.Message.{longest}
+use Rattle.line.specs.declared.Place.{Place}
+use Rattle.line.specs.declared.Place.the-variants.{Outside}
+use Rattle.state.specs.Layout.{lastList, firstOdt, odtCount, listOf, entryCount}
+use Rattle.state.specs.Generator.{startOf}
+use Rattle.state.specs.Memory.{pick, bytesOf}
+use Rattle.lists.specs.Event.{leadOf}
+use Rattle.model.specs.Model.{put, Entry, Odt, DaqList, Slave, blank}
+use Rattle.model.specs.Step.{emptied, odtIn, at}
+
+abbrev pub withAnswer : Slave → List ℕ → Slave
+withAnswer v bs = record { session = v .session; place = v .place; message = v .message; answer = bs; ctr = v .ctr; served = v .served; lastAnswer = v .lastAnswer }
+
+-- the reader where the line left it
+abbrev pub withReader : Slave → Place → List ℕ → Slave
+withReader v p m = record { session = v .session; place = p; message = m; answer = v .answer; ctr = v .ctr; served = v .served; lastAnswer = v .lastAnswer }
+
+-- ---- a frame is sent: the CTR grows by one, 255 to 0
+-- the answer no longer waits
+abbrev pub answerGone : Slave → Slave
+answerGone v = record { session = v .session; place = v .place; message = v .message; answer = []; ctr = (v .ctr + 1) % 256; served = v .served; lastAnswer = true }
+
+-- ODT o's packet no longer waits; its list was served last
+abbrev pub withoutPacket : ℕ → DaqList → DaqList
+withoutPacket o x = record { mode = x .mode; selected = x .selected; started = x .started; odt = put o (emptied (x .odt o)) (x .odt) }
+
+abbrev pub packetGone : ℕ → Slave → Slave
+packetGone k v = record {
+  session = at (listOf k) (withoutPacket (odtIn k)) (v .session);
+  place = v .place;
+  message = v .message;
+  answer = v .answer;
+  ctr = (v .ctr + 1) % 256;
+  served = listOf k;
+  lastAnswer = false;
+}
+
+-- ---- an event: the bytes of an ODT's first n entries, in entry order, each as the memories hold it now
+abbrev pub blockIn : Entry → List ℕ → List ℕ → List ℕ
+blockIn x cal meas = bytesOf (pick (x .extension) cal meas) (x .address) (x .size)
+
+unfoldable pub blocksIn : Odt → List ℕ → List ℕ → ℕ → List ℕ
+blocksIn y cal meas zero = []
+blocksIn y cal meas (suc n) = blocksIn y cal meas n ++ blockIn (y .entry n) cal meas
+
+-- ODT k's packet, without its number: in a list's first ODT the clock, then the bytes
+unfoldable pub contentsIn : ℕ → ℕ → List ℕ → List ℕ → Odt → List ℕ
+contentsIn k clock cal meas y = leadOf k clock ++ blocksIn y cal meas (entryCount k)
+
+abbrev pub withPacket : List ℕ → Odt → Odt
+withPacket bs y = record { entry = y .entry; store = bs }
+
+-- list l is sampled: each of its first n ODTs is captured whole
+abbrev pub sampledFirst : ℕ → ℕ → ℕ → List ℕ → List ℕ → DaqList → DaqList
+sampledFirst n l clock cal meas x = record {
+  mode = x .mode;
+  selected = x .selected;
+  started = x .started;
+  odt = λ o. cond (ltb o n) (withPacket (contentsIn (firstOdt l + o) clock cal meas (x .odt o)) (x .odt o)) (x .odt o);
+}
+
+abbrev pub sampled : ℕ → ℕ → List ℕ → List ℕ → DaqList → DaqList
+sampled l clock cal meas x = sampledFirst (odtCount l) l clock cal meas x
+
+-- ---- power-up: the last list counts as served last, the last frame as no answer
+abbrev pub poweredUp : ℕ → Slave
+poweredUp start = record { session = blank (startOf start) false; place = Outside; message = replicate longest 0; answer = []; ctr = 0; served = lastList; lastAnswer = false }

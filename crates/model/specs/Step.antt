@@ -1,0 +1,131 @@
+-- What each deed makes of the slave, but for its answer.
+use Prim.Native.Nat.{ℕ, _+_, _-_}
+use mathlib.Core.Bool.{Bool, true, false, cond}
+use mathlib.Core.List.{[]}
+use Rattle.state.specs.Layout.{firstOdt, listOf}
+use Rattle.state.specs.Generator.{nextOf}
+use Rattle.session.specs.Perform.{nextEntry}
+use Rattle.words.specs.declared.Resource.{Resource}
+use Rattle.words.specs.declared.Resource.the-variants.{Calibration, Lists}
+use Rattle.words.specs.declared.Extension.the-variants.{Calibration as CalibrationMemory}
+use Rattle.words.specs.declared.Seed.{Seed}
+use Rattle.words.specs.declared.Seed.the-variants.{None, For}
+use Rattle.words.specs.declared.Mta.{Mta}
+use Rattle.words.specs.declared.Mta.the-variants.{At}
+use Rattle.words.specs.declared.Pointer.{Pointer}
+use Rattle.words.specs.declared.Pointer.the-variants.{At as Points}
+use Rattle.judge.specs.declared.Deed.{Deed}
+use Rattle.judge.specs.declared.Deed.the-variants.{Refuse, RefuseSize, WrongKey, Connect, Disconnect, Status, Synch, NoSeed, GiveSeed, Unlock, SetMta, Upload, ShortUpload, Checksum, Download, ClearList, SetPointer, ClearEntry, WriteEntry, SetMode, Stop, Start, KeepRunning, Select, StopAll, StartSelected, StopSelected, ProcessorInfo, ResolutionInfo}
+use Rattle.model.specs.Model.{put, Entry, noEntry, Odt, DaqList, Session, Slave, blank, runs}
+
+-- ---- one part changed
+abbrev pub withSession : Slave → Session → Slave
+withSession v c = record { session = c; place = v .place; message = v .message; answer = v .answer; ctr = v .ctr; served = v .served; lastAnswer = v .lastAnswer }
+
+abbrev pub withGenerator : Session → ℕ → Session
+withGenerator c x = record { generator = x; opened = c .opened; unlocked = c .unlocked; seed = c .seed; mta = c .mta; pointer = c .pointer; list = c .list }
+
+abbrev pub unlock : Resource → (Resource → Bool) → Resource → Bool
+unlock Calibration f Calibration = true
+unlock Calibration f Lists = f Lists
+unlock Lists f Calibration = f Calibration
+unlock Lists f Lists = true
+
+abbrev pub withLock : Session → Resource → Session
+withLock c r = record { generator = c .generator; opened = c .opened; unlocked = unlock r (c .unlocked); seed = c .seed; mta = c .mta; pointer = c .pointer; list = c .list }
+
+abbrev pub withSeed : Session → Seed → Session
+withSeed c x = record { generator = c .generator; opened = c .opened; unlocked = c .unlocked; seed = x; mta = c .mta; pointer = c .pointer; list = c .list }
+
+abbrev pub withMta : Session → Mta → Session
+withMta c m = record { generator = c .generator; opened = c .opened; unlocked = c .unlocked; seed = c .seed; mta = m; pointer = c .pointer; list = c .list }
+
+abbrev pub withPointer : Session → Pointer → Session
+withPointer c p = record { generator = c .generator; opened = c .opened; unlocked = c .unlocked; seed = c .seed; mta = c .mta; pointer = p; list = c .list }
+
+abbrev pub withLists : Session → (ℕ → DaqList) → Session
+withLists c f = record { generator = c .generator; opened = c .opened; unlocked = c .unlocked; seed = c .seed; mta = c .mta; pointer = c .pointer; list = f }
+
+-- list l changed
+abbrev pub at : ℕ → (DaqList → DaqList) → Session → Session
+at l f c = withLists c (put l (f (c .list l)) (c .list))
+
+-- every list changed
+abbrev pub eachList : (ℕ → DaqList → DaqList) → Session → Session
+eachList f c = withLists c (λ l. f l (c .list l))
+
+-- ---- a list's changes
+abbrev pub emptied : Odt → Odt
+emptied y = record { entry = y .entry; store = [] }
+
+-- started or stopped, and its packets dropped
+abbrev pub switch : Bool → DaqList → DaqList
+switch on x = record { mode = x .mode; selected = x .selected; started = on; odt = λ o. emptied (x .odt o) }
+
+abbrev pub select : Bool → DaqList → DaqList
+select on x = record { mode = x .mode; selected = on; started = x .started; odt = x .odt }
+
+abbrev pub unset : Odt → Odt
+unset y = record { entry = λ e. noEntry; store = y .store }
+
+-- E3: entries zeroed, mode forgotten, not selected
+abbrev pub clear : DaqList → DaqList
+clear x = record { mode = 0; selected = false; started = false; odt = λ o. unset (x .odt o) }
+
+abbrev pub setMode : ℕ → DaqList → DaqList
+setMode event x = record { mode = event + 1; selected = x .selected; started = false; odt = x .odt }
+
+abbrev pub withEntry : ℕ → Entry → Odt → Odt
+withEntry e y o = record { entry = put e y (o .entry); store = o .store }
+
+abbrev pub setEntry : ℕ → ℕ → Entry → DaqList → DaqList
+setEntry o e y x = record { mode = x .mode; selected = x .selected; started = false; odt = put o (withEntry e y (x .odt o)) (x .odt) }
+
+-- ODT k's number in its list
+abbrev pub odtIn : ℕ → ℕ
+odtIn k = k - firstOdt (listOf k)
+
+-- START_STOP_SYNCH: what is done to a list, and it is deselected
+abbrev pub stopIt : DaqList → DaqList
+stopIt x = select false (switch false x)
+
+abbrev pub startIfSelected : Bool → ℕ → DaqList → DaqList
+startIfSelected opened l x = select false (cond (x .selected) (cond (runs opened l x) x (switch true x)) x)
+
+abbrev pub stopIfSelected : DaqList → DaqList
+stopIfSelected x = select false (cond (x .selected) (switch false x) x)
+
+-- ---- the deeds
+unfoldable pub stepIn : Deed → Session → Session
+stepIn (Refuse r) c = c
+stepIn RefuseSize c = c
+stepIn WrongKey c = blank (c .generator) false
+stepIn Connect c = blank (c .generator) true
+stepIn Disconnect c = blank (c .generator) false
+stepIn Status c = c
+stepIn Synch c = c
+stepIn NoSeed c = c
+stepIn (GiveSeed r) c = withSeed (withGenerator c (nextOf (c .generator))) (For r)
+stepIn (Unlock r) c = withSeed (withLock c r) None
+stepIn (SetMta e a) c = withMta c (At e a)
+stepIn (Upload e a n) c = withMta c (At e (a + n))
+stepIn (ShortUpload e a n) c = c
+stepIn (Checksum e a n) c = withMta c (At e (a + n))
+stepIn (Download a n) c = withMta c (At CalibrationMemory (a + n))
+stepIn (ClearList l) c = at l clear c
+stepIn (SetPointer k e) c = withPointer c (Points k e)
+stepIn (ClearEntry k e) c = withPointer (at (listOf k) (setEntry (odtIn k) e noEntry) c) (nextEntry k e)
+stepIn (WriteEntry k e n x a) c = withPointer (at (listOf k) (setEntry (odtIn k) e (record { size = n; extension = x; address = a })) c) (nextEntry k e)
+stepIn (SetMode l event) c = at l (setMode event) c
+stepIn (Stop l) c = at l (switch false) c
+stepIn (Start l) c = at l (switch true) c
+stepIn (KeepRunning l) c = c
+stepIn (Select l) c = at l (select true) c
+stepIn StopAll c = eachList (λ l. stopIt) c
+stepIn StartSelected c = eachList (startIfSelected (c .opened)) c
+stepIn StopSelected c = eachList (λ l. stopIfSelected) c
+stepIn ProcessorInfo c = c
+stepIn ResolutionInfo c = c
+
+abbrev pub step : Deed → Slave → Slave
+step d v = withSession v (stepIn d (v .session))

@@ -1,0 +1,40 @@
+-- What the state in bytes shows of the slave.
+use Prim.Native.Nat.{ℕ, _+_}
+use mathlib.Core.List.{List}
+use lib.ListN.{getD}
+use Rattle.state.specs.Layout.{lists, odtCount, entryCount, firstOdt, runningAt, sampleAt, servedAt, lastAt}
+use Rattle.state.specs.Bytes.{block}
+use Rattle.state.specs.State.{flagOf, generatorOf, ctrOf, openOf, unlockedOf, seedOf, mtaOf, pointerOf, placeOf, messageOf, answerOf}
+use Rattle.lists.specs.Lists.{sizeOf, extensionOf, addressOf, modeOf, selectedOf, storedLength}
+use Rattle.model.specs.Answers.{Done}
+use Rattle.model.specs.Model.{upTo, Entry, noEntry, Odt, noOdt, DaqList, noList, Session, Slave}
+
+abbrev pub entryOf : List ℕ → ℕ → ℕ → Entry
+entryOf s k e = record { size = sizeOf s k e; extension = extensionOf s k e; address = addressOf s k e }
+
+abbrev pub odtOf : List ℕ → ℕ → Odt
+odtOf s k = record { entry = upTo (entryCount k) noEntry (entryOf s k); store = block s (sampleAt k + 1) (storedLength s k) }
+
+abbrev pub daqOf : List ℕ → ℕ → DaqList
+daqOf s l = record { mode = modeOf s l; selected = selectedOf s l; started = flagOf s (runningAt l); odt = upTo (odtCount l) noOdt (λ o. odtOf s (firstOdt l + o)) }
+
+unfoldable pub listsOf : List ℕ → ℕ → DaqList
+listsOf s = upTo lists noList (daqOf s)
+
+unfoldable pub sessionOf : List ℕ → Session
+sessionOf s = record { generator = generatorOf s; opened = openOf s; unlocked = unlockedOf s; seed = seedOf s; mta = mtaOf s; pointer = pointerOf s; list = listsOf s }
+
+unfoldable pub viewOf : List ℕ → Slave
+viewOf s = record {
+  session = sessionOf s;
+  place = placeOf s;
+  message = messageOf s;
+  answer = answerOf s;
+  ctr = ctrOf s;
+  served = getD s servedAt 0;
+  lastAnswer = flagOf s lastAt;
+}
+
+-- what a state and a calibration memory show of a command that is done
+abbrev pub shown : List ℕ → List ℕ → Done
+shown s cal = record { session = sessionOf s; memory = cal; answer = answerOf s }
