@@ -5,3 +5,8 @@ pub mod Shows
 pub mod Effect
 pub mod Calls
 pub mod Seen
+pub mod Taken
+pub mod MemoryLaws
+pub mod SessionLaws
+pub mod ListLaws
+pub mod Obeys

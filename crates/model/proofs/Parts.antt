@@ -61,7 +61,7 @@ module _ {A : Type 0} (n : ℕ) where
 abbrev pub Misses : ℕ → ℕ → ℕ → ℕ → Type 0
 Misses lo hi a b = (i : ℕ) → a ≤ i → i < b → lo ≤ i → hi ≤ i
 
-aside : (lo hi j : ℕ) → (lo ≤ j → hi ≤ j) → T (out lo hi j)
+pub aside : (lo hi j : ℕ) → (lo ≤ j → hi ≤ j) → T (out lo hi j)
 aside lo hi j f = go (ltb j lo) refl where
   go : (x : Bool) → ltb j lo ≡ x → T (cond x true (leb hi j))
   go true e = tt

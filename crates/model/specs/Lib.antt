@@ -4,4 +4,5 @@ pub mod Model
 pub mod Step
 pub mod Answers
 pub mod Calls
+pub mod Commands
 pub mod View

@@ -1,0 +1,416 @@
+-- E3 to DD: what a command that is answered FF makes of the lists and the pointer. Assumes nothing.
+use Prim.Native.Nat.{ℕ, _+_, _<_}
+use mathlib.Core.Path.{_≡_, refl, sym, ap, ap₂, subst, _∙_}
+use mathlib.Core.Logic.{_≢_}
+use mathlib.Core.Bool.{Bool, true, false, cond}
+use mathlib.Core.List.{List, [], _∷_}
+use native.Mathlib.Omega.{arith}
+use borrow.Author.Tests.{eq-eqb, ne-eqb, eqb-true, eqb-false, ltb-false, leb-false}
+use lib.Dec.{eqb, ltb, leb}
+use lib.ListN.{length}
+use Rattle.line.proofs.Laws.{cond-ind}
+use Rattle.line.proofs.Stuffed.{false-true}
+use Rattle.state.specs.Layout.{lists, events, entryMost, lastEntry, listOf, firstOdt, odtCount, entryCount}
+use Rattle.state.specs.Bytes.{u16At, u32At}
+use Rattle.state.specs.Memory.{pick, insideOf}
+use Rattle.words.specs.Command.{commandOf}
+use Rattle.words.specs.declared.Command.the-variants as command
+use Rattle.words.specs.declared.Extension.{Extension}
+use Rattle.words.specs.declared.Pointer.{Pointer}
+use Rattle.words.specs.declared.Pointer.the-variants.{Unset as NoEntry, At as Points}
+use Rattle.words.specs.declared.Reason.the-variants.{OutOfRange, ListRuns, NotInside, CannotStart}
+use Rattle.judge.specs.Judge.{extensionFrom, clearDeed, pointerDeed, writeBlock, writeDeed, modeDeed, startDeed, startStopDeed, synchDeed, judgeThe}
+use Rattle.judge.specs.declared.Deed.{Deed}
+use Rattle.judge.specs.declared.Deed.the-variants.{ClearEntry, WriteEntry, Stop, Start, KeepRunning, Select, StopAll, StartSelected, StopSelected}
+use Rattle.session.specs.Perform.{nextEntry, written}
+use Rattle.model.specs.Model.{byte, put, Entry, noEntry, Odt, DaqList, Session, fits, runsIn}
+use Rattle.model.specs.Step.{withPointer, withLists, withEntry, setEntry, odtIn, clear, setMode, switch, select, stopIt, startIfSelected, stopIfSelected, stepIn}
+use Rattle.model.specs.Answers.{pointedIn, allStartable, judgeIn, replyIn, doneBy}
+use Rattle.model.specs.Commands.{two, four, extensionNumber, TheGenerator, Whether-open, TheLocks, TheSeed, TheMta, ThePointer, TheLists, AllBut, AllButBoth, CLEAR-DAQ-LIST, SET-DAQ-PTR, WRITE-DAQ, SET-DAQ-LIST-MODE, Switched, Unswitched, START-STOP-DAQ-LIST, START-STOP-SYNCH}
+use Rattle.model.proofs.Taken.{four-is, named-by, fe-ff, Taken, unless, provided, branch, judged, Leads}
+
+-- ---- what is left
+but-pointer : (c : Session) (x : Pointer) → AllBut ThePointer c (withPointer c x)
+but-pointer c x TheGenerator n = refl
+but-pointer c x Whether-open n = refl
+but-pointer c x TheLocks n = λ r. refl
+but-pointer c x TheSeed n = refl
+but-pointer c x TheMta n = refl
+but-pointer c x ThePointer n = absurd (n refl)
+but-pointer c x TheLists n = λ l. refl
+
+but-lists : (c : Session) (f : ℕ → DaqList) → AllBut TheLists c (withLists c f)
+but-lists c f TheGenerator n = refl
+but-lists c f Whether-open n = refl
+but-lists c f TheLocks n = λ r. refl
+but-lists c f TheSeed n = refl
+but-lists c f TheMta n = refl
+but-lists c f ThePointer n = refl
+but-lists c f TheLists n = absurd (n refl)
+
+but-both : (c : Session) (f : ℕ → DaqList) (x : Pointer) → AllButBoth ThePointer TheLists c (withPointer (withLists c f) x)
+but-both c f x TheGenerator n m = refl
+but-both c f x Whether-open n m = refl
+but-both c f x TheLocks n m = λ r. refl
+but-both c f x TheSeed n m = refl
+but-both c f x TheMta n m = refl
+but-both c f x ThePointer n m = absurd (n refl)
+but-both c f x TheLists n m = absurd (m refl)
+
+-- ---- one list, one ODT, one entry changed
+put-by : {A : Type 0} (P : A → Type 0) (i : ℕ) (x : A) (f : ℕ → A) (j : ℕ) → (j ≡ i → P x) → (j ≢ i → P (f j)) → P (put i x f j)
+unfolding put
+put-by P i x f j p q = cond-ind P (eqb j i) (λ b. p (eqb-true j i b)) (λ b. q (eqb-false j i b))
+
+put-here : {A : Type 0} (i : ℕ) (x : A) (f : ℕ → A) → put i x f i ≡ x
+unfolding put
+put-here i x f = rw (eq-eqb i i refl)
+
+put-there : {A : Type 0} (i : ℕ) (x : A) (f : ℕ → A) (j : ℕ) → j ≢ i → put i x f j ≡ f j
+unfolding put
+put-there i x f j n = rw (ne-eqb j i n)
+
+-- ---- E1 WRITE_DAQ
+module _ (l o e : ℕ) (x : Entry) (d : ℕ → DaqList) where
+  abbrev entered : ℕ → DaqList
+  entered = put l (setEntry o e x (d l)) d
+
+  entry-here : entered l .odt o .entry e ≡ x
+  unfolding put
+  entry-here = rw (eq-eqb l l refl, eq-eqb o o refl, eq-eqb e e refl)
+
+  entry-there : (m n i : ℕ) → (m ≡ l → n ≡ o → i ≢ e) → entered m .odt n .entry i ≡ d m .odt n .entry i
+  entry-there m n i other =
+      put-by (λ (y : DaqList). y .odt n .entry i ≡ d m .odt n .entry i) l (setEntry o e x (d l)) d m
+      (λ a. put-by (λ (y : Odt). y .entry i ≡ d m .odt n .entry i) o (withEntry e x (d l .odt o)) (d l .odt) n
+      (λ b. put-by (λ (y : Entry). y ≡ d m .odt n .entry i) e x (d l .odt o .entry) i
+      (λ z. absurd (other a b z)) (λ _. ap₂ (λ (m n : ℕ). d m .odt n .entry i) (sym a) (sym b))) (λ _. ap (λ (m : ℕ). d m .odt n .entry i) (sym a))) (λ _. refl)
+
+  entry-mode : (m : ℕ) → entered m .mode ≡ d m .mode
+  entry-mode m = put-by (λ (y : DaqList). y .mode ≡ d m .mode) l (setEntry o e x (d l)) d m (λ a. ap (λ (j : ℕ). d j .mode) (sym a)) (λ _. refl)
+
+  entry-selected : (m : ℕ) → entered m .selected ≡ d m .selected
+  entry-selected m = put-by (λ (y : DaqList). y .selected ≡ d m .selected) l (setEntry o e x (d l)) d m (λ a. ap (λ (j : ℕ). d j .selected) (sym a)) (λ _. refl)
+
+  entry-stopped : entered l .started ≡ false
+  unfolding put
+  entry-stopped = rw (eq-eqb l l refl)
+
+  entry-started : (m : ℕ) → m ≢ l → entered m .started ≡ d m .started
+  entry-started m n = put-by (λ (y : DaqList). y .started ≡ d m .started) l (setEntry o e x (d l)) d m (λ a. absurd (n a)) (λ _. refl)
+
+  entry-samples : (m n : ℕ) → entered m .odt n .store ≡ d m .odt n .store
+  entry-samples m n =
+      put-by (λ (y : DaqList). y .odt n .store ≡ d m .odt n .store) l (setEntry o e x (d l)) d m
+      (λ a. put-by (λ (y : Odt). y .store ≡ d m .odt n .store) o (withEntry e x (d l .odt o)) (d l .odt) n
+      (λ b. ap₂ (λ (m n : ℕ). d m .odt n .store) (sym a) (sym b)) (λ _. ap (λ (m : ℕ). d m .odt n .store) (sym a))) (λ _. refl)
+
+-- the pointer
+next-is : (k e : ℕ) → e + 1 ≢ entryCount k → nextEntry k e ≡ Points k (e + 1)
+unfolding nextEntry
+next-is k e n = rw (ne-eqb e lastEntry (omega arith))
+
+last-is : (k e : ℕ) → e + 1 ≡ entryCount k → nextEntry k e ≡ NoEntry
+unfolding nextEntry
+last-is k e n = rw (eq-eqb e lastEntry (omega arith))
+
+as-numbered : (k : ℕ) → firstOdt (listOf k) + odtIn k ≡ k
+as-numbered k = omega arith
+
+odt-in : (k : ℕ) → odtIn k < odtCount (listOf k)
+odt-in k = omega arith
+
+module _ (p : List ℕ) (c : Session) (cal meas : List ℕ) where
+  -- an entry x that is written: what the packet says, or none
+  wrote : (k e : ℕ) (x : Entry) (d : Deed) → c .pointer ≡ Points k e → stepIn d c ≡ withPointer (withLists c (put (listOf k) (setEntry (odtIn k) e x (c .list (listOf k))) (c .list))) (nextEntry k e)
+      → written d p cal ≡ cal → replyIn d c cal meas ≡ 0xFF ∷ [] → (ext : Extension) → byte p 3 ≡ extensionNumber ext
+      → (byte p 2 ≢ 0 → x ≡ record { size = byte p 2; extension = ext; address = four p 4 }) → (byte p 2 ≡ 0 → x ≡ noEntry)
+      → WRITE-DAQ p c cal meas (doneBy d p c cal meas)
+  wrote k e x d at step mem ans ext name some none =
+      let l : ℕ = listOf k in
+      let o : ℕ = odtIn k in
+      let q : Session = withPointer (withLists c (put l (setEntry o e x (c .list l)) (c .list))) (nextEntry k e) in
+      let number : firstOdt l + o ≡ k = as-numbered k in
+      subst (λ (q : Session). WRITE-DAQ p c cal meas (record { session = q; memory = written d p cal; answer = replyIn d c cal meas })) (sym step)
+      (record {
+        list = l;
+        odt = o;
+        entry = e;
+        inList = odt-in k;
+        pointed = at ∙ ap (λ (j : ℕ). Points j e) (sym number);
+        extension = ext;
+        named = name;
+        here = λ n. entry-here l o e x (c .list) ∙ some n;
+        zeroed = λ z. entry-here l o e x (c .list) ∙ none z;
+        others = entry-there l o e x (c .list);
+        modes = entry-mode l o e x (c .list);
+        selected = entry-selected l o e x (c .list);
+        stopped = entry-stopped l o e x (c .list);
+        started = entry-started l o e x (c .list);
+        samples = entry-samples l o e x (c .list);
+        next = λ n. next-is k e (subst (λ (j : ℕ). e + 1 ≢ entryCount j) number n) ∙ ap (λ (j : ℕ). Points j (e + 1)) (sym number);
+        last = λ n. last-is k e (subst (λ (j : ℕ). e + 1 ≡ entryCount j) number n);
+        rest = but-both c (put l (setEntry o e x (c .list l)) (c .list)) (nextEntry k e);
+        memory = mem;
+        answer = ans;
+      })
+
+  write-block : (k e len : ℕ) → c .pointer ≡ Points k e → ltb 1 (byte p 3) ≡ false
+      → Taken p c cal meas (writeBlock k e (byte p 2) (extensionFrom (byte p 3)) (u32At p 4) len) → Leads WRITE-DAQ p c cal meas (writeBlock k e (byte p 2) (extensionFrom (byte p 3)) (u32At p 4) len)
+  unfolding writeBlock stepIn written replyIn
+  write-block k e len at few =
+      let ext : Extension = extensionFrom (byte p 3) in
+      branch p c cal meas (Leads WRITE-DAQ p c cal meas) (eqb (byte p 2) 0)
+      (λ z _. wrote k e noEntry (ClearEntry k e) at refl refl refl ext (named-by (byte p 3) few) (λ some. absurd (some (eqb-true (byte p 2) 0 z))) (λ _. refl))
+      (λ z. provided p c cal meas (Leads WRITE-DAQ p c cal meas) (insideOf (u32At p 4) (byte p 2) len) NotInside
+      (λ _ _. wrote k e (record { size = byte p 2; extension = ext; address = u32At p 4 }) (WriteEntry k e (byte p 2) ext (u32At p 4)) at refl refl refl ext (named-by (byte p 3) few)
+      (λ _. ap (λ (a : ℕ). record { size = byte p 2; extension = ext; address = a }) (four-is p 4)) (λ none. absurd (eqb-false (byte p 2) 0 z none))))
+
+  write-at : (q : Pointer) (r : Bool) (nc nm : ℕ) → c .pointer ≡ q → Taken p c cal meas (writeDeed q r (byte p 1) (byte p 2) (byte p 3) (u32At p 4) nc nm)
+      → Leads WRITE-DAQ p c cal meas (writeDeed q r (byte p 1) (byte p 2) (byte p 3) (u32At p 4) nc nm)
+  unfolding writeDeed replyIn
+  write-at NoEntry r nc nm at = λ t. absurd (fe-ff t)
+  write-at (Points k e) r nc nm at =
+      let P : Deed → Type 0 = Leads WRITE-DAQ p c cal meas in
+      provided p c cal meas P (eqb (byte p 1) 0xFF) OutOfRange (λ _.
+      unless p c cal meas P (ltb entryMost (byte p 2)) OutOfRange (λ _.
+      unless p c cal meas P (ltb 1 (byte p 3)) OutOfRange (λ few.
+      unless p c cal meas P r ListRuns (λ _.
+      write-block k e (pick (extensionFrom (byte p 3)) nc nm) at few))))
+
+  pub write-daq : byte p 0 ≡ 0xE1 → Taken p c cal meas (judgeIn p c (length cal) (length meas)) → Leads WRITE-DAQ p c cal meas (judgeIn p c (length cal) (length meas))
+  unfolding judgeThe commandOf
+  write-daq code =
+      judged p c cal meas (Leads WRITE-DAQ p c cal meas) 0xE1 command.WriteDaq refl code (write-at (c .pointer) (pointedIn (c .pointer) c) (length cal) (length meas) refl)
+
+  -- ---- E2 SET_DAQ_PTR
+  pub set-daq-ptr : byte p 0 ≡ 0xE2 → Taken p c cal meas (judgeIn p c (length cal) (length meas)) → Leads SET-DAQ-PTR p c cal meas (judgeIn p c (length cal) (length meas))
+  unfolding judgeThe commandOf pointerDeed u16At stepIn written replyIn
+  set-daq-ptr code =
+      let P : Deed → Type 0 = Leads SET-DAQ-PTR p c cal meas in
+      let l : ℕ = two p 2 in
+      judged p c cal meas P 0xE2 command.SetDaqPtr refl code
+      (unless p c cal meas P (leb lists l) OutOfRange (λ _.
+      unless p c cal meas P (leb (odtCount l) (byte p 4)) OutOfRange (λ in-list.
+      unless p c cal meas P (leb (entryCount (firstOdt l + byte p 4)) (byte p 5)) OutOfRange (λ _ _.
+      record { inList = leb-false (odtCount l) (byte p 4) in-list; pointer = refl; rest = but-pointer c (Points (firstOdt l + byte p 4) (byte p 5)); memory = refl; answer = refl }))))
+
+  -- ---- E3 CLEAR_DAQ_LIST
+  pub clear-daq-list : byte p 0 ≡ 0xE3 → Taken p c cal meas (judgeIn p c (length cal) (length meas)) → Leads CLEAR-DAQ-LIST p c cal meas (judgeIn p c (length cal) (length meas))
+  unfolding judgeThe commandOf clearDeed u16At stepIn written replyIn
+  clear-daq-list code =
+      let P : Deed → Type 0 = Leads CLEAR-DAQ-LIST p c cal meas in
+      let l : ℕ = two p 2 in
+      let x : DaqList = clear (c .list l) in
+      let is : put l x (c .list) l ≡ x = put-here l x (c .list) in
+      judged p c cal meas P 0xE3 command.ClearDaqList refl code
+      (unless p c cal meas P (leb lists l) OutOfRange (λ _.
+      unless p c cal meas P (runsIn c l) ListRuns (λ _ _.
+      record {
+        entries = λ k e. ap (λ (y : DaqList). y .odt k .entry e) is;
+        mode = ap (λ (y : DaqList). y .mode) is;
+        selected = ap (λ (y : DaqList). y .selected) is;
+        stopped = ap (λ (y : DaqList). y .started) is;
+        others = put-there l x (c .list);
+        rest = but-lists c (put l x (c .list));
+        memory = refl;
+        answer = refl;
+      })))
+
+  -- ---- E0 SET_DAQ_LIST_MODE
+  pub set-daq-list-mode : byte p 0 ≡ 0xE0 → Taken p c cal meas (judgeIn p c (length cal) (length meas)) → Leads SET-DAQ-LIST-MODE p c cal meas (judgeIn p c (length cal) (length meas))
+  unfolding judgeThe commandOf modeDeed u16At stepIn written replyIn
+  set-daq-list-mode code =
+      let P : Deed → Type 0 = Leads SET-DAQ-LIST-MODE p c cal meas in
+      let l : ℕ = two p 2 in
+      let x : DaqList = setMode (two p 4) (c .list l) in
+      let is : put l x (c .list) l ≡ x = put-here l x (c .list) in
+      judged p c cal meas P 0xE0 command.SetDaqListMode refl code
+      (provided p c cal meas P (eqb (byte p 1) 0x10) OutOfRange (λ _.
+      unless p c cal meas P (leb lists l) OutOfRange (λ _.
+      unless p c cal meas P (leb events (two p 4)) OutOfRange (λ _.
+      provided p c cal meas P (eqb (byte p 6) 1) OutOfRange (λ _.
+      provided p c cal meas P (eqb (byte p 7) 0) OutOfRange (λ _.
+      unless p c cal meas P (runsIn c l) ListRuns (λ _ _.
+      record {
+        mode = ap (λ (y : DaqList). y .mode) is;
+        selected = ap (λ (y : DaqList). y .selected) is;
+        stopped = ap (λ (y : DaqList). y .started) is;
+        odts = λ k. ap (λ (y : DaqList). y .odt k) is;
+        others = put-there l x (c .list);
+        rest = but-lists c (put l x (c .list));
+        memory = refl;
+        answer = refl;
+      })))))))
+
+-- ---- DE START_STOP_DAQ_LIST
+switched : (on : Bool) (l : ℕ) (d : ℕ → DaqList) → Switched on (d l) (put l (switch on (d l)) d l)
+switched on l d =
+    subst (Switched on (d l)) (sym (put-here l (switch on (d l)) d)) (record { mode = refl; started = refl; entries = λ k e. refl; dropped = λ k. refl })
+
+module _ (p : List ℕ) (c : Session) (cal meas : List ℕ) where
+  abbrev list : ℕ
+  list = two p 2
+
+  abbrev Switches : Deed → Type 0
+  Switches = Leads START-STOP-DAQ-LIST p c cal meas
+
+  stops-list : byte p 1 ≡ 0 → Switches (Stop list)
+  unfolding stepIn written replyIn
+  stops-list m =
+      let is : put list (switch false (c .list list)) (c .list) list ≡ switch false (c .list list) = put-here list (switch false (c .list list)) (c .list) in
+      record {
+        stops = λ _. switched false list (c .list);
+        starts = λ e. absurd (omega arith);
+        keeps = λ e. absurd (omega arith);
+        switches = λ _. ap (λ (y : DaqList). y .selected) is;
+        selects = λ e. absurd (omega arith);
+        stays = λ e. absurd (omega arith);
+        others = put-there list (switch false (c .list list)) (c .list);
+        rest = but-lists c (put list (switch false (c .list list)) (c .list));
+        memory = refl;
+        answer = refl;
+      }
+
+  starts-list : byte p 1 ≡ 1 → runsIn c list ≡ false → Switches (Start list)
+  unfolding stepIn written replyIn
+  starts-list m idle =
+      let is : put list (switch true (c .list list)) (c .list) list ≡ switch true (c .list list) = put-here list (switch true (c .list list)) (c .list) in
+      record {
+        stops = λ e. absurd (omega arith);
+        starts = λ _ _. switched true list (c .list);
+        keeps = λ _ r. absurd (false-true (sym idle ∙ r));
+        switches = λ _. ap (λ (y : DaqList). y .selected) is;
+        selects = λ e. absurd (omega arith);
+        stays = λ e. absurd (omega arith);
+        others = put-there list (switch true (c .list list)) (c .list);
+        rest = but-lists c (put list (switch true (c .list list)) (c .list));
+        memory = refl;
+        answer = refl;
+      }
+
+  keeps-list : byte p 1 ≡ 1 → runsIn c list ≡ true → Switches (KeepRunning list)
+  unfolding stepIn written replyIn
+  keeps-list m runs′ =
+      record {
+        stops = λ e. absurd (omega arith);
+        starts = λ _ idle. absurd (false-true (sym idle ∙ runs′));
+        keeps = λ _ _. refl;
+        switches = λ _. refl;
+        selects = λ e. absurd (omega arith);
+        stays = λ e. absurd (omega arith);
+        others = λ l n. refl;
+        rest = but-lists c (c .list);
+        memory = refl;
+        answer = refl;
+      }
+
+  selects-list : byte p 1 ≢ 0 → byte p 1 ≢ 1 → ltb 2 (byte p 1) ≡ false → Switches (Select list)
+  unfolding stepIn written replyIn
+  selects-list n m few =
+      let is : put list (select true (c .list list)) (c .list) list ≡ select true (c .list list) = put-here list (select true (c .list list)) (c .list) in
+      record {
+        stops = λ e. absurd (n e);
+        starts = λ e. absurd (m e);
+        keeps = λ e. absurd (m e);
+        switches = λ e. absurd (omega (arith, ltb-false 2 (byte p 1) few));
+        selects = λ _. ap (λ (y : DaqList). y .selected) is;
+        stays = λ _. subst (Unswitched (c .list list)) (sym is) (record { mode = refl; started = refl; odts = λ k. refl });
+        others = put-there list (select true (c .list list)) (c .list);
+        rest = but-lists c (put list (select true (c .list list)) (c .list));
+        memory = refl;
+        answer = refl;
+      }
+
+  pub start-stop-daq-list : byte p 0 ≡ 0xDE → Taken p c cal meas (judgeIn p c (length cal) (length meas)) → Switches (judgeIn p c (length cal) (length meas))
+  unfolding judgeThe commandOf startStopDeed startDeed u16At
+  start-stop-daq-list code =
+      judged p c cal meas Switches 0xDE command.StartStopDaqList refl code
+      (unless p c cal meas Switches (ltb 2 (byte p 1)) OutOfRange (λ few.
+      unless p c cal meas Switches (leb lists list) OutOfRange (λ _.
+      branch p c cal meas Switches (eqb (byte p 1) 0) (λ m _. stops-list (eqb-true (byte p 1) 0 m)) (λ n.
+      branch p c cal meas Switches (eqb (byte p 1) 1)
+      (λ m. branch p c cal meas Switches (runsIn c list) (λ r _. keeps-list (eqb-true (byte p 1) 1 m) r) (λ idle.
+      provided p c cal meas Switches (fits list (c .list list)) CannotStart (λ _ _. starts-list (eqb-true (byte p 1) 1 m) idle)))
+      (λ m _. selects-list (eqb-false (byte p 1) 0 n) (eqb-false (byte p 1) 1 m) few)))))
+
+-- ---- DD START_STOP_SYNCH
+module _ (x : DaqList) where
+  abbrev startedIf : Bool → Bool → DaqList
+  startedIf s r = select false (cond s (cond r x (switch true x)) x)
+
+  abbrev stoppedIf : Bool → DaqList
+  stoppedIf s = select false (cond s (switch false x) x)
+
+  started-if : (s r : Bool) → s ≡ true → r ≡ false → Switched true x (startedIf s r)
+  started-if s r e f =
+      subst (λ (b : Bool). Switched true x (startedIf b r)) (sym e) (subst (λ (b : Bool). Switched true x (startedIf true b)) (sym f) (record { mode = refl; started = refl; entries = λ k i. refl; dropped = λ k. refl }))
+
+  kept-if : (s r : Bool) → s ≡ true → r ≡ true → Unswitched x (startedIf s r)
+  kept-if s r e f =
+      subst (λ (b : Bool). Unswitched x (startedIf b r)) (sym e) (subst (λ (b : Bool). Unswitched x (startedIf true b)) (sym f) (record { mode = refl; started = refl; odts = λ k. refl }))
+
+  unstarted-if : (s r : Bool) → s ≡ false → Unswitched x (startedIf s r)
+  unstarted-if s r e = subst (λ (b : Bool). Unswitched x (startedIf b r)) (sym e) (record { mode = refl; started = refl; odts = λ k. refl })
+
+  stopped-if : (s : Bool) → s ≡ true → Switched false x (stoppedIf s)
+  stopped-if s e = subst (λ (b : Bool). Switched false x (stoppedIf b)) (sym e) (record { mode = refl; started = refl; entries = λ k i. refl; dropped = λ k. refl })
+
+  unstopped-if : (s : Bool) → s ≡ false → Unswitched x (stoppedIf s)
+  unstopped-if s e = subst (λ (b : Bool). Unswitched x (stoppedIf b)) (sym e) (record { mode = refl; started = refl; odts = λ k. refl })
+
+module _ (p : List ℕ) (c : Session) (cal meas : List ℕ) where
+  abbrev Synchs : Deed → Type 0
+  Synchs = Leads START-STOP-SYNCH p c cal meas
+
+  all-stop : byte p 1 ≡ 0 → Synchs StopAll
+  unfolding stepIn written replyIn
+  all-stop m = record {
+    stopsAll = λ _ l. record { mode = refl; started = refl; entries = λ k e. refl; dropped = λ k. refl };
+    starts = λ e. absurd (omega arith);
+    keeps = λ e. absurd (omega arith);
+    stops = λ e. absurd (omega arith);
+    others = λ n. absurd (n m);
+    deselected = λ l. refl;
+    rest = but-lists c (λ l. stopIt (c .list l));
+    memory = refl;
+    answer = refl;
+  }
+
+  selected-start : byte p 1 ≡ 1 → Synchs StartSelected
+  unfolding stepIn written replyIn
+  selected-start m = record {
+    stopsAll = λ e. absurd (omega arith);
+    starts = λ _ l s r. started-if (c .list l) (c .list l .selected) (runsIn c l) s r;
+    keeps = λ _ l s r. kept-if (c .list l) (c .list l .selected) (runsIn c l) s r;
+    stops = λ e. absurd (omega arith);
+    others = λ _ l s. unstarted-if (c .list l) (c .list l .selected) (runsIn c l) s;
+    deselected = λ l. refl;
+    rest = but-lists c (λ l. startIfSelected (c .opened) l (c .list l));
+    memory = refl;
+    answer = refl;
+  }
+
+  selected-stop : byte p 1 ≢ 0 → byte p 1 ≢ 1 → Synchs StopSelected
+  unfolding stepIn written replyIn
+  selected-stop n m = record {
+    stopsAll = λ e. absurd (n e);
+    starts = λ e. absurd (m e);
+    keeps = λ e. absurd (m e);
+    stops = λ _ l s. stopped-if (c .list l) (c .list l .selected) s;
+    others = λ _ l s. unstopped-if (c .list l) (c .list l .selected) s;
+    deselected = λ l. refl;
+    rest = but-lists c (λ l. stopIfSelected (c .list l));
+    memory = refl;
+    answer = refl;
+  }
+
+  pub start-stop-synch : byte p 0 ≡ 0xDD → Taken p c cal meas (judgeIn p c (length cal) (length meas)) → Synchs (judgeIn p c (length cal) (length meas))
+  unfolding judgeThe commandOf synchDeed
+  start-stop-synch code =
+      judged p c cal meas Synchs 0xDD command.StartStopSynch refl code
+      (unless p c cal meas Synchs (ltb 2 (byte p 1)) OutOfRange (λ _.
+      branch p c cal meas Synchs (eqb (byte p 1) 0) (λ m _. all-stop (eqb-true (byte p 1) 0 m)) (λ n.
+      branch p c cal meas Synchs (eqb (byte p 1) 1)
+      (λ m. provided p c cal meas Synchs (allStartable c lists) CannotStart (λ _ _. selected-start (eqb-true (byte p 1) 1 m)))
+      (λ m _. selected-stop (eqb-false (byte p 1) 0 n) (eqb-false (byte p 1) 1 m)))))

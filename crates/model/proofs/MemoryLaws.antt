@@ -1,0 +1,231 @@
+-- F6 to F0: what a command that is answered FF makes of the MTA and the memory, and what it answers. Assumes nothing.
+use Prim.Native.Nat.{ℕ, zero, suc, _+_, _*_, _-_, _/_, _%_, _^_, _≤_, _<_}
+use mathlib.Core.Path.{_≡_, refl, sym, ap, subst, _∙_}
+use mathlib.Core.Logic.{_≢_}
+use mathlib.Core.Bool.{true}
+use mathlib.Core.List.{List, [], _∷_}
+use native.Mathlib.Nat.{le-refl, mod-lt}
+use native.Mathlib.Numerals.{add-one}
+use native.Mathlib.Omega.{arith}
+use borrow.Author.Tests.{ltb-true, ltb-false}
+use lib.Dec.{eqb, ltb, lit≤, lit<}
+use lib.ListN.{length, drop}
+use lib.Seq.{length-sets, getD-take, getD-drop, drop-cons}
+use Rattle.line.specs.Message.{sum}
+use Rattle.state.specs.Layout.{uploadMost, downloadMost, addressable}
+use Rattle.state.specs.Bytes.{u32At, put32, block, bytes32}
+use Rattle.state.specs.Memory.{pick, insideOf, blockSum}
+use Rattle.state.proofs.Inside.{inside-le}
+use Rattle.state.proofs.Sets.{block-length}
+use Rattle.words.specs.Command.{commandOf}
+use Rattle.words.specs.declared.Command.the-variants as command
+use Rattle.words.specs.declared.Extension.{Extension}
+use Rattle.words.specs.declared.Extension.the-variants.{Calibration as CalibrationMemory, Measured}
+use Rattle.words.specs.declared.Mta.{Mta}
+use Rattle.words.specs.declared.Mta.the-variants.{Unset, At}
+use Rattle.words.specs.declared.Reason.the-variants.{OutOfRange, DataMissing, NotInside}
+use Rattle.judge.specs.Judge.{extensionFrom, setMtaDeed, uploadDeed, shortUploadDeed, checksumDeed, downloadTo, downloadDeed, judgeThe}
+use Rattle.judge.specs.declared.Deed.{Deed}
+use Rattle.judge.specs.declared.Deed.the-variants.{Upload, ShortUpload, Checksum, Download}
+use Rattle.session.specs.Perform.{written}
+use Rattle.fields.proofs.Stores.{sets-in, put32-same}
+use Rattle.fields.proofs.Frames.{only-sets}
+use Rattle.model.specs.Model.{byte, Bytes, Session}
+use Rattle.model.specs.Step.{withMta, stepIn}
+use Rattle.model.specs.Answers.{judgeIn, replyIn, Done, doneBy}
+use Rattle.model.specs.Commands.{four, memoryOf, sumFrom, TheGenerator, Whether-open, TheLocks, TheSeed, TheMta, ThePointer, TheLists, AllBut, SET-MTA, Carries, UPLOAD, SHORT-UPLOAD, BUILD-CHECKSUM, DOWNLOAD}
+use Rattle.model.proofs.Parts.{either, aside}
+use Rattle.model.proofs.Taken.{four-is, named-by, fe-ff, Taken, unless, provided, branch, judged, Leads}
+
+but-mta : (c : Session) (x : Mta) → AllBut TheMta c (withMta c x)
+but-mta c x TheGenerator n = refl
+but-mta c x Whether-open n = refl
+but-mta c x TheLocks n = λ r. refl
+but-mta c x TheSeed n = refl
+but-mta c x TheMta n = absurd (n refl)
+but-mta c x ThePointer n = refl
+but-mta c x TheLists n = λ l. refl
+
+-- ---- blocks of bytes
+block-byte : (mem : List ℕ) (a n i : ℕ) → i < n → byte (block mem a n) i ≡ byte mem (a + i)
+block-byte mem a n i h = getD-take n (drop a mem) i 0 h ∙ getD-drop a mem i 0
+
+-- the memory that an extension stands for, and its length
+memory-is : (e : Extension) (cal meas : List ℕ) → pick e cal meas ≡ memoryOf e cal meas
+memory-is CalibrationMemory cal meas = refl
+memory-is Measured cal meas = refl
+
+length-is : (e : Extension) (cal meas : List ℕ) → pick e (length cal) (length meas) ≡ length (pick e cal meas)
+length-is CalibrationMemory cal meas = refl
+length-is Measured cal meas = refl
+
+inside-memory : (e : Extension) (a n : ℕ) (cal meas : List ℕ) → insideOf a n (pick e (length cal) (length meas)) ≡ true → a + n ≤ length (pick e cal meas)
+inside-memory e a n cal meas i = inside-le a n (length (pick e cal meas)) (rw (length-is e cal meas) at i) .0
+
+module _ (p : List ℕ) (c : Session) (cal meas : List ℕ) where
+  -- ---- F6 SET_MTA
+  pub set-mta : byte p 0 ≡ 0xF6 → Taken p c cal meas (judgeIn p c (length cal) (length meas)) → Leads SET-MTA p c cal meas (judgeIn p c (length cal) (length meas))
+  unfolding judgeThe commandOf setMtaDeed stepIn written replyIn
+  set-mta code =
+      let P : Deed → Type 0 = Leads SET-MTA p c cal meas in
+      let x : Extension = extensionFrom (byte p 3) in
+      judged p c cal meas P 0xF6 command.SetMta refl code
+      (unless p c cal meas P (ltb 1 (byte p 3)) OutOfRange (λ few _.
+      record { extension = x; named = named-by (byte p 3) few; mta = ap (At x) (four-is p 4); rest = but-mta c (At x (u32At p 4)); memory = refl; answer = refl }))
+
+  -- ---- F5 UPLOAD, F4 SHORT_UPLOAD
+  carried : (x : Extension) (a n : ℕ) (o : Done) → o .answer ≡ 0xFF ∷ block (pick x cal meas) a n → o .memory ≡ cal → insideOf a n (pick x (length cal) (length meas)) ≡ true → Carries x a n cal meas o
+  carried x a n o said same inside =
+      let mem : List ℕ = pick x cal meas in
+      record {
+        long = ap length said ∙ ap suc (block-length mem a n (inside-memory x a n cal meas inside)) ∙ sym (add-one n);
+        bytes = λ i h.
+            ap (λ (bs : List ℕ). byte bs (i + 1)) said ∙ ap (byte (0xFF ∷ block mem a n)) (add-one i) ∙ block-byte mem a n i h ∙ ap (λ (m : List ℕ). byte m (a + i)) (memory-is x cal meas);
+        memory = same;
+      }
+
+  upload-at : (m : Mta) → c .mta ≡ m → Taken p c cal meas (uploadDeed m (byte p 1) (length cal) (length meas)) → Leads UPLOAD p c cal meas (uploadDeed m (byte p 1) (length cal) (length meas))
+  unfolding uploadDeed stepIn written replyIn
+  upload-at Unset e = λ t. absurd (fe-ff t)
+  upload-at (At x a) e =
+      let P : Deed → Type 0 = Leads UPLOAD p c cal meas in
+      let n : ℕ = byte p 1 in
+      unless p c cal meas P (eqb n 0) OutOfRange (λ _.
+      unless p c cal meas P (ltb uploadMost n) OutOfRange (λ _.
+      provided p c cal meas P (insideOf a n (pick x (length cal) (length meas))) NotInside (λ inside _.
+      record {
+        extension = x;
+        address = a;
+        from = e;
+        carries = carried x a n (doneBy (Upload x a n) p c cal meas) refl refl inside;
+        mta = refl;
+        rest = but-mta c (At x (a + n));
+      })))
+
+  pub upload : byte p 0 ≡ 0xF5 → Taken p c cal meas (judgeIn p c (length cal) (length meas)) → Leads UPLOAD p c cal meas (judgeIn p c (length cal) (length meas))
+  unfolding judgeThe commandOf
+  upload code = judged p c cal meas (Leads UPLOAD p c cal meas) 0xF5 command.Upload refl code (upload-at (c .mta) refl)
+
+  pub short-upload : byte p 0 ≡ 0xF4 → Taken p c cal meas (judgeIn p c (length cal) (length meas)) → Leads SHORT-UPLOAD p c cal meas (judgeIn p c (length cal) (length meas))
+  unfolding judgeThe commandOf shortUploadDeed stepIn written replyIn
+  short-upload code =
+      let P : Deed → Type 0 = Leads SHORT-UPLOAD p c cal meas in
+      let n : ℕ = byte p 1 in
+      let x : Extension = extensionFrom (byte p 3) in
+      let a : ℕ = u32At p 4 in
+      judged p c cal meas P 0xF4 command.ShortUpload refl code
+      (unless p c cal meas P (eqb n 0) OutOfRange (λ _.
+      unless p c cal meas P (ltb uploadMost n) OutOfRange (λ _.
+      unless p c cal meas P (ltb 1 (byte p 3)) OutOfRange (λ few.
+      provided p c cal meas P (insideOf a n (pick x (length cal) (length meas))) NotInside (λ inside _.
+      record {
+        extension = x;
+        named = named-by (byte p 3) few;
+        carries = subst (λ (j : ℕ). Carries x j n cal meas (doneBy (ShortUpload x a n) p c cal meas)) (four-is p 4) (carried x a n (doneBy (ShortUpload x a n) p c cal meas) refl refl inside);
+        session = refl;
+      })))))
+
+-- ---- F3 BUILD_CHECKSUM
+-- a number in four bytes, lowest first
+pub four-back : (x : ℕ) → x < 2 ^ 32 → x % 256 + 256 * (x / 256 % 256 + 256 * (x / 65536 % 256 + 256 * (x / 16777216 % 256))) ≡ x
+unfolding put32 u32At
+four-back x h =
+    let zeros : List ℕ = 0 ∷ 0 ∷ 0 ∷ 0 ∷ [] in
+    let e : x % 256 + 256 * (x / 256 % 256) + 65536 * (x / 65536 % 256) + 16777216 * (x / 16777216 % 256) ≡ x = put32-same zeros 0 x (lit≤ tt) h in
+    omega arith
+
+pub bytes-cons : (x : ℕ) (bs : List ℕ) → x < 256 → Bytes bs → Bytes (x ∷ bs)
+bytes-cons x bs h w zero = h
+bytes-cons x bs h w (suc i) = w i
+
+pub bytes-four : (x : ℕ) → Bytes (bytes32 x)
+bytes-four x =
+    let d : List ℕ = x / 16777216 % 256 ∷ [] in
+    let c : List ℕ = x / 65536 % 256 ∷ d in
+    let b : List ℕ = x / 256 % 256 ∷ c in
+    bytes-cons (x % 256) b (mod-lt x (lit< tt))
+    (bytes-cons (x / 256 % 256) c (mod-lt (x / 256) (lit< tt))
+    (bytes-cons (x / 65536 % 256) d (mod-lt (x / 65536) (lit< tt))
+    (bytes-cons (x / 16777216 % 256) [] (mod-lt (x / 16777216) (lit< tt)) (λ i. lit< tt))))
+
+sum-from : (mem : List ℕ) (a n : ℕ) → a + n ≤ length mem → sum (block mem a n) ≡ sumFrom mem a n
+sum-from mem a zero h = refl
+sum-from mem a (suc n) h = rw (drop-cons mem a 0 (omega arith), add-one a) (ap (λ (m : ℕ). byte mem a + m) (sum-from mem (suc a) n (omega arith)))
+
+module _ (p : List ℕ) (c : Session) (cal meas : List ℕ) where
+  summed : (x : Extension) (a n : ℕ) → c .mta ≡ At x a → n ≡ four p 4 → insideOf a n (pick x (length cal) (length meas)) ≡ true → Leads BUILD-CHECKSUM p c cal meas (Checksum x a n)
+  unfolding stepIn written replyIn blockSum
+  summed x a n e number inside =
+      let mem : List ℕ = pick x cal meas in
+      let total : ℕ = sum (block mem a n) % 65536 in
+      let few : total < 65536 = mod-lt (sum (block mem a n)) (lit< tt) in
+      let same : total ≡ sumFrom (memoryOf x cal meas) a (four p 4) % 65536 =
+      ap (λ (m : ℕ). m % 65536) (sum-from mem a n (inside-memory x a n cal meas inside)) ∙ ap (λ (m : ℕ). sumFrom mem a m % 65536) number
+      ∙ ap (λ (bs : List ℕ). sumFrom bs a (four p 4) % 65536) (memory-is x cal meas) in
+      record {
+        extension = x;
+        address = a;
+        from = e;
+        answer = refl;
+        bytes = bytes-cons 0xFF (0x02 ∷ 0x00 ∷ 0x00 ∷ bytes32 total) (lit< tt)
+            (bytes-cons 0x02 (0x00 ∷ 0x00 ∷ bytes32 total) (lit< tt) (bytes-cons 0x00 (0x00 ∷ bytes32 total) (lit< tt) (bytes-cons 0x00 (bytes32 total) (lit< tt) (bytes-four total))));
+        carries = four-back total (omega arith) ∙ same;
+        mta = ap (λ (m : ℕ). At x (a + m)) number;
+        rest = but-mta c (At x (a + n));
+        memory = refl;
+      }
+
+  checksum-at : (m : Mta) → c .mta ≡ m → Taken p c cal meas (checksumDeed m (u32At p 4) (length cal) (length meas)) → Leads BUILD-CHECKSUM p c cal meas (checksumDeed m (u32At p 4) (length cal) (length meas))
+  unfolding checksumDeed replyIn
+  checksum-at Unset e = λ t. absurd (fe-ff t)
+  checksum-at (At x a) e =
+      let P : Deed → Type 0 = Leads BUILD-CHECKSUM p c cal meas in
+      let n : ℕ = u32At p 4 in
+      branch p c cal meas P (eqb n 0) (λ _ t. absurd (fe-ff t)) (λ _.
+      branch p c cal meas P (ltb addressable n) (λ _ t. absurd (fe-ff t)) (λ _.
+      provided p c cal meas P (insideOf a n (pick x (length cal) (length meas))) NotInside (λ inside _. summed x a n e (four-is p 4) inside)))
+
+  pub build-checksum : byte p 0 ≡ 0xF3 → Taken p c cal meas (judgeIn p c (length cal) (length meas)) → Leads BUILD-CHECKSUM p c cal meas (judgeIn p c (length cal) (length meas))
+  unfolding judgeThe commandOf
+  build-checksum code = judged p c cal meas (Leads BUILD-CHECKSUM p c cal meas) 0xF3 command.BuildChecksum refl code (checksum-at (c .mta) refl)
+
+  -- ---- F0 DOWNLOAD
+  loaded : (a : ℕ) → c .mta ≡ At CalibrationMemory a → byte p 1 + 2 ≤ length p → insideOf a (byte p 1) (length cal) ≡ true → Leads DOWNLOAD p c cal meas (Download a (byte p 1))
+  unfolding stepIn written replyIn
+  loaded a e there inside =
+      let n : ℕ = byte p 1 in
+      let xs : List ℕ = block p 2 n in
+      let long′ : length xs ≡ n = block-length p 2 n (omega arith) in
+      let room : a + n ≤ length cal = inside-le a n (length cal) inside .0 in
+      let within : (j : ℕ) → ((i : ℕ) → i < n → j ≢ a + i) → a ≤ j → a + n ≤ j =
+      λ j f h. either (ltb j (a + n)) (λ b. let k : j < a + n = ltb-true j (a + n) b in absurd (f (j - a) (omega arith) (omega arith))) (λ b. ltb-false j (a + n) b) in
+      record {
+        address = a;
+        at = e;
+        stored = λ i h. sets-in cal a xs i (omega arith) (omega arith) ∙ block-byte p 2 n i h ∙ ap (byte p) (omega arith);
+        others = λ j f. only-sets {lo = a} {hi = a + n} cal a xs (le-refl a) (omega arith) .bytes j (aside a (a + n) j (within j f));
+        long = length-sets cal a xs;
+        mta = refl;
+        rest = but-mta c (At CalibrationMemory (a + n));
+        answer = refl;
+      }
+
+  download-to : (x : Extension) (a : ℕ) → c .mta ≡ At x a → byte p 1 + 2 ≤ length p
+      → Taken p c cal meas (downloadTo x a (byte p 1) (length cal)) → Leads DOWNLOAD p c cal meas (downloadTo x a (byte p 1) (length cal))
+  unfolding downloadTo replyIn
+  download-to CalibrationMemory a e there = provided p c cal meas (Leads DOWNLOAD p c cal meas) (insideOf a (byte p 1) (length cal)) NotInside (λ inside _. loaded a e there inside)
+  download-to Measured a e there = λ t. absurd (fe-ff t)
+
+  download-at : (m : Mta) → c .mta ≡ m → Taken p c cal meas (downloadDeed m (byte p 1) (length p) (length cal)) → Leads DOWNLOAD p c cal meas (downloadDeed m (byte p 1) (length p) (length cal))
+  unfolding downloadDeed replyIn
+  download-at Unset e = λ t. absurd (fe-ff t)
+  download-at (At x a) e =
+      let P : Deed → Type 0 = Leads DOWNLOAD p c cal meas in
+      let n : ℕ = byte p 1 in
+      unless p c cal meas P (eqb n 0) OutOfRange (λ _.
+      unless p c cal meas P (ltb downloadMost n) OutOfRange (λ _.
+      unless p c cal meas P (ltb (length p) (n + 2)) DataMissing (λ there. download-to x a e (ltb-false (length p) (n + 2) there))))
+
+  pub download : byte p 0 ≡ 0xF0 → Taken p c cal meas (judgeIn p c (length cal) (length meas)) → Leads DOWNLOAD p c cal meas (judgeIn p c (length cal) (length meas))
+  unfolding judgeThe commandOf
+  download code = judged p c cal meas (Leads DOWNLOAD p c cal meas) 0xF0 command.Download refl code (download-at (c .mta) refl)

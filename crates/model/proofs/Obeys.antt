@@ -1,0 +1,46 @@
+-- Commands done by the model obey every law of document 01's list; and so does any way of commands that leads nowhere else. Assumes nothing.
+use Prim.Native.Nat.{ℕ}
+use mathlib.Core.Path.{_≡_, sym, ap, subst, _∙_}
+use mathlib.Core.List.{List}
+use lib.ListN.{length}
+use Rattle.model.specs.Model.{byte, Session}
+use Rattle.model.specs.Answers.{judgeIn, Done, commandIn}
+use Rattle.model.specs.Commands.{Way, Law, SYNCH, Obeys}
+use Rattle.model.proofs.Taken.{Taken, Leads}
+use Rattle.model.proofs.SessionLaws.{connect, disconnect, get-status, synch, get-seed, unlock-law, processor-info, resolution-info}
+use Rattle.model.proofs.MemoryLaws.{set-mta, upload, short-upload, build-checksum, download}
+use Rattle.model.proofs.ListLaws.{clear-daq-list, set-daq-ptr, write-daq, set-daq-list-mode, start-stop-daq-list, start-stop-synch}
+
+-- what a way leads to is what the model does
+abbrev pub AsModel : Way → Type 0
+AsModel R = (p : List ℕ) (c : Session) (cal meas : List ℕ) (o : Done) → R p c cal meas o → o ≡ commandIn p c cal meas
+
+module _ (R : Way) (same : AsModel R) where
+  law : (code : ℕ) (W : Way)
+      → ((p : List ℕ) (c : Session) (cal meas : List ℕ) → byte p 0 ≡ code → Taken p c cal meas (judgeIn p c (length cal) (length meas)) → Leads W p c cal meas (judgeIn p c (length cal) (length meas)))
+      → Law R code W
+  law code W f p c cal meas o r e t =
+      subst (W p c cal meas) (sym (same p c cal meas o r)) (f p c cal meas e (ap (λ (x : Done). byte (x .answer) 0) (sym (same p c cal meas o r)) ∙ t))
+
+  pub obeys : Obeys R
+  obeys = record {
+    connect = law 0xFF _ connect;
+    disconnect = law 0xFE _ disconnect;
+    getStatus = law 0xFD _ get-status;
+    synch = λ p c cal meas o r e. subst (SYNCH p c cal meas) (sym (same p c cal meas o r)) (synch p c cal meas e);
+    getSeed = law 0xF8 _ get-seed;
+    unlock = law 0xF7 _ unlock-law;
+    setMta = law 0xF6 _ set-mta;
+    upload = law 0xF5 _ upload;
+    shortUpload = law 0xF4 _ short-upload;
+    buildChecksum = law 0xF3 _ build-checksum;
+    download = law 0xF0 _ download;
+    clearDaqList = law 0xE3 _ clear-daq-list;
+    setDaqPtr = law 0xE2 _ set-daq-ptr;
+    writeDaq = law 0xE1 _ write-daq;
+    setDaqListMode = law 0xE0 _ set-daq-list-mode;
+    startStopDaqList = law 0xDE _ start-stop-daq-list;
+    startStopSynch = law 0xDD _ start-stop-synch;
+    getDaqProcessorInfo = law 0xDA _ processor-info;
+    getDaqResolutionInfo = law 0xD9 _ resolution-info;
+  }
