@@ -234,7 +234,7 @@ judge-fits p v nc nm a h n =
     let P : Deed → Type 0 = λ (d : Deed). Fit d (v .generator) in
     cond-ind P (ltb (p .n) (fewest x)) (λ _. tt) (λ _. cond-ind P (lockedBy (needsOf x) v) (λ _. tt) (λ _. the-fits x p v nc nm a h n))
 
--- of bytes
-pub judged-fits : (p s : List ℕ) (nc nm : ℕ) → Bytes p → Bytes s → Fit (judgeOf p s nc nm) (generatorOf s)
+-- of a packet of bytes
+pub judged-fits : (p s : List ℕ) (nc nm : ℕ) → Bytes p → generatorOf s < 2 ^ 32 → Fit (judgeOf p s nc nm) (generatorOf s)
 unfolding judgeOf
-judged-fits p s nc nm w v = judge-fits (numbersOf p) (seenOf (u16At p 2) s) nc nm (number-fits p 4 w) (generator-fits s v) (generator-some s)
+judged-fits p s nc nm w h = judge-fits (numbersOf p) (seenOf (u16At p 2) s) nc nm (number-fits p 4 w) h (generator-some s)

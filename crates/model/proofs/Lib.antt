@@ -1,5 +1,6 @@
 -- That the state in bytes shows the slave, whatever is done to it.
 pub mod Parts
+pub mod Bytes
 pub mod Fit
 pub mod Shows
 pub mod Effect

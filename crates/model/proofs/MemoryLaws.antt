@@ -30,11 +30,12 @@ use Rattle.judge.specs.declared.Deed.the-variants.{Upload, ShortUpload, Checksu
 use Rattle.session.specs.Perform.{written}
 use Rattle.fields.proofs.Stores.{sets-in, put32-same}
 use Rattle.fields.proofs.Frames.{only-sets}
-use Rattle.model.specs.Model.{byte, Bytes, Session}
+use Rattle.model.specs.Model.{byte, Session}
 use Rattle.model.specs.Step.{withMta, stepIn}
 use Rattle.model.specs.Answers.{judgeIn, replyIn, Done, doneBy}
 use Rattle.model.specs.Commands.{four, memoryOf, sumFrom, TheGenerator, Whether-open, TheLocks, TheSeed, TheMta, ThePointer, TheLists, AllBut, SET-MTA, Carries, UPLOAD, SHORT-UPLOAD, BUILD-CHECKSUM, DOWNLOAD}
 use Rattle.model.proofs.Parts.{either, aside}
+use Rattle.model.proofs.Bytes.{bytes-cons, bytes-four}
 use Rattle.model.proofs.Taken.{four-is, named-by, fe-ff, Taken, unless, provided, branch, judged, Leads}
 
 but-mta : (c : Session) (x : Mta) → AllBut TheMta c (withMta c x)
@@ -133,20 +134,6 @@ four-back x h =
     let zeros : List ℕ = 0 ∷ 0 ∷ 0 ∷ 0 ∷ [] in
     let e : x % 256 + 256 * (x / 256 % 256) + 65536 * (x / 65536 % 256) + 16777216 * (x / 16777216 % 256) ≡ x = put32-same zeros 0 x (lit≤ tt) h in
     omega arith
-
-pub bytes-cons : (x : ℕ) (bs : List ℕ) → x < 256 → Bytes bs → Bytes (x ∷ bs)
-bytes-cons x bs h w zero = h
-bytes-cons x bs h w (suc i) = w i
-
-pub bytes-four : (x : ℕ) → Bytes (bytes32 x)
-bytes-four x =
-    let d : List ℕ = x / 16777216 % 256 ∷ [] in
-    let c : List ℕ = x / 65536 % 256 ∷ d in
-    let b : List ℕ = x / 256 % 256 ∷ c in
-    bytes-cons (x % 256) b (mod-lt x (lit< tt))
-    (bytes-cons (x / 256 % 256) c (mod-lt (x / 256) (lit< tt))
-    (bytes-cons (x / 65536 % 256) d (mod-lt (x / 65536) (lit< tt))
-    (bytes-cons (x / 16777216 % 256) [] (mod-lt (x / 16777216) (lit< tt)) (λ i. lit< tt))))
 
 sum-from : (mem : List ℕ) (a n : ℕ) → a + n ≤ length mem → sum (block mem a n) ≡ sumFrom mem a n
 sum-from mem a zero h = refl

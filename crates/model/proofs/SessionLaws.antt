@@ -31,7 +31,8 @@ use Rattle.model.specs.Answers.{judgeIn, replyIn, doneBy}
 use Rattle.model.specs.Commands.{resourceNumber, maskFor, TheGenerator, Whether-open, TheLocks, TheSeed, TheMta, ThePointer, TheLists, AllButBoth, Fresh, CONNECT, DISCONNECT, GET-STATUS, SYNCH, Seeds, GET-SEED, UNLOCK, GET-DAQ-PROCESSOR-INFO, GET-DAQ-RESOLUTION-INFO}
 use Rattle.model.proofs.Parts.{either}
 use Rattle.model.proofs.Taken.{four-is, fe-ff, Taken, unless, provided, branch, judged, Leads}
-use Rattle.model.proofs.MemoryLaws.{four-back, bytes-cons, bytes-four}
+use Rattle.model.proofs.Bytes.{bytes-cons, bytes-four}
+use Rattle.model.proofs.MemoryLaws.{four-back}
 
 -- ---- FF CONNECT, FE DISCONNECT
 blank-fresh : (c : Session) (o : Bool) → Fresh c (blank (c .generator) o)
