@@ -31,6 +31,8 @@ pub mod Life
 pub mod CutJudge
 pub mod Cut
 pub mod Demand2
+-- What every command that is done makes of the slave.
+pub mod Obeyed
 -- The first two leave no choice.
 pub mod NoChoice
 -- The third demand, and that nothing is lost.

@@ -100,7 +100,7 @@ pub record Acts (s cal meas : List ℕ) (b : ℕ) (d : Deed) (o : Step) : Type 0
   pub does : Does s cal meas b d packet
   pub step : o ≡ obeyed d packet (readBy s b) cal meas
 
-some-none : {A : Type 0} {x : A} → some x ≡ none → ⊥
+pub some-none : {A : Type 0} {x : A} → some x ≡ none → ⊥
 some-none e = let z : _≡_ {A = ℕ} 0 1 = cc in omega arith
 
 rests-by : {s cal meas : List ℕ} {b : ℕ} {o : Step} {x : Option Deed} → Reads s cal meas b o x → x ≡ none → Rests s cal b o
