@@ -31,8 +31,9 @@ pub mod Life
 pub mod CutJudge
 pub mod Cut
 pub mod Demand2
--- What every command that is done makes of the slave.
+-- What every command that is done makes of the slave; locked lists keep their settings.
 pub mod Obeyed
+pub mod ListsLocked
 -- The first two leave no choice.
 pub mod NoChoice
 -- The third demand, and that nothing is lost.

@@ -57,13 +57,18 @@ module _ (s : List ℕ) (b : ℕ) (c : consistent s ≡ true) (w : Bytes s) (low
   shown-done d p cal meas n can fit =
       shown-after d (readBy s b) cal meas n (read-length s b c) can fit p ∙ ap (λ (x : Session). doneBy d p x cal meas) session-read
 
-  pub command-shown : (p cal meas : List ℕ) → Commands s b p → shown (receiveOf s cal meas b .state) (receiveOf s cal meas b .cal) ≡ commandIn p (sessionOf s) cal meas
-  command-shown p cal meas heard =
+  -- the deed that a command leads to
+  pub command-done : (p cal meas : List ℕ) → Bytes p
+      → shown (after (deedOf p (readBy s b) cal meas) (readBy s b) cal meas) (written (deedOf p (readBy s b) cal meas) p cal) ≡ commandIn p (sessionOf s) cal meas
+  command-done p cal meas v =
       let t : List ℕ = readBy s b in
-      ap (λ (o : Step). shown (o .state) (o .cal)) (commanded s cal meas b p c heard)
-      ∙ shown-after (deedOf p t cal meas) t cal meas (length p) (read-length s b c) (judged-doable p t (length cal) (length meas)) (judged-fits p t (length cal) (length meas) (ended-bytes p (heard .ends)) generator-low) p
+      shown-after (deedOf p t cal meas) t cal meas (length p) (read-length s b c) (judged-doable p t (length cal) (length meas)) (judged-fits p t (length cal) (length meas) v generator-low) p
       ∙ ap (λ (d : Deed). doneBy d p (sessionOf t) cal meas) (sym (judge-same p t (length cal) (length meas)))
       ∙ ap (λ (x : Session). commandIn p x cal meas) session-read
+
+  pub command-shown : (p cal meas : List ℕ) → Commands s b p → shown (receiveOf s cal meas b .state) (receiveOf s cal meas b .cal) ≡ commandIn p (sessionOf s) cal meas
+  command-shown p cal meas heard =
+      ap (λ (o : Step). shown (o .state) (o .cal)) (commanded s cal meas b p c heard) ∙ command-done p cal meas (ended-bytes p (heard .ends))
 
 as-model : AsModel (Obeyed ours)
 as-model p c cal meas o r =

@@ -11,3 +11,5 @@ pub mod MemoryLaws
 pub mod SessionLaws
 pub mod ListLaws
 pub mod Obeys
+pub mod Settings
+pub mod Locked

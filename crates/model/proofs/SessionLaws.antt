@@ -35,7 +35,7 @@ use Rattle.model.proofs.Bytes.{bytes-cons, bytes-four}
 use Rattle.model.proofs.MemoryLaws.{four-back}
 
 -- ---- FF CONNECT, FE DISCONNECT
-blank-fresh : (c : Session) (o : Bool) → Fresh c (blank (c .generator) o)
+pub blank-fresh : (c : Session) (o : Bool) → Fresh c (blank (c .generator) o)
 blank-fresh c o = record {
   generator = refl;
   locked = λ r. refl;

@@ -5,4 +5,5 @@ pub mod Step
 pub mod Answers
 pub mod Calls
 pub mod Commands
+pub mod Locked
 pub mod View

@@ -1,0 +1,37 @@
+-- While lists are locked no call changes an entry, mode, selection, running flag or the pointer, unless it ends or renews the session, which leaves
+-- all of them as in a fresh one. Samples come and go by events and slots.
+use Prim.Native.Nat.{ℕ, _<_}
+use mathlib.Core.Path.{_≡_}
+use mathlib.Core.Bool.{Bool, true, false, cond}
+use mathlib.Core.Option.{Option, none, some}
+use mathlib.Core.List.{List}
+use lib.Dec.{eqb}
+use Rattle.state.specs.State.{consistent, openOf, unlockedOf, answerOf}
+use Rattle.words.specs.Number.{receivedNumber}
+use Rattle.words.specs.declared.Resource.the-variants.{Lists}
+use Rattle.session.specs.Receive.{Step}
+use Rattle.model.specs.Model.{Bytes}
+use Rattle.model.specs.Commands.{Fresh}
+use Rattle.model.specs.Locked.{SettingsKept, endsSession}
+use Rattle.model.specs.View.{sessionOf}
+use Rattle.demands.specs.Slave.{Slave}
+use Rattle.demands.specs.Heard.{packetEnded}
+
+-- a packet, if one ended, with that answer
+abbrev pub endsBy : Option (List ℕ) → List ℕ → Bool
+endsBy none answer = false
+endsBy (some p) answer = endsSession p answer
+
+-- byte b ends a command that is answered, and that ends or renews the session
+abbrev pub endsAt : Step → List ℕ → ℕ → Bool
+endsAt o s b = cond (eqb (receivedNumber (o .received)) 1) (endsBy (packetEnded s b) (answerOf (o .state))) false
+
+pub record ListsLocked (v : Slave) : Type 0 where
+  -- a byte, while lists are locked or no session is open
+  pub kept : (s cal meas : List ℕ) (b : ℕ) → consistent s ≡ true → Bytes s → b < 256 → (openOf s ≡ true → unlockedOf s Lists ≡ false)
+      → endsAt (v .receive s cal meas b) s b ≡ false → SettingsKept (sessionOf s) (sessionOf (v .receive s cal meas b .state))
+  pub fresh : (s cal meas : List ℕ) (b : ℕ) → consistent s ≡ true → Bytes s → b < 256 → (openOf s ≡ true → unlockedOf s Lists ≡ false)
+      → endsAt (v .receive s cal meas b) s b ≡ true → Fresh (sessionOf s) (sessionOf (v .receive s cal meas b .state))
+  -- an event and a slot, at any time
+  pub event : (s cal meas : List ℕ) (number clock : ℕ) → SettingsKept (sessionOf s) (sessionOf (v .event s cal meas number clock .state))
+  pub slot : (s out : List ℕ) → SettingsKept (sessionOf s) (sessionOf (v .slot s out .state))
