@@ -15,7 +15,7 @@ use Rattle.state.specs.State.{consistent, waits, answerOf}
 use Rattle.session.specs.Perform.{effect, reply, after}
 use Rattle.session.specs.Receive.{Step, receiveOf}
 use Rattle.words.specs.Number.{receivedNumber}
-use Rattle.judge.specs.declared.Deed.{Deed}
+use Rattle.model.specs.declared.Deed.{Deed}
 use Rattle.words.specs.declared.Received.{Received}
 use Rattle.words.specs.declared.Received.the-variants.{Nothing, Answered, Silent, BadLength, BadEscape, BadChecksum, Unread, CutOff, NoState}
 use Rattle.fields.proofs.Frames.{only-answered}

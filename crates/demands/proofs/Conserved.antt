@@ -11,8 +11,8 @@ use Rattle.line.specs.Message.{room}
 use Rattle.state.specs.Layout.{size, lists}
 use Rattle.state.specs.State.{consistent, ctrOf, answerOf}
 use Rattle.lists.specs.Slot.{turnOf, packetOf, packetSent, slotOf}
-use Rattle.lists.specs.declared.Turn.{Turn}
-use Rattle.lists.specs.declared.Turn.the-variants.{Packet}
+use Rattle.model.specs.declared.Turn.{Turn}
+use Rattle.model.specs.declared.Turn.the-variants.{Packet}
 use Rattle.state.proofs.Consistent.{consistent-size}
 use Rattle.fields.proofs.Readers.{same-part, waits-reads, answer-reads}
 use Rattle.fields.proofs.Served.{answerSent-waits, packetSent-rest}

@@ -15,20 +15,21 @@ use Rattle.state.specs.Layout.{addressable, firstOdt, entries, lists, uploadMos
 use Rattle.state.specs.Bytes.{block}
 use Rattle.state.specs.Memory.{reach, pick, insideOf, blockSum, byteOf, bytesOf}
 use Rattle.state.specs.State.{consistent, openOf, waits}
-use Rattle.lists.specs.Lists.{sizeOf, extensionOf, addressOf}
+use Rattle.state.specs.Lists.{sizeOf, extensionOf, addressOf}
 use Rattle.judge.specs.Doable.{Inside, Doable}
 use Rattle.session.specs.Look.{judgeOf}
-use Rattle.session.specs.Perform.{reply, written}
+use Rattle.session.specs.Perform.{reply}
+use Rattle.model.specs.Answers.{written}
 use Rattle.session.specs.Receive.{Step, only, obeyed, goodConnect, heeded, meant, readOn, fedOf, receiveOf}
 use Rattle.lists.specs.Event.{samplingOf, entryBytes, gathered, captured, sampledState, Tally, counted, tally, eventOf, contentsOf, capturedOdts}
 use Rattle.words.specs.declared.Extension.{Extension}
 use Rattle.words.specs.declared.Extension.the-variants.{Calibration, Measured}
-use Rattle.lists.specs.declared.Sampling.{Sampling}
-use Rattle.lists.specs.declared.Sampling.the-variants.{Idle, Sampled, Missed}
+use Rattle.model.specs.declared.Sampling.{Sampling}
+use Rattle.model.specs.declared.Sampling.the-variants.{Idle, Sampled, Missed}
 use Rattle.words.specs.declared.Received.{Received}
 use Rattle.words.specs.declared.Received.the-variants.{Nothing, Silent, BadLength, BadEscape, BadChecksum, Unread, CutOff, NoState}
-use Rattle.judge.specs.declared.Deed.{Deed}
-use Rattle.judge.specs.declared.Deed.the-variants.{Refuse, RefuseSize, WrongKey, Connect, Disconnect, Status, Synch, NoSeed, GiveSeed, Unlock, SetMta, Upload, ShortUpload, Checksum, Download, ClearList, SetPointer, ClearEntry, WriteEntry, SetMode, Stop, Start, KeepRunning, Select, StopAll, StartSelected, StopSelected, ProcessorInfo, ResolutionInfo}
+use Rattle.model.specs.declared.Deed.{Deed}
+use Rattle.model.specs.declared.Deed.the-variants.{Refuse, RefuseSize, WrongKey, Connect, Disconnect, Status, Synch, NoSeed, GiveSeed, Unlock, SetMta, Upload, ShortUpload, Checksum, Download, ClearList, SetPointer, ClearEntry, WriteEntry, SetMode, Stop, Start, KeepRunning, Select, StopAll, StartSelected, StopSelected, ProcessorInfo, ResolutionInfo}
 use Rattle.state.proofs.Inside.{inside-le}
 use Rattle.session.proofs.Data.{block-block}
 use Rattle.session.proofs.Looked.{judged-doable}

@@ -7,7 +7,7 @@ use lib.ListN.{getD}
 use Rattle.state.specs.Bytes.{u16At}
 use Rattle.state.specs.Memory.{reach, pick, insideOf}
 use Rattle.words.specs.Command.{commandOf}
-use Rattle.judge.specs.Judge.{extensionFrom, uploadDeed, shortUploadDeed, checksumDeed, downloadTo, downloadDeed, writeBlock, writeDeed, judgeThe, judgeBy, judge}
+use Rattle.model.specs.Judge.{extensionFrom, uploadDeed, shortUploadDeed, checksumDeed, downloadTo, downloadDeed, writeBlock, writeDeed, judgeThe, judgeBy, judge}
 use Rattle.words.specs.declared.Command.{Command}
 use Rattle.words.specs.declared.Command.the-variants.{Unknown, Connect, Disconnect, GetStatus, Synch, GetSeed, Unlock, SetMta, Upload, ShortUpload, BuildChecksum, Download, ClearDaqList, SetDaqPtr, WriteDaq, SetDaqListMode, StartStopDaqList, StartStopSynch, GetDaqProcessorInfo, GetDaqResolutionInfo}
 use Rattle.words.specs.declared.Extension.{Extension}
@@ -16,8 +16,9 @@ use Rattle.words.specs.declared.Mta.{Mta}
 use Rattle.words.specs.declared.Mta.the-variants.{Unset, At}
 use Rattle.words.specs.declared.Pointer.{Pointer}
 use Rattle.words.specs.declared.Pointer.the-variants.{Unset as NoEntry, At as Entry}
-use Rattle.judge.specs.Seen.{Packet, Seen}
-use Rattle.session.specs.Look.{numbersOf, seenOf, judgeOf}
+use Rattle.model.specs.Seen.{Packet, Seen}
+use Rattle.model.specs.Seen.{numbersOf}
+use Rattle.session.specs.Look.{seenOf, judgeOf}
 
 -- two pairs of lengths of which as many bytes can be addressed
 module _ (nc nm nc′ nm′ : ℕ) (c : reach nc′ ≡ reach nc) (m : reach nm′ ≡ reach nm) where

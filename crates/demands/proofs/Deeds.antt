@@ -14,12 +14,13 @@ use Rattle.state.specs.Generator.{nextOf}
 use Rattle.state.specs.State.{generatorOf, setGenerator, lockAt, setMta, setPointer, closed, fresh}
 use Rattle.lists.specs.Lists.{switched, listCleared, modeSet, entryCleared, entrySet}
 use Rattle.judge.specs.Doable.{Doable}
-use Rattle.session.specs.Perform.{nextEntry, effect}
+use Rattle.model.specs.Step.{nextEntry}
+use Rattle.session.specs.Perform.{effect}
 use Rattle.words.specs.declared.Seed.the-variants.{None, For}
 use Rattle.words.specs.declared.Mta.{Mta}
 use Rattle.words.specs.declared.Pointer.{Pointer}
-use Rattle.judge.specs.declared.Deed.{Deed}
-use Rattle.judge.specs.declared.Deed.the-variants.{Refuse, RefuseSize, WrongKey, Connect, Disconnect, Status, Synch, NoSeed, GiveSeed, Unlock, SetMta, Upload, ShortUpload, Checksum, Download, ClearList, SetPointer, ClearEntry, WriteEntry, SetMode, Stop, Start, KeepRunning, Select, StopAll, StartSelected, StopSelected, ProcessorInfo, ResolutionInfo}
+use Rattle.model.specs.declared.Deed.{Deed}
+use Rattle.model.specs.declared.Deed.the-variants.{Refuse, RefuseSize, WrongKey, Connect, Disconnect, Status, Synch, NoSeed, GiveSeed, Unlock, SetMta, Upload, ShortUpload, Checksum, Download, ClearList, SetPointer, ClearEntry, WriteEntry, SetMode, Stop, Start, KeepRunning, Select, StopAll, StartSelected, StopSelected, ProcessorInfo, ResolutionInfo}
 use Rattle.fields.proofs.Fields.{bare-runs, closed-bare, fresh-bare}
 use Rattle.fields.proofs.Frames.{only-generator, only-lock, only-seed, only-mta, only-pointer}
 use Rattle.demands.specs.Heard.{stops}

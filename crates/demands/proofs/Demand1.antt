@@ -19,7 +19,8 @@ use Rattle.line.proofs.Stuffed.{false-true}
 use Rattle.state.specs.Layout.{placeAt, answerAt, size, sessionAt, sessionSize, packetMost}
 use Rattle.state.specs.Bytes.{cleared}
 use Rattle.state.specs.State.{consistent, ctrOf, seedOf, generatorOf, closed, answerOf}
-use Rattle.session.specs.Perform.{effect, reply, written, after}
+use Rattle.session.specs.Perform.{effect, reply, after}
+use Rattle.model.specs.Answers.{written}
 use Rattle.session.specs.Receive.{Step, obeyed, receiveOf}
 use Rattle.lists.specs.Event.{eventOf}
 use Rattle.lists.specs.Slot.{packetOf, turnOf, slottedAs, sentBy, slotOf}
@@ -28,10 +29,10 @@ use Rattle.words.specs.Number.{receivedNumber, eventedNumber, slottedNumber, po
 use Rattle.judge.specs.Doable.{Doable}
 use Rattle.words.specs.declared.Seed.{Seed}
 use Rattle.words.specs.declared.Seed.the-variants.{None, For}
-use Rattle.judge.specs.declared.Deed.{Deed}
-use Rattle.judge.specs.declared.Deed.the-variants.{WrongKey, Disconnect}
-use Rattle.lists.specs.declared.Turn.{Turn}
-use Rattle.lists.specs.declared.Turn.the-variants.{Nobody, Answer, Packet}
+use Rattle.model.specs.declared.Deed.{Deed}
+use Rattle.model.specs.declared.Deed.the-variants.{WrongKey, Disconnect}
+use Rattle.model.specs.declared.Turn.{Turn}
+use Rattle.model.specs.declared.Turn.the-variants.{Nobody, Answer, Packet}
 use Rattle.state.proofs.Consistent.{consistent-size}
 use Rattle.fields.proofs.Effects.{answering, after-answer}
 use Rattle.fields.proofs.Frames.{Only, only-then, only-wider, only-between, only-answered}

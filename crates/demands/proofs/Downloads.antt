@@ -16,15 +16,17 @@ use Rattle.state.specs.Bytes.{block, u16At}
 use Rattle.state.specs.Memory.{insideOf}
 use Rattle.state.specs.State.{consistent, mtaOf, answerOf}
 use Rattle.words.specs.Command.{commandOf, needsOf}
-use Rattle.judge.specs.Judge.{uploadDeed, downloadTo, downloadDeed, judgeThe, judgeBy, judge, lockedBy}
-use Rattle.session.specs.Look.{judgeOf, numbersOf, seenOf}
-use Rattle.session.specs.Perform.{reply, written}
+use Rattle.model.specs.Judge.{uploadDeed, downloadTo, downloadDeed, judgeThe, judgeBy, judge, lockedBy}
+use Rattle.session.specs.Look.{judgeOf, seenOf}
+use Rattle.model.specs.Seen.{numbersOf}
+use Rattle.session.specs.Perform.{reply}
+use Rattle.model.specs.Answers.{written}
 use Rattle.session.specs.Receive.{Step, receiveOf}
 use Rattle.words.specs.declared.Command.the-variants as command
 use Rattle.words.specs.declared.Extension.the-variants.{Calibration}
 use Rattle.words.specs.declared.Mta.the-variants.{At}
-use Rattle.judge.specs.declared.Deed.{Deed}
-use Rattle.judge.specs.declared.Deed.the-variants.{Upload, Download}
+use Rattle.model.specs.declared.Deed.{Deed}
+use Rattle.model.specs.declared.Deed.the-variants.{Upload, Download}
 use Rattle.fields.proofs.Frames.{only-sets}
 use Rattle.state.proofs.Inside.{inside-le}
 use Rattle.state.proofs.Sets.{block-length}

@@ -12,10 +12,11 @@ use lib.ListN.{length}
 use Rattle.line.proofs.Laws.{cond-ind}
 use Rattle.line.proofs.Stuffed.{false-true}
 use Rattle.state.specs.Layout.{size, lists, sampleAt, firstOdt, odtCount}
-use Rattle.lists.specs.Lists.{runsOf, modeOf, storedLength, someStored, unsent}
+use Rattle.lists.specs.Lists.{runsOf, someStored, unsent}
+use Rattle.state.specs.Lists.{modeOf, storedLength}
 use Rattle.lists.specs.Event.{samplingOf, contentsOf, stored, capturedOdts, captured, sampledState, sampledBy, missedBy, tally}
-use Rattle.lists.specs.declared.Sampling.{Sampling}
-use Rattle.lists.specs.declared.Sampling.the-variants.{Idle, Sampled, Missed}
+use Rattle.model.specs.declared.Sampling.{Sampling}
+use Rattle.model.specs.declared.Sampling.the-variants.{Idle, Sampled, Missed}
 use Rattle.lists.proofs.Entries.{contents-alike}
 use Rattle.lists.proofs.Fitting.{runs-fit}
 use Rattle.fields.proofs.Frames.{Only, only-none, only-then, only-wider}

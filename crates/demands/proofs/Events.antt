@@ -13,8 +13,8 @@ use Rattle.state.specs.Layout.{lists, entries, placeAt, sampleAt, firstOdt, siz
 use Rattle.state.specs.Bytes.{block}
 use Rattle.state.specs.State.{consistent, openOf, waits, answerOf}
 use Rattle.lists.specs.Event.{samplingOf, captured, tally, happened, eventOf, contentsOf}
-use Rattle.lists.specs.declared.Sampling.{Sampling}
-use Rattle.lists.specs.declared.Sampling.the-variants.{Idle, Sampled, Missed}
+use Rattle.model.specs.declared.Sampling.{Sampling}
+use Rattle.model.specs.declared.Sampling.the-variants.{Idle, Sampled, Missed}
 use Rattle.words.specs.declared.Evented.the-variants.{Done}
 use Rattle.state.proofs.Consistent.{consistent-size}
 use Rattle.fields.proofs.Frames.{only-take, only-drop}

@@ -15,7 +15,7 @@ use Rattle.state.specs.Memory.{pick, insideOf}
 use Rattle.state.specs.State.{generatorOf, unlockedOf, seedOf, mtaOf, pointerOf}
 use Rattle.lists.specs.Lists.{fitOf, runsOf, allFit}
 use Rattle.words.specs.Command.{commandOf, fewest, needsOf}
-use Rattle.judge.specs.Judge.{extensionFrom, connectDeed, seedDeed, getSeedDeed, unlockBy, setMtaDeed, uploadDeed, shortUploadDeed, checksumDeed, downloadTo, downloadDeed, clearDeed, pointerDeed, writeBlock, writeDeed, modeDeed, startDeed, startStopDeed, synchDeed, lockedBy, judgeThe, judgeBy, judge}
+use Rattle.model.specs.Judge.{extensionFrom, connectDeed, seedDeed, getSeedDeed, unlockBy, setMtaDeed, uploadDeed, shortUploadDeed, checksumDeed, downloadTo, downloadDeed, clearDeed, pointerDeed, writeBlock, writeDeed, modeDeed, startDeed, startStopDeed, synchDeed, lockedBy, judgeThe, judgeBy, judge}
 use Rattle.words.specs.declared.Command.{Command}
 use Rattle.words.specs.declared.Command.the-variants as command
 use Rattle.words.specs.declared.Resource.{Resource}
@@ -28,9 +28,10 @@ use Rattle.words.specs.declared.Mta.{Mta}
 use Rattle.words.specs.declared.Mta.the-variants.{Unset, At}
 use Rattle.words.specs.declared.Pointer.{Pointer}
 use Rattle.words.specs.declared.Pointer.the-variants.{Unset as NoEntry, At as Entry}
-use Rattle.judge.specs.declared.Deed.{Deed}
-use Rattle.session.specs.Look.{numbersOf, pointedRuns, seenOf, judgeOf}
-use Rattle.judge.specs.declared.Deed.the-variants.{Refuse, RefuseSize, WrongKey, Connect, Disconnect, Status, Synch, NoSeed, GiveSeed, Unlock, SetMta, Upload, ShortUpload, Checksum, Download, ClearList, SetPointer, ClearEntry, WriteEntry, SetMode, Stop, Start, KeepRunning, Select, StopAll, StartSelected, StopSelected, ProcessorInfo, ResolutionInfo}
+use Rattle.model.specs.declared.Deed.{Deed}
+use Rattle.model.specs.Seen.{numbersOf}
+use Rattle.session.specs.Look.{pointedRuns, seenOf, judgeOf}
+use Rattle.model.specs.declared.Deed.the-variants.{Refuse, RefuseSize, WrongKey, Connect, Disconnect, Status, Synch, NoSeed, GiveSeed, Unlock, SetMta, Upload, ShortUpload, Checksum, Download, ClearList, SetPointer, ClearEntry, WriteEntry, SetMode, Stop, Start, KeepRunning, Select, StopAll, StartSelected, StopSelected, ProcessorInfo, ResolutionInfo}
 use Rattle.demands.specs.Heard.{bringsKey, keyMatches, wrongKeyBy, wrongKey}
 use Rattle.demands.proofs.Coded.{Coded, coded}
 

@@ -18,19 +18,19 @@ use Rattle.state.specs.Bytes.{u32At, put32, bytes32}
 use Rattle.state.specs.Generator.{addend, rotatedLeft8, keyOf, nextOf}
 use Rattle.state.specs.State.{consistent, bitOf, generatorOf, setGenerator, unlockedOf, seedOf, setSeed, answered}
 use Rattle.words.specs.Command.{commandOf}
-use Rattle.judge.specs.Judge.{getSeedDeed, judgeThe, judgeBy, judge}
+use Rattle.model.specs.Judge.{getSeedDeed, judgeThe, judgeBy, judge}
 use Rattle.session.specs.Look.{judgeOf}
 use Rattle.session.specs.Perform.{effect, reply, after}
 use Rattle.session.specs.Receive.{obeyed, receiveOf}
 use Rattle.lists.specs.Event.{eventOf}
 use Rattle.lists.specs.Slot.{turnOf, nextCtr, packetSent, slotOf}
-use Rattle.lists.specs.declared.Turn.{Turn}
-use Rattle.lists.specs.declared.Turn.the-variants.{Nobody, Answer, Packet}
+use Rattle.model.specs.declared.Turn.{Turn}
+use Rattle.model.specs.declared.Turn.the-variants.{Nobody, Answer, Packet}
 use Rattle.words.specs.declared.Resource.{Resource}
 use Rattle.words.specs.declared.Resource.the-variants.{Calibration, Lists}
 use Rattle.words.specs.declared.Seed.the-variants.{For}
-use Rattle.judge.specs.declared.Deed.{Deed}
-use Rattle.judge.specs.declared.Deed.the-variants.{GiveSeed}
+use Rattle.model.specs.declared.Deed.{Deed}
+use Rattle.model.specs.declared.Deed.the-variants.{GiveSeed}
 use Rattle.state.proofs.Xorshift.{next-fits, next-some, start-same, generator-some}
 use Rattle.fields.proofs.Effects.{answering}
 use Rattle.fields.proofs.Fields.{generator-same, seed-same}

@@ -13,11 +13,11 @@ use lib.Seq.{sets}
 use Rattle.state.specs.Layout.{size}
 use Rattle.state.specs.Bytes.{block}
 use Rattle.state.specs.State.{consistent, ctrOf, answerOf}
-use Rattle.session.specs.Perform.{written}
+use Rattle.model.specs.Answers.{written}
 use Rattle.session.specs.PowerUp.{powered}
 use Rattle.session.specs.Receive.{Step}
-use Rattle.judge.specs.declared.Deed.{Deed}
-use Rattle.judge.specs.declared.Deed.the-variants.{Refuse, RefuseSize, WrongKey, Connect, Disconnect, Status, Synch, NoSeed, GiveSeed, Unlock, SetMta, Upload, ShortUpload, Checksum, Download, ClearList, SetPointer, ClearEntry, WriteEntry, SetMode, Stop, Start, KeepRunning, Select, StopAll, StartSelected, StopSelected, ProcessorInfo, ResolutionInfo}
+use Rattle.model.specs.declared.Deed.{Deed}
+use Rattle.model.specs.declared.Deed.the-variants.{Refuse, RefuseSize, WrongKey, Connect, Disconnect, Status, Synch, NoSeed, GiveSeed, Unlock, SetMta, Upload, ShortUpload, Checksum, Download, ClearList, SetPointer, ClearEntry, WriteEntry, SetMode, Stop, Start, KeepRunning, Select, StopAll, StartSelected, StopSelected, ProcessorInfo, ResolutionInfo}
 use Rattle.state.proofs.Consistent.{consistent-size}
 use Rattle.fields.proofs.Frames.{Only, only-sets}
 use Rattle.fields.proofs.Readers.{Same, before, behind, same-block}

@@ -14,14 +14,15 @@ use Rattle.line.proofs.Laws.{cond-ind}
 use Rattle.line.proofs.Stuffed.{false-true}
 use Rattle.state.specs.State.{consistent, openOf, unlockedOf, answerOf}
 use Rattle.lists.specs.Slot.{Slot, turnOf, sentBy, slotOf}
-use Rattle.lists.specs.declared.Turn.{Turn}
-use Rattle.lists.specs.declared.Turn.the-variants.{Nobody, Answer, Packet}
+use Rattle.model.specs.declared.Turn.{Turn}
+use Rattle.model.specs.declared.Turn.the-variants.{Nobody, Answer, Packet}
 use Rattle.words.specs.Number.{receivedNumber}
 use Rattle.words.specs.declared.Received.{Received}
 use Rattle.words.specs.declared.Resource.the-variants.{Lists}
-use Rattle.judge.specs.declared.Deed.{Deed}
-use Rattle.judge.specs.declared.Deed.the-variants.{Connect}
-use Rattle.session.specs.Perform.{written, after}
+use Rattle.model.specs.declared.Deed.{Deed}
+use Rattle.model.specs.declared.Deed.the-variants.{Connect}
+use Rattle.model.specs.Answers.{written}
+use Rattle.session.specs.Perform.{after}
 use Rattle.session.specs.Receive.{Step, only, obeyed, goodConnect, receiveOf}
 use Rattle.fields.proofs.Readers.{before, same-part}
 use Rattle.fields.proofs.Captures.{only-event}
@@ -30,11 +31,11 @@ use Rattle.model.specs.Model.{byte, Bytes, Session}
 use Rattle.model.specs.Step.{stepIn}
 use Rattle.model.specs.Answers.{replyIn, doneBy}
 use Rattle.model.specs.View.{sessionOf, shown}
-use Rattle.model.specs.Commands.{Fresh}
-use Rattle.model.specs.Locked.{SettingsKept, endsSession, Shields}
-use Rattle.model.proofs.SessionLaws.{blank-fresh}
-use Rattle.model.proofs.Settings.{settings-read}
-use Rattle.model.proofs.Locked.{locked-shields}
+use Rattle.views.specs.Commands.{Fresh}
+use Rattle.views.specs.Locked.{SettingsKept, endsSession, Shields}
+use Rattle.views.proofs.SessionLaws.{blank-fresh}
+use Rattle.views.proofs.Settings.{settings-read}
+use Rattle.views.proofs.Locked.{locked-shields}
 use Rattle.demands.specs.Slave.{ours}
 use Rattle.demands.specs.Heard.{packetEnded, readBy}
 use Rattle.demands.specs.ListsLocked.{endsAt, ListsLocked}

@@ -12,13 +12,14 @@ use Rattle.line.proofs.Stuffed.{false-true}
 use Rattle.state.specs.Bytes.{u32At}
 use Rattle.state.specs.Generator.{keyOf}
 use Rattle.state.specs.State.{consistent, openOf, unlockedOf, seedOf, lockAt, answered}
-use Rattle.session.specs.Perform.{effect, reply, written, after}
+use Rattle.session.specs.Perform.{effect, reply, after}
+use Rattle.model.specs.Answers.{written}
 use Rattle.session.specs.Receive.{Step, obeyed, receiveOf}
 use Rattle.words.specs.declared.Resource.{Resource}
 use Rattle.words.specs.declared.Resource.the-variants.{Calibration, Lists}
 use Rattle.words.specs.declared.Seed.the-variants.{None, For}
-use Rattle.judge.specs.declared.Deed.{Deed}
-use Rattle.judge.specs.declared.Deed.the-variants.{Refuse, RefuseSize, WrongKey, Connect, Disconnect, Status, Synch, NoSeed, GiveSeed, Unlock, SetMta, Upload, ShortUpload, Checksum, Download, ClearList, SetPointer, ClearEntry, WriteEntry, SetMode, Stop, Start, KeepRunning, Select, StopAll, StartSelected, StopSelected, ProcessorInfo, ResolutionInfo}
+use Rattle.model.specs.declared.Deed.{Deed}
+use Rattle.model.specs.declared.Deed.the-variants.{Refuse, RefuseSize, WrongKey, Connect, Disconnect, Status, Synch, NoSeed, GiveSeed, Unlock, SetMta, Upload, ShortUpload, Checksum, Download, ClearList, SetPointer, ClearEntry, WriteEntry, SetMode, Stop, Start, KeepRunning, Select, StopAll, StartSelected, StopSelected, ProcessorInfo, ResolutionInfo}
 use Rattle.fields.proofs.Effects.{answering}
 use Rattle.fields.proofs.Fields.{other, lock-same, lock-other}
 use Rattle.fields.proofs.Frames.{only-seed}

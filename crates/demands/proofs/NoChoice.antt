@@ -20,8 +20,8 @@ use Rattle.lists.specs.Event.{Happened, samplingOf}
 use Rattle.lists.specs.Slot.{Slot}
 use Rattle.session.specs.PowerUp.{Power}
 use Rattle.words.specs.Number.{eventedNumber, slottedNumber}
-use Rattle.lists.specs.declared.Sampling.{Sampling}
-use Rattle.lists.specs.declared.Sampling.the-variants.{Idle, Sampled, Missed}
+use Rattle.model.specs.declared.Sampling.{Sampling}
+use Rattle.model.specs.declared.Sampling.the-variants.{Idle, Sampled, Missed}
 use Rattle.words.specs.declared.Evented.{Evented}
 use Rattle.words.specs.declared.Evented.the-variants as event
 use Rattle.words.specs.declared.Slotted.{Slotted}

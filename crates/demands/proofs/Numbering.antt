@@ -19,7 +19,7 @@ use Rattle.session.specs.Receive.{receiveOf}
 use Rattle.lists.specs.Event.{eventOf}
 use Rattle.lists.specs.Slot.{turnOf, slotOf}
 use Rattle.session.specs.PowerUp.{powered, powerUpOf}
-use Rattle.lists.specs.declared.Turn.{Turn}
+use Rattle.model.specs.declared.Turn.{Turn}
 use Rattle.state.proofs.Consistent.{consistent-size}
 use Rattle.fields.proofs.Stores.{put32-out}
 use Rattle.fields.proofs.Kept.{power-consistent, receive-kept, event-kept, slot-kept}

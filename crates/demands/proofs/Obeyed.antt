@@ -9,21 +9,22 @@ use Rattle.line.specs.declared.Outcome.{Outcome}
 use Rattle.line.specs.declared.Outcome.the-variants as line
 use Rattle.state.specs.Bytes.{block}
 use Rattle.state.specs.State.{consistent, generatorOf}
-use Rattle.session.specs.Perform.{written, after}
+use Rattle.model.specs.Answers.{written}
+use Rattle.session.specs.Perform.{after}
 use Rattle.session.specs.Receive.{Step, fedOf, receiveOf}
 use Rattle.session.proofs.Looked.{judged-doable}
 use Rattle.fields.proofs.Readers.{apart}
 use Rattle.judge.specs.Doable.{Doable}
-use Rattle.judge.specs.declared.Deed.{Deed}
+use Rattle.model.specs.declared.Deed.{Deed}
 use Rattle.model.specs.Model.{Bytes, Session}
 use Rattle.model.specs.Answers.{doneBy, commandIn}
 use Rattle.model.specs.View.{sessionOf, shown}
-use Rattle.model.specs.Commands.{Obeys}
-use Rattle.model.proofs.Bytes.{bytes-block, fed-bytes}
-use Rattle.model.proofs.Fit.{Fit, generator-fits, judged-fits}
-use Rattle.model.proofs.Calls.{session-reads}
-use Rattle.model.proofs.Seen.{judge-same, shown-after}
-use Rattle.model.proofs.Obeys.{AsModel, obeys}
+use Rattle.views.specs.Commands.{Obeys}
+use Rattle.views.proofs.Bytes.{bytes-block, fed-bytes}
+use Rattle.views.proofs.Fit.{Fit, generator-fits, judged-fits}
+use Rattle.views.proofs.Calls.{session-reads}
+use Rattle.views.proofs.Seen.{judge-same, shown-after}
+use Rattle.views.proofs.Obeys.{AsModel, obeys}
 use Rattle.demands.specs.Slave.{ours}
 use Rattle.demands.specs.Heard.{packetBy, packetEnded, readBy, Commands, deedOf}
 use Rattle.demands.specs.Obeyed.{Obeyed}

@@ -9,7 +9,8 @@ use lib.Dec.{T, ltb, leb, le→leb, lit≤}
 use lib.ListN.{set}
 use Rattle.state.specs.Layout.{entries, size, lists, sessionAt, openAt, calibrationAt, modeAt, selectedAt, runningAt, entriesAt, entryAt, sampleAt, firstOdt, odtCount}
 use Rattle.state.specs.Bytes.{cleared}
-use Rattle.lists.specs.Lists.{sizeOf, bytesOfFirst, odtBytes, modeOf, fitOf, runsOf, bytesOfOdts, odtsFit}
+use Rattle.state.specs.Lists.{sizeOf, modeOf}
+use Rattle.lists.specs.Lists.{bytesOfFirst, odtBytes, fitOf, runsOf, bytesOfOdts, odtsFit}
 use Rattle.fields.proofs.Stores.{out}
 use Rattle.fields.proofs.Frames.{Only, only-set, only-cleared}
 use Rattle.fields.proofs.Readers.{Same, same-part, same-then, flag-reads, open-reads}

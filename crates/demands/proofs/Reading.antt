@@ -36,8 +36,8 @@ use Rattle.session.specs.Receive.{Step, fedOf, readOn, receiveOf}
 use Rattle.session.specs.Perform.{effect, reply, after}
 use Rattle.lists.specs.Event.{eventOf}
 use Rattle.lists.specs.Slot.{turnOf, slotOf}
-use Rattle.lists.specs.declared.Turn.{Turn}
-use Rattle.judge.specs.declared.Deed.{Deed}
+use Rattle.model.specs.declared.Turn.{Turn}
+use Rattle.model.specs.declared.Deed.{Deed}
 use Rattle.state.proofs.Sets.{block-length}
 use Rattle.state.proofs.Consistent.{consistent-size}
 use Rattle.fields.proofs.Fields.{Counted, Answering, place-same}

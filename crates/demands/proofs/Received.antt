@@ -18,8 +18,8 @@ use Rattle.session.specs.Perform.{reply}
 use Rattle.judge.specs.Doable.{Doable}
 use Rattle.session.specs.Receive.{Step, only, obeyed, goodConnect, heeded, meant, fedOf, receivedBy, receiveOf}
 use Rattle.words.specs.Number.{receivedNumber}
-use Rattle.judge.specs.declared.Deed.{Deed}
-use Rattle.judge.specs.declared.Deed.the-variants.{Connect}
+use Rattle.model.specs.declared.Deed.{Deed}
+use Rattle.model.specs.declared.Deed.the-variants.{Connect}
 use Rattle.words.specs.declared.Received.{Received}
 use Rattle.words.specs.declared.Received.the-variants.{Nothing, Silent, BadLength, BadEscape, BadChecksum, Unread, CutOff}
 use Rattle.session.proofs.Looked.{judged-doable}

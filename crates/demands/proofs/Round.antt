@@ -6,8 +6,8 @@ use native.Mathlib.Omega.{arith}
 use native.Mathlib.Nat.{mod-lt, mod-eq-of-lt, mod-add-mod, mul-add-mod-self-left, div-add-mod, lt-of-not-le}
 use native.Mathlib.Decide.{decLe}
 use Rattle.lists.specs.Slot.{orElse, roundFrom}
-use Rattle.lists.specs.declared.Turn.{Turn}
-use Rattle.lists.specs.declared.Turn.the-variants.{Nobody, Answer, Packet}
+use Rattle.model.specs.declared.Turn.{Turn}
+use Rattle.model.specs.declared.Turn.the-variants.{Nobody, Answer, Packet}
 
 -- a turn that is some list's, at most d lists on from list l
 pub record Found (L : ℕ) (next : ℕ → Turn) (l d : ℕ) (t : Turn) : Type 0 where

@@ -12,7 +12,8 @@ use lib.Dec.{lit≤}
 use lib.ListN.{length, getD, set, length-set}
 use Rattle.state.specs.Layout.{size, lists, entries, allOdts, storedMost, clockSize, sessionAt, sampleAt, firstOdt, odtCount, isFirst}
 use Rattle.state.specs.Bytes.{block}
-use Rattle.lists.specs.Lists.{odtsFit, runsOf, leastOf, storedLength, someStored}
+use Rattle.lists.specs.Lists.{odtsFit, runsOf, someStored}
+use Rattle.state.specs.Lists.{leastOf, storedLength}
 use Rattle.lists.specs.Event.{samplingOf, gathered, contentsOf, stored, capturedOdts, captured}
 use Rattle.lists.specs.Slot.{packetOf}
 use Rattle.lists.proofs.Fitting.{fit-each}

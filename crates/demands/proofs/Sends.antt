@@ -20,8 +20,8 @@ use Rattle.state.specs.State.{consistent, ctrOf, waits, answerLength, answerKin
 use Rattle.lists.specs.Slot.{Slot, turnOf, packetOf, sentAs, nextCtr, answerSent, packetSent, sentBy, slotOf}
 use Rattle.words.specs.Number.{slottedValue}
 use Rattle.words.specs.declared.Slotted.the-variants.{NoRoom}
-use Rattle.lists.specs.declared.Turn.{Turn}
-use Rattle.lists.specs.declared.Turn.the-variants.{Nobody, Answer, Packet}
+use Rattle.model.specs.declared.Turn.{Turn}
+use Rattle.model.specs.declared.Turn.the-variants.{Nobody, Answer, Packet}
 use Rattle.state.proofs.Consistent.{consistent-size}
 use Rattle.fields.proofs.Readers.{answer-most}
 use Rattle.state.proofs.Sets.{block-length}

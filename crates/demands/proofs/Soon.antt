@@ -16,8 +16,8 @@ use Rattle.state.specs.State.{consistent, flagOf, ctrOf, waits, answerOf}
 use Rattle.session.specs.Receive.{receiveOf}
 use Rattle.lists.specs.Event.{eventOf}
 use Rattle.lists.specs.Slot.{packetIn, orElse, roundFrom, turnOf, packetOf, packetSent, slotOf}
-use Rattle.lists.specs.declared.Turn.{Turn}
-use Rattle.lists.specs.declared.Turn.the-variants.{Answer, Packet}
+use Rattle.model.specs.declared.Turn.{Turn}
+use Rattle.model.specs.declared.Turn.the-variants.{Answer, Packet}
 use Rattle.state.proofs.Consistent.{consistent-size}
 use Rattle.fields.proofs.Readers.{Same, same-part, flag-reads, waits-reads, answer-reads}
 use Rattle.fields.proofs.Served.{answerSent-waits, packetSent-rest}

@@ -13,10 +13,11 @@ use lib.ListN.{length, getD}
 use Rattle.line.proofs.Laws.{cond-ind}
 use Rattle.state.specs.Layout.{size, lists, servedAt, lastAt, firstOdt, listOf, allOdts, odtCount}
 use Rattle.state.specs.State.{flagOf, waits}
-use Rattle.lists.specs.Lists.{runsOf, storedLength}
+use Rattle.lists.specs.Lists.{runsOf}
+use Rattle.state.specs.Lists.{storedLength}
 use Rattle.lists.specs.Slot.{packetIn, orElse, roundFrom, turnOf, packetOf, packetSent, firstStored}
-use Rattle.lists.specs.declared.Turn.{Turn}
-use Rattle.lists.specs.declared.Turn.the-variants.{Nobody, Answer, Packet}
+use Rattle.model.specs.declared.Turn.{Turn}
+use Rattle.model.specs.declared.Turn.the-variants.{Nobody, Answer, Packet}
 use Rattle.lists.proofs.Round.{or-holds, round-holds}
 use Rattle.demands.specs.Waiting.{packetsFrom, waitingOf}
 use Rattle.demands.proofs.Round.{packet-some, round-finds, Far, nearer}

@@ -12,7 +12,8 @@ use lib.ListN.{length, getD, length-set}
 use lib.Seq.{getD-set-other}
 use Rattle.line.proofs.Laws.{cond-ind}
 use Rattle.state.specs.Layout.{size, lists, sampleAt, firstOdt, storedMost, sampleSize, ctrAt, servedAt, lastAt, odtCount, allOdts, listOf}
-use Rattle.lists.specs.Lists.{runsOf, storedLength, leastOf}
+use Rattle.lists.specs.Lists.{runsOf}
+use Rattle.state.specs.Lists.{storedLength, leastOf}
 use Rattle.lists.specs.Slot.{packetOf, packetSent}
 use Rattle.state.proofs.Sets.{block-length}
 use Rattle.fields.proofs.Readers.{Same, same-part, same-block, stored-reads, runs-reads}

@@ -15,10 +15,10 @@ use Rattle.state.specs.State.{consistent, flagOf, ctrOf, answerOf}
 use Rattle.session.specs.Receive.{receiveOf}
 use Rattle.lists.specs.Event.{samplingOf, eventOf}
 use Rattle.lists.specs.Slot.{turnOf, packetOf, answerSent, packetSent, slotOf}
-use Rattle.lists.specs.declared.Sampling.{Sampling}
-use Rattle.lists.specs.declared.Sampling.the-variants.{Idle, Sampled, Missed}
-use Rattle.lists.specs.declared.Turn.{Turn}
-use Rattle.lists.specs.declared.Turn.the-variants.{Answer, Packet}
+use Rattle.model.specs.declared.Sampling.{Sampling}
+use Rattle.model.specs.declared.Sampling.the-variants.{Idle, Sampled, Missed}
+use Rattle.model.specs.declared.Turn.{Turn}
+use Rattle.model.specs.declared.Turn.the-variants.{Answer, Packet}
 use Rattle.state.proofs.Consistent.{consistent-size}
 use Rattle.fields.proofs.Readers.{Same, same-part, flag-reads}
 use Rattle.fields.proofs.Kept.{receive-kept, event-kept, slot-kept}

@@ -25,8 +25,8 @@ use Rattle.words.specs.declared.Resource.the-variants.{Calibration, Lists}
 use Rattle.words.specs.declared.Extension.the-variants.{Calibration as CalibrationMemory}
 use Rattle.words.specs.declared.Mta.the-variants.{At}
 use Rattle.words.specs.declared.Seed.the-variants.{For}
-use Rattle.judge.specs.declared.Deed.the-variants.{Download}
-use Rattle.lists.specs.declared.Sampling.the-variants.{Sampled}
+use Rattle.model.specs.declared.Deed.the-variants.{Download}
+use Rattle.model.specs.declared.Sampling.the-variants.{Sampled}
 use Rattle.words.specs.declared.Evented.the-variants.{Done}
 use Rattle.demands.specs.Slave.{Slave}
 use Rattle.demands.specs.Runs.{Call, Byte, Event, SendingSlot, Elsewhere, afterCall, run, sends, each, frames}

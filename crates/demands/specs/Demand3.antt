@@ -10,7 +10,7 @@ use Rattle.state.specs.Layout.{lists, placeAt, answerAt}
 use Rattle.state.specs.State.{consistent, ctrOf, openOf, waits, answerOf}
 use Rattle.lists.specs.Event.{samplingOf}
 use Rattle.words.specs.declared.Received.the-variants.{Answered, Unread}
-use Rattle.lists.specs.declared.Sampling.the-variants.{Sampled}
+use Rattle.model.specs.declared.Sampling.the-variants.{Sampled}
 use Rattle.demands.specs.Slave.{Slave}
 use Rattle.demands.specs.Runs.{Call, Byte, Event, SendingSlot, Elsewhere, afterCall, run, frames, sends, slots, received}
 use Rattle.demands.specs.Heard.{packetEnded, readBy, answerTo, stopsAt}

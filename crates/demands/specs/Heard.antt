@@ -18,8 +18,8 @@ use Rattle.session.specs.Receive.{goodConnect, fedOf, readOn}
 use Rattle.words.specs.declared.Resource.{Resource}
 use Rattle.words.specs.declared.Seed.{Seed}
 use Rattle.words.specs.declared.Seed.the-variants.{None, For}
-use Rattle.judge.specs.declared.Deed.{Deed}
-use Rattle.judge.specs.declared.Deed.the-variants.{Refuse, RefuseSize, WrongKey, Connect, Disconnect, Status, Synch, NoSeed, GiveSeed, Unlock, SetMta, Upload, ShortUpload, Checksum, Download, ClearList, SetPointer, ClearEntry, WriteEntry, SetMode, Stop, Start, KeepRunning, Select, StopAll, StartSelected, StopSelected, ProcessorInfo, ResolutionInfo}
+use Rattle.model.specs.declared.Deed.{Deed}
+use Rattle.model.specs.declared.Deed.the-variants.{Refuse, RefuseSize, WrongKey, Connect, Disconnect, Status, Synch, NoSeed, GiveSeed, Unlock, SetMta, Upload, ShortUpload, Checksum, Download, ClearList, SetPointer, ClearEntry, WriteEntry, SetMode, Stop, Start, KeepRunning, Select, StopAll, StartSelected, StopSelected, ProcessorInfo, ResolutionInfo}
 
 -- the packet of a good message that has just ended
 abbrev pub packetBy : Outcome → List ℕ → Option (List ℕ)

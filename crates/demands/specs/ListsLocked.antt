@@ -11,8 +11,8 @@ use Rattle.words.specs.Number.{receivedNumber}
 use Rattle.words.specs.declared.Resource.the-variants.{Lists}
 use Rattle.session.specs.Receive.{Step}
 use Rattle.model.specs.Model.{Bytes}
-use Rattle.model.specs.Commands.{Fresh}
-use Rattle.model.specs.Locked.{SettingsKept, endsSession}
+use Rattle.views.specs.Commands.{Fresh}
+use Rattle.views.specs.Locked.{SettingsKept, endsSession}
 use Rattle.model.specs.View.{sessionOf}
 use Rattle.demands.specs.Slave.{Slave}
 use Rattle.demands.specs.Heard.{packetEnded}

@@ -9,13 +9,14 @@ use Rattle.line.specs.Wire.{unstuff}
 use Rattle.state.specs.Layout.{firstOdt, odtCount, listOf}
 use Rattle.state.specs.Bytes.{block}
 use Rattle.state.specs.State.{waits, answerOf}
-use Rattle.lists.specs.Lists.{runsOf, storedLength}
+use Rattle.lists.specs.Lists.{runsOf}
+use Rattle.state.specs.Lists.{storedLength}
 use Rattle.lists.specs.Event.{contentsOf}
 use Rattle.lists.specs.Slot.{packetOf}
-use Rattle.lists.specs.declared.Sampling.{Sampling}
-use Rattle.lists.specs.declared.Sampling.the-variants.{Idle, Sampled, Missed}
-use Rattle.lists.specs.declared.Turn.{Turn}
-use Rattle.lists.specs.declared.Turn.the-variants.{Nobody, Answer, Packet}
+use Rattle.model.specs.declared.Sampling.{Sampling}
+use Rattle.model.specs.declared.Sampling.the-variants.{Idle, Sampled, Missed}
+use Rattle.model.specs.declared.Turn.{Turn}
+use Rattle.model.specs.declared.Turn.the-variants.{Nobody, Answer, Packet}
 
 -- t is s, but for the bytes from lo up to hi
 pub record AllBut (lo hi : ℕ) (s t : List ℕ) : Type 0 where

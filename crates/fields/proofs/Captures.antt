@@ -9,9 +9,10 @@ use lib.ListN.{length}
 use Rattle.line.proofs.Laws.{cond-ind}
 use Rattle.state.specs.Layout.{size, sampleAt, firstOdt, odtCount, lists, allOdts, events, storedMost}
 use Rattle.state.specs.State.{consistent}
-use Rattle.lists.specs.Lists.{odtsFit, modeOf, runsOf, unsent}
+use Rattle.lists.specs.Lists.{odtsFit, runsOf, unsent}
+use Rattle.state.specs.Lists.{modeOf}
 use Rattle.lists.specs.Event.{samplingOf, contentsOf, stored, capturedOdts, captured, sampledState, tally, Happened, eventOf}
-use Rattle.lists.specs.declared.Sampling.{Sampling}
+use Rattle.model.specs.declared.Sampling.{Sampling}
 use Rattle.lists.proofs.Fitting.{runs-fit, fit-each}
 use Rattle.lists.proofs.Gathered.{contents-most}
 use Rattle.fields.proofs.Frames.{Only, only-none, only-then, only-sets}

@@ -14,13 +14,14 @@ use Rattle.state.specs.Memory.{pick}
 use Rattle.state.specs.State.{flagOf, generatorOf, setGenerator, lockAt, setSeed, setMta, setPointer, placeOf, messageOf, waits, answerOf}
 use Rattle.lists.specs.Lists.{runsOf, dropped, switched, listCleared, modeSet, tagOf, entryCleared, entrySet, stopEach, startOne, startSelected, stopSelected}
 use Rattle.judge.specs.Doable.{Doable}
-use Rattle.session.specs.Perform.{nextEntry, effect, reply, after}
+use Rattle.model.specs.Step.{nextEntry}
+use Rattle.session.specs.Perform.{effect, reply, after}
 use Rattle.words.specs.declared.Extension.{Extension}
 use Rattle.words.specs.declared.Seed.the-variants.{None, For}
 use Rattle.words.specs.declared.Mta.{Mta}
 use Rattle.words.specs.declared.Pointer.{Pointer}
-use Rattle.judge.specs.declared.Deed.{Deed}
-use Rattle.judge.specs.declared.Deed.the-variants.{Refuse, RefuseSize, WrongKey, Connect, Disconnect, Status, Synch, NoSeed, GiveSeed, Unlock, SetMta, Upload, ShortUpload, Checksum, Download, ClearList, SetPointer, ClearEntry, WriteEntry, SetMode, Stop, Start, KeepRunning, Select, StopAll, StartSelected, StopSelected, ProcessorInfo, ResolutionInfo}
+use Rattle.model.specs.declared.Deed.{Deed}
+use Rattle.model.specs.declared.Deed.the-variants.{Refuse, RefuseSize, WrongKey, Connect, Disconnect, Status, Synch, NoSeed, GiveSeed, Unlock, SetMta, Upload, ShortUpload, Checksum, Download, ClearList, SetPointer, ClearEntry, WriteEntry, SetMode, Stop, Start, KeepRunning, Select, StopAll, StartSelected, StopSelected, ProcessorInfo, ResolutionInfo}
 use Rattle.fields.proofs.Fields.{kindly, Answering, answer-same, waits-answered}
 use Rattle.fields.proofs.Frames.{Only, only-none, only-then, only-wider, only-set, only-put16, only-cleared, only-generator, only-lock, only-seed, only-mta, only-pointer, only-closed, only-fresh}
 use Rattle.fields.proofs.Readers.{Same, apart, same-then, same-part, place-reads, message-reads}

@@ -16,7 +16,8 @@ use Rattle.state.specs.Layout.{size, generatorAt, sessionAt, sessionSize, openA
 use Rattle.state.specs.Bytes.{u32At, put32, block}
 use Rattle.state.specs.Generator.{startOf}
 use Rattle.state.specs.State.{bitOf, flagOf, generatorOf, setGenerator, openOf, lockAt, unlockedOf, seedOf, setSeed, mtaTag, mtaOf, setMta, pointerOf, setPointer, Pointed, closed, fresh, placeOf, setPlace, answerLength, waits, answerKind, answerOf, answered}
-use Rattle.lists.specs.Lists.{runsOf, anyRuns, leastOf, storedLength}
+use Rattle.lists.specs.Lists.{runsOf, anyRuns}
+use Rattle.state.specs.Lists.{leastOf, storedLength}
 use Rattle.words.specs.declared.Resource.{Resource}
 use Rattle.words.specs.declared.Resource.the-variants.{Calibration, Lists}
 use Rattle.words.specs.declared.Extension.{Extension}

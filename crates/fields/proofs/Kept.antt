@@ -20,7 +20,8 @@ use Rattle.state.specs.Generator.{startOf, nextOf}
 use Rattle.state.specs.State.{consistent, flagOf, openOf, generatorOf, setGenerator, lockAt, setSeed, setMta, setPointer, placeOf, messageOf, waits, answerKind, answered}
 use Rattle.lists.specs.Lists.{runsOf, dropped, switched, listCleared, modeSet, tagOf, entryCleared, entrySet, stopEach, startOne, startSelected, stopSelected}
 use Rattle.session.specs.Look.{judgeOf}
-use Rattle.session.specs.Perform.{nextEntry, effect, reply, after}
+use Rattle.model.specs.Step.{nextEntry}
+use Rattle.session.specs.Perform.{effect, reply, after}
 use Rattle.session.specs.Receive.{Step, goodConnect, heeded, meant, readOn, fedOf, receiveOf}
 use Rattle.lists.specs.Event.{stored, capturedOdts, captured, samplingOf, sampledState, tally, Happened, eventOf}
 use Rattle.lists.specs.Slot.{Slot, turnOf, nextCtr, answerSent, packetSent, sentBy, slotOf}
@@ -30,12 +31,12 @@ use Rattle.words.specs.declared.Seed.{Seed}
 use Rattle.words.specs.declared.Seed.the-variants.{None, For}
 use Rattle.words.specs.declared.Mta.{Mta}
 use Rattle.words.specs.declared.Pointer.{Pointer}
-use Rattle.lists.specs.declared.Sampling.{Sampling}
-use Rattle.lists.specs.declared.Sampling.the-variants.{Idle, Sampled, Missed}
-use Rattle.lists.specs.declared.Turn.{Turn}
-use Rattle.lists.specs.declared.Turn.the-variants.{Nobody, Answer, Packet}
-use Rattle.judge.specs.declared.Deed.{Deed}
-use Rattle.judge.specs.declared.Deed.the-variants.{Refuse, RefuseSize, WrongKey, Connect, Disconnect, Status, Synch, NoSeed, GiveSeed, Unlock, SetMta, Upload, ShortUpload, Checksum, Download, ClearList, SetPointer, ClearEntry, WriteEntry, SetMode, Stop, Start, KeepRunning, Select, StopAll, StartSelected, StopSelected, ProcessorInfo, ResolutionInfo}
+use Rattle.model.specs.declared.Sampling.{Sampling}
+use Rattle.model.specs.declared.Sampling.the-variants.{Idle, Sampled, Missed}
+use Rattle.model.specs.declared.Turn.{Turn}
+use Rattle.model.specs.declared.Turn.the-variants.{Nobody, Answer, Packet}
+use Rattle.model.specs.declared.Deed.{Deed}
+use Rattle.model.specs.declared.Deed.the-variants.{Refuse, RefuseSize, WrongKey, Connect, Disconnect, Status, Synch, NoSeed, GiveSeed, Unlock, SetMta, Upload, ShortUpload, Checksum, Download, ClearList, SetPointer, ClearEntry, WriteEntry, SetMode, Stop, Start, KeepRunning, Select, StopAll, StartSelected, StopSelected, ProcessorInfo, ResolutionInfo}
 use Rattle.state.proofs.Sets.{block-length}
 use Rattle.state.proofs.Consistent.{consistent-size}
 use Rattle.fields.proofs.Stores.{take-sets}

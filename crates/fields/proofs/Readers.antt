@@ -14,7 +14,8 @@ use Rattle.line.proofs.Laws.{cond-ind}
 use Rattle.state.specs.Layout.{size, lists, entries, allOdts, packetMost, markAt, generatorAt, ctrAt, placeAt, countAt, messageAt, answerAt, answerBytesAt, sessionAt, openAt, calibrationAt, listsAt, seedAt, mtaAt, addressAt, pointerAt, pointerEntryAt, modeAt, runningAt, entriesAt, entryAt, sampleAt, firstOdt, odtCount}
 use Rattle.state.specs.Bytes.{u16At, u32At, block}
 use Rattle.state.specs.State.{consistent, flagOf, generatorOf, openOf, unlockedOf, maskOf, seedOf, mtaOf, pointerOf, placeOf, messageOf, answerLength, waits, answerKind, answerOf, answered, setSeed}
-use Rattle.lists.specs.Lists.{sizeOf, extensionOf, addressOf, bytesOfFirst, odtBytes, bytesOfOdts, odtsFit, modeOf, fitOf, runsOf, anyRuns, storedLength}
+use Rattle.state.specs.Lists.{sizeOf, extensionOf, addressOf, modeOf, storedLength}
+use Rattle.lists.specs.Lists.{bytesOfFirst, odtBytes, bytesOfOdts, odtsFit, fitOf, runsOf, anyRuns}
 use Rattle.session.specs.Receive.{readOn}
 use Rattle.words.specs.declared.Seed.{Seed}
 use Rattle.words.specs.declared.Resource.{Resource}

@@ -10,7 +10,7 @@ use lib.ListN.{length, getD, set, length-set}
 use lib.Seq.{getD-set-same, getD-set-other}
 use Rattle.state.specs.Layout.{size, markAt, ctrAt, servedAt, lastAt, placeAt, answerAt, answerBytesAt, sessionAt, sampleAt, listOf, allOdts}
 use Rattle.state.specs.State.{waits, answerLength, answerKind}
-use Rattle.lists.specs.Lists.{storedLength}
+use Rattle.state.specs.Lists.{storedLength}
 use Rattle.lists.specs.Slot.{nextCtr, answerSent, packetSent}
 use Rattle.fields.proofs.Fields.{empty-stored}
 use Rattle.fields.proofs.Frames.{Only, only-then, only-set}

@@ -11,7 +11,7 @@ use Rattle.state.specs.Generator.{keyOf}
 use Rattle.state.specs.Memory.{pick, insideOf}
 use Rattle.state.specs.State.{Pointed}
 use Rattle.words.specs.Command.{commandOf, fewest, needsOf}
-use Rattle.judge.specs.Judge.{extensionFrom, connectDeed, seedDeed, getSeedDeed, unlockBy, setMtaDeed, uploadDeed, shortUploadDeed, checksumDeed, downloadTo, downloadDeed, clearDeed, pointerDeed, writeBlock, writeDeed, modeDeed, startDeed, startStopDeed, synchDeed, lockedBy, judgeThe, judgeBy, judge}
+use Rattle.model.specs.Judge.{extensionFrom, connectDeed, seedDeed, getSeedDeed, unlockBy, setMtaDeed, uploadDeed, shortUploadDeed, checksumDeed, downloadTo, downloadDeed, clearDeed, pointerDeed, writeBlock, writeDeed, modeDeed, startDeed, startStopDeed, synchDeed, lockedBy, judgeThe, judgeBy, judge}
 use Rattle.judge.specs.Doable.{Doable}
 use Rattle.words.specs.declared.Command.{Command}
 use Rattle.words.specs.declared.Command.the-variants.{Unknown, Connect, Disconnect, GetStatus, Synch, GetSeed, Unlock, SetMta, Upload, ShortUpload, BuildChecksum, Download, ClearDaqList, SetDaqPtr, WriteDaq, SetDaqListMode, StartStopDaqList, StartStopSynch, GetDaqProcessorInfo, GetDaqResolutionInfo}
@@ -25,8 +25,8 @@ use Rattle.words.specs.declared.Mta.{Mta}
 use Rattle.words.specs.declared.Mta.the-variants.{Unset, At}
 use Rattle.words.specs.declared.Pointer.{Pointer}
 use Rattle.words.specs.declared.Pointer.the-variants.{Unset as NoEntry, At as Entry}
-use Rattle.judge.specs.declared.Deed.{Deed}
-use Rattle.judge.specs.Seen.{Packet, Seen}
+use Rattle.model.specs.declared.Deed.{Deed}
+use Rattle.model.specs.Seen.{Packet, Seen}
 
 module _ (n nc nm : ℕ) where
   -- such a deed can be done

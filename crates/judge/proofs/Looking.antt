@@ -16,11 +16,11 @@ use Rattle.words.specs.declared.Needs.the-variants as needs
 use Rattle.words.specs.declared.Resource.the-variants.{Calibration, Lists}
 use Rattle.words.specs.declared.Seed.{Seed}
 use Rattle.words.specs.declared.Seed.the-variants.{None, For}
-use Rattle.judge.specs.Judge.{unlockBy, clearDeed, modeDeed, startDeed, startStopDeed, synchDeed, lockedBy, judgeThe, judgeBy}
-use Rattle.judge.specs.Seen.{Packet, Seen}
+use Rattle.model.specs.Judge.{unlockBy, clearDeed, modeDeed, startDeed, startStopDeed, synchDeed, lockedBy, judgeThe, judgeBy}
+use Rattle.model.specs.Seen.{Packet, Seen}
 use Rattle.words.specs.declared.Reason.the-variants.{TooShort, Locked}
-use Rattle.judge.specs.declared.Deed.{Deed}
-use Rattle.judge.specs.declared.Deed.the-variants.{Refuse}
+use Rattle.model.specs.declared.Deed.{Deed}
+use Rattle.model.specs.declared.Deed.the-variants.{Refuse}
 
 -- ---- the packet: each number that lies in the first n bytes
 pub record Alike (p q : Packet) : Type 0 where

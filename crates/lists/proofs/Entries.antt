@@ -12,7 +12,8 @@ use Rattle.line.proofs.Laws.{cond-ind}
 use Rattle.state.specs.Bytes.{u16At, put32, cleared}
 use Rattle.state.specs.State.{flagOf}
 use Rattle.state.specs.Layout.{entryMost, entrySize, entryAt, sampleAt, entries, allOdts}
-use Rattle.lists.specs.Lists.{sizeOf, extensionOf, addressOf, bytesOfFirst, odtBytes}
+use Rattle.state.specs.Lists.{sizeOf, extensionOf, addressOf}
+use Rattle.lists.specs.Lists.{bytesOfFirst, odtBytes}
 use Rattle.lists.specs.Event.{entryBytes, gathered, contentsOf}
 
 -- every byte below the samples is the same

@@ -10,10 +10,11 @@ use lib.Dec.{eqb, leb}
 use Rattle.line.proofs.Laws.{cond-ind}
 use Rattle.state.specs.State.{flagOf, openOf}
 use Rattle.state.specs.Layout.{runningAt, firstOdt, odtCount, odtMost}
-use Rattle.lists.specs.Lists.{odtBytes, modeOf, bytesOfOdts, odtsFit, fitOf, runsOf, unsent}
+use Rattle.lists.specs.Lists.{odtBytes, bytesOfOdts, odtsFit, fitOf, runsOf, unsent}
+use Rattle.state.specs.Lists.{modeOf}
 use Rattle.lists.specs.Event.{samplingOf}
-use Rattle.lists.specs.declared.Sampling.{Sampling}
-use Rattle.lists.specs.declared.Sampling.the-variants.{Idle, Sampled, Missed}
+use Rattle.model.specs.declared.Sampling.{Sampling}
+use Rattle.model.specs.declared.Sampling.the-variants.{Idle, Sampled, Missed}
 use Rattle.lists.proofs.Counting.{fit-stays}
 
 off : false ≡ true → ⊥

@@ -12,8 +12,10 @@ use Rattle.line.proofs.Laws.{sets-append}
 use Rattle.state.specs.Bytes.{put16}
 use Rattle.state.specs.Layout.{entries, isFirst, odtMost, sampleAt, allOdts, entryMost, clockSize, storedMost}
 use Rattle.state.specs.Memory.{pick, byteOf, bytesOf}
-use Rattle.lists.specs.Lists.{sizeOf, extensionOf, addressOf, bytesOfFirst, odtBytes}
-use Rattle.lists.specs.Event.{entryBytes, gathered, leadOf, contentsOf, stored, capturedOdts}
+use Rattle.state.specs.Lists.{sizeOf, extensionOf, addressOf}
+use Rattle.lists.specs.Lists.{bytesOfFirst, odtBytes}
+use Rattle.lists.specs.Event.{entryBytes, gathered, contentsOf, stored, capturedOdts}
+use Rattle.model.specs.Calls.{leadOf}
 use Rattle.lists.proofs.Entries.{Alike, sets-alike, size-most, entry-alike, gathered-alike, bytes-alike}
 
 pub bytes-next : (mem : List ℕ) (a n : ℕ) → bytesOf mem a (suc n) ≡ bytesOf mem a n ++ byteOf mem (a + n) ∷ []

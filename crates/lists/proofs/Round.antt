@@ -9,10 +9,11 @@ use lib.Dec.{ltb}
 use Rattle.line.proofs.Laws.{cond-ind}
 use Rattle.state.specs.Layout.{firstOdt, odtCount, runningAt}
 use Rattle.state.specs.State.{flagOf, openOf}
-use Rattle.lists.specs.Lists.{runsOf, storedLength}
+use Rattle.lists.specs.Lists.{runsOf}
+use Rattle.state.specs.Lists.{storedLength}
 use Rattle.lists.specs.Slot.{firstStored, packetIn, orElse, roundFrom}
-use Rattle.lists.specs.declared.Turn.{Turn}
-use Rattle.lists.specs.declared.Turn.the-variants.{Nobody, Answer, Packet}
+use Rattle.model.specs.declared.Turn.{Turn}
+use Rattle.model.specs.declared.Turn.the-variants.{Nobody, Answer, Packet}
 
 pub round-step : (L : ℕ) (next : ℕ → Turn) (l n : ℕ) → 0 < n → roundFrom L next l n ≡ orElse (next (l % L)) (roundFrom L next (l + 1) (n - 1))
 unfolding roundFrom

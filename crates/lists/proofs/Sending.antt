@@ -11,10 +11,11 @@ use Rattle.line.proofs.Laws.{cond-ind}
 use Rattle.state.specs.Layout.{lists, servedAt, lastAt, firstOdt, odtCount, allOdts}
 use Rattle.state.specs.Bytes.{block}
 use Rattle.state.specs.State.{flagOf, answerLength}
-use Rattle.lists.specs.Lists.{runsOf, storedLength}
+use Rattle.lists.specs.Lists.{runsOf}
+use Rattle.state.specs.Lists.{storedLength}
 use Rattle.lists.specs.Slot.{firstStored, packetIn, roundFrom, turnOf}
-use Rattle.lists.specs.declared.Turn.{Turn}
-use Rattle.lists.specs.declared.Turn.the-variants.{Nobody, Answer, Packet}
+use Rattle.model.specs.declared.Turn.{Turn}
+use Rattle.model.specs.declared.Turn.the-variants.{Nobody, Answer, Packet}
 use Rattle.lists.proofs.Round.{or-holds, round-holds}
 
 -- a number put before n bytes

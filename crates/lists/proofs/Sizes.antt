@@ -10,8 +10,8 @@ use Rattle.line.proofs.Laws.{cond-ind}
 use Rattle.line.proofs.Stuffed.{frame-short}
 use Rattle.state.specs.State.{consistent, ctrOf, answerOf}
 use Rattle.lists.specs.Slot.{Slot, slottedAs, packetOf, turnOf, sentBy, slotOf, Small}
-use Rattle.lists.specs.declared.Turn.{Turn}
-use Rattle.lists.specs.declared.Turn.the-variants.{Nobody, Answer, Packet}
+use Rattle.model.specs.declared.Turn.{Turn}
+use Rattle.model.specs.declared.Turn.the-variants.{Nobody, Answer, Packet}
 
 write-small : (p : List ℕ) (ctr : ℕ) (out : List ℕ) → Small (slottedAs (writeOf p ctr out .written))
 unfolding writeOf

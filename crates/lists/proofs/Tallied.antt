@@ -2,7 +2,7 @@
 use mathlib.Core.Path.{_≡_, _∙_}
 use mathlib.Core.List.{List}
 use Prim.Native.Nat.{ℕ, suc, _+_}
-use Rattle.lists.specs.declared.Sampling.{Sampling}
+use Rattle.model.specs.declared.Sampling.{Sampling}
 use Rattle.lists.specs.Event.{samplingOf, sampledState, sampledBy, missedBy, tally, Counts}
 
 pub counts-next : (s₀ : List ℕ) (event clock : ℕ) (cal meas : List ℕ) (l : ℕ) {s t : List ℕ} {n m : ℕ} {c : Sampling}

@@ -1,17 +1,19 @@
 -- An event.
-use Prim.Native.Nat.{ℕ, zero, suc, _+_, _%_, _/_}
+use Prim.Native.Nat.{ℕ, zero, suc, _+_}
 use mathlib.Core.Path.{_≡_}
 use mathlib.Core.Bool.{cond}
 use mathlib.Core.List.{List, [], _∷_, _++_}
 use lib.Dec.{eqb, leb}
 use lib.ListN.{length}
 use lib.Seq.{sets}
-use Rattle.state.specs.Layout.{lists, events, sampleAt, firstOdt, odtCount, isFirst, entryCount}
+use Rattle.state.specs.Layout.{lists, events, sampleAt, firstOdt, odtCount, entryCount}
 use Rattle.state.specs.Memory.{pick, bytesOf}
 use Rattle.state.specs.State.{consistent}
-use Rattle.lists.specs.Lists.{sizeOf, extensionOf, addressOf, modeOf, runsOf, unsent}
-use Rattle.lists.specs.declared.Sampling.{Sampling}
-use Rattle.lists.specs.declared.Sampling.the-variants.{Idle, Sampled, Missed}
+use Rattle.model.specs.Calls.{leadOf}
+use Rattle.state.specs.Lists.{sizeOf, extensionOf, addressOf, modeOf}
+use Rattle.lists.specs.Lists.{runsOf, unsent}
+use Rattle.model.specs.declared.Sampling.{Sampling}
+use Rattle.model.specs.declared.Sampling.the-variants.{Idle, Sampled, Missed}
 use Rattle.words.specs.declared.Evented.{Evented}
 use Rattle.words.specs.declared.Evented.the-variants.{Done, BadEvent, NoState}
 
@@ -29,9 +31,6 @@ gathered s k cal meas zero = []
 gathered s k cal meas (suc n) = gathered s k cal meas n ++ entryBytes s k n cal meas
 
 -- the packet of ODT k, without its number: in a list's first ODT the clock, then the bytes
-abbrev pub leadOf : ℕ → ℕ → List ℕ
-leadOf k clock = cond (isFirst k) (clock % 256 ∷ clock / 256 % 256 ∷ []) []
-
 unfoldable pub contentsOf : List ℕ → ℕ → ℕ → List ℕ → List ℕ → List ℕ
 contentsOf s k clock cal meas = leadOf k clock ++ gathered s k cal meas (entryCount k)
 

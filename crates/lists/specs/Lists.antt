@@ -3,23 +3,13 @@ use Prim.Native.Nat.{ℕ, zero, suc, _+_, _*_, _%_}
 use mathlib.Core.Bool.{Bool, true, false, cond}
 use mathlib.Core.List.{List}
 use lib.Dec.{eqb, leb, ltb}
-use lib.ListN.{length, getD, set}
-use Rattle.state.specs.Layout.{lists, size, events, storedMost, clockSize, entryMost, listSize, modeAt, selectedAt, runningAt, entrySize, odtSize, entriesAt, entryAt, sampleAt, firstOdt, odtCount, isFirst, odtMost, entryCount}
-use Rattle.state.specs.Bytes.{u16At, put16, cleared}
+use lib.ListN.{length, set}
+use Rattle.state.specs.Layout.{lists, size, listSize, modeAt, selectedAt, runningAt, entrySize, odtSize, entriesAt, entryAt, sampleAt, firstOdt, odtCount, odtMost, entryCount}
+use Rattle.state.specs.Bytes.{put16, cleared}
 use Rattle.state.specs.State.{flagOf, openOf}
+use Rattle.state.specs.Lists.{sizeOf, modeOf, selectedOf, storedLength}
 use Rattle.words.specs.declared.Extension.{Extension}
 use Rattle.words.specs.declared.Extension.the-variants.{Calibration, Measured}
-
--- ---- entries
--- a size above 4 reads as 0
-unfoldable pub sizeOf : List ℕ → ℕ → ℕ → ℕ
-sizeOf s k e = cond (ltb entryMost (getD s (entryAt k e) 0)) 0 (getD s (entryAt k e) 0)
-
-unfoldable pub extensionOf : List ℕ → ℕ → ℕ → Extension
-extensionOf s k e = cond (flagOf s (entryAt k e + 1)) Measured Calibration
-
-unfoldable pub addressOf : List ℕ → ℕ → ℕ → ℕ
-addressOf s k e = u16At s (entryAt k e + 2)
 
 -- the bytes of an ODT: of its first n entries, and of all
 unfoldable pub bytesOfFirst : List ℕ → ℕ → ℕ → ℕ
@@ -30,13 +20,6 @@ abbrev pub odtBytes : List ℕ → ℕ → ℕ
 odtBytes s k = bytesOfFirst s k (entryCount k)
 
 -- ---- lists
--- 0 if a list's mode was never set, else 1 more than its event; any other value reads as 0
-unfoldable pub modeOf : List ℕ → ℕ → ℕ
-modeOf s l = cond (ltb events (getD s (modeAt l) 0)) 0 (getD s (modeAt l) 0)
-
-abbrev pub selectedOf : List ℕ → ℕ → Bool
-selectedOf s l = flagOf s (selectedAt l)
-
 -- of the n ODTs from k on: their bytes, and whether each fits into a packet
 unfoldable pub bytesOfOdts : List ℕ → ℕ → ℕ → ℕ
 bytesOfOdts s k zero = 0
@@ -91,14 +74,6 @@ abbrev pub ready : List ℕ → Bool
 ready s = cond (isState s) (allFit s lists) false
 
 -- ---- packets
--- the shortest packet in store, without its number: the clock for a list's first ODT, a byte for a later one
-unfoldable pub leastOf : ℕ → ℕ
-leastOf k = cond (isFirst k) clockSize 1
-
--- the length of ODT k's packet in store, without its number; one that no packet can have reads as 0, no packet
-unfoldable pub storedLength : List ℕ → ℕ → ℕ
-storedLength s k = cond (ltb (getD s (sampleAt k) 0) (leastOf k)) 0 (cond (ltb storedMost (getD s (sampleAt k) 0)) 0 (getD s (sampleAt k) 0))
-
 -- some of the n ODTs from k on has a packet in store
 unfoldable pub someStored : List ℕ → ℕ → ℕ → Bool
 someStored s k zero = false

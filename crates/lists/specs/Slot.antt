@@ -12,9 +12,10 @@ use Rattle.line.specs.declared.Written.the-variants.{Frame, BadLength, NoRoom}
 use Rattle.state.specs.Layout.{lists, ctrAt, servedAt, lastAt, sampleAt, answerAt, answerBytesAt, firstOdt, odtCount, listOf}
 use Rattle.state.specs.Bytes.{block}
 use Rattle.state.specs.State.{consistent, flagOf, ctrOf, waits, answerKind, answerOf}
-use Rattle.lists.specs.Lists.{runsOf, storedLength}
-use Rattle.lists.specs.declared.Turn.{Turn}
-use Rattle.lists.specs.declared.Turn.the-variants.{Nobody, Answer, Packet}
+use Rattle.lists.specs.Lists.{runsOf}
+use Rattle.state.specs.Lists.{storedLength}
+use Rattle.model.specs.declared.Turn.{Turn}
+use Rattle.model.specs.declared.Turn.the-variants.{Nobody, Answer, Packet}
 use Rattle.words.specs.declared.Slotted.{Slotted}
 use Rattle.words.specs.declared.Slotted.the-variants.{Idle, Sent as Slotted·Sent, NoRoom as Slotted·NoRoom, NoState}
 

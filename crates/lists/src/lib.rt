@@ -9,21 +9,7 @@ mod slots;
 pub use events::event;
 pub use slots::slot;
 
-// What an event is to a list.
-pub enum Sampling {
-    Idle,
-    Sampled,
-    Missed,
-}
-
 pub struct Counted {
     pub sampled: u8,
     pub missed: u8,
-}
-
-// Whose frame a slot sends.
-pub enum Turn {
-    Nobody,
-    Answer,
-    Packet(u16),
 }

@@ -1,60 +1,23 @@
--- What the checks of a command see of a session, what it then leads to, and the answer of each deed.
-use Prim.Native.Nat.{ℕ, zero, suc, _+_}
-use mathlib.Core.Bool.{Bool, true, false, cond}
+-- What each deed answers, and what it leaves of the calibration memory.
+use Prim.Native.Nat.{ℕ, _+_}
+use mathlib.Core.Bool.{Bool, cond}
 use mathlib.Core.List.{List, [], _∷_}
 use lib.ListN.{length}
-use Rattle.state.specs.Layout.{lists, events, packetMost, entryMost, addressable, firstOdt, listOf}
-use Rattle.state.specs.Bytes.{u16At, block, bytes32}
+use lib.Seq.{sets}
+use Rattle.state.specs.Layout.{lists, events, packetMost, entryMost, addressable, firstOdt}
+use Rattle.state.specs.Bytes.{block, bytes32}
 use Rattle.state.specs.Generator.{nextOf}
 use Rattle.state.specs.Memory.{pick, blockSum}
 use Rattle.state.specs.State.{bitOf}
 use Rattle.words.specs.Command.{codeOf}
 use Rattle.words.specs.declared.Resource.{Resource}
 use Rattle.words.specs.declared.Resource.the-variants.{Calibration, Lists}
-use Rattle.words.specs.declared.Pointer.{Pointer}
-use Rattle.words.specs.declared.Pointer.the-variants.{Unset as NoEntry, At as Points}
 use Rattle.words.specs.declared.Reason.the-variants as reason
-use Rattle.judge.specs.Seen.{Seen}
-use Rattle.judge.specs.Judge.{judge}
-use Rattle.judge.specs.declared.Deed.{Deed}
-use Rattle.judge.specs.declared.Deed.the-variants.{Refuse, RefuseSize, WrongKey, Connect, Disconnect, Status, Synch, NoSeed, GiveSeed, Unlock, SetMta, Upload, ShortUpload, Checksum, Download, ClearList, SetPointer, ClearEntry, WriteEntry, SetMode, Stop, Start, KeepRunning, Select, StopAll, StartSelected, StopSelected, ProcessorInfo, ResolutionInfo}
-use Rattle.session.specs.Look.{numbersOf}
-use Rattle.session.specs.Perform.{written}
-use Rattle.model.specs.Model.{Session, fits, runsIn, someRuns}
+use Rattle.model.specs.Judge.{judgeIn}
+use Rattle.model.specs.declared.Deed.{Deed}
+use Rattle.model.specs.declared.Deed.the-variants.{Refuse, RefuseSize, WrongKey, Connect, Disconnect, Status, Synch, NoSeed, GiveSeed, Unlock, SetMta, Upload, ShortUpload, Checksum, Download, ClearList, SetPointer, ClearEntry, WriteEntry, SetMode, Stop, Start, KeepRunning, Select, StopAll, StartSelected, StopSelected, ProcessorInfo, ResolutionInfo}
+use Rattle.model.specs.Model.{Session, someRuns}
 use Rattle.model.specs.Step.{unlock, stepIn}
-
--- ---- what is seen
--- the pointer's list runs
-abbrev pub pointedIn : Pointer → Session → Bool
-pointedIn NoEntry c = false
-pointedIn (Points k e) c = runsIn c (listOf k)
-
--- every selected one of the first n lists can be started
-abbrev pub startable : Session → ℕ → Bool
-startable c l = cond (c .list l .selected) (fits l (c .list l)) true
-
-unfoldable pub allStartable : Session → ℕ → Bool
-allStartable c zero = true
-allStartable c (suc n) = cond (allStartable c n) (startable c n) false
-
--- by the checks of a command that names list l
-abbrev pub seenIn : ℕ → Session → Seen
-seenIn l c = record {
-  calibration = c .unlocked Calibration;
-  lists = c .unlocked Lists;
-  seed = c .seed;
-  generator = c .generator;
-  mta = c .mta;
-  pointer = c .pointer;
-  runs = runsIn c l;
-  fits = fits l (c .list l);
-  pointed = pointedIn (c .pointer) c;
-  ready = allStartable c lists;
-}
-
--- what the command in packet p leads to
-unfoldable pub judgeIn : List ℕ → Session → ℕ → ℕ → Deed
-judgeIn p c nc nm = judge (numbersOf p) (seenIn (u16At p 2) c) nc nm
 
 -- ---- the answer, by the session and the memories before the deed
 -- the locked mask: 01 calibration, 04 lists
@@ -91,6 +54,38 @@ replyIn StartSelected c cal meas = 0xFF ∷ []
 replyIn StopSelected c cal meas = 0xFF ∷ []
 replyIn ProcessorInfo c cal meas = 0xFF ∷ 0x10 ∷ lists ∷ 0x00 ∷ events ∷ 0x00 ∷ 0x00 ∷ 0x00 ∷ []
 replyIn ResolutionInfo c cal meas = 0xFF ∷ 0x01 ∷ entryMost ∷ 0x00 ∷ 0x00 ∷ 0x6A ∷ 0x01 ∷ 0x00 ∷ []
+
+-- ---- the calibration memory after a deed whose packet is p: DOWNLOAD alone writes there
+unfoldable pub written : Deed → List ℕ → List ℕ → List ℕ
+written (Refuse r) p cal = cal
+written RefuseSize p cal = cal
+written WrongKey p cal = cal
+written Connect p cal = cal
+written Disconnect p cal = cal
+written Status p cal = cal
+written Synch p cal = cal
+written NoSeed p cal = cal
+written (GiveSeed r) p cal = cal
+written (Unlock r) p cal = cal
+written (SetMta e a) p cal = cal
+written (Upload e a n) p cal = cal
+written (ShortUpload e a n) p cal = cal
+written (Checksum e a n) p cal = cal
+written (Download a n) p cal = sets cal a (block p 2 n)
+written (ClearList l) p cal = cal
+written (SetPointer k e) p cal = cal
+written (ClearEntry k e) p cal = cal
+written (WriteEntry k e n ext a) p cal = cal
+written (SetMode l event) p cal = cal
+written (Stop l) p cal = cal
+written (Start l) p cal = cal
+written (KeepRunning l) p cal = cal
+written (Select l) p cal = cal
+written StopAll p cal = cal
+written StartSelected p cal = cal
+written StopSelected p cal = cal
+written ProcessorInfo p cal = cal
+written ResolutionInfo p cal = cal
 
 -- ---- a command in all: the session and the calibration memory after it, and its answer
 pub record Done : Type 0 where

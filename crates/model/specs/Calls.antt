@@ -1,16 +1,15 @@
 -- What else a call makes of the slave: an answer put to wait, a byte read, an answer or a packet sent, a list sampled, power-up.
-use Prim.Native.Nat.{ℕ, zero, suc, _+_, _%_}
+use Prim.Native.Nat.{ℕ, zero, suc, _+_, _%_, _/_}
 use mathlib.Core.Bool.{true, false, cond}
-use mathlib.Core.List.{List, [], _++_}
+use mathlib.Core.List.{List, [], _∷_, _++_}
 use lib.Dec.{ltb}
 use lib.ListN.{replicate}
 use Rattle.line.specs.Message.{longest}
 use Rattle.line.specs.declared.Place.{Place}
 use Rattle.line.specs.declared.Place.the-variants.{Outside}
-use Rattle.state.specs.Layout.{lastList, firstOdt, odtCount, listOf, entryCount}
+use Rattle.state.specs.Layout.{lastList, firstOdt, odtCount, listOf, isFirst, entryCount}
 use Rattle.state.specs.Generator.{startOf}
 use Rattle.state.specs.Memory.{pick, bytesOf}
-use Rattle.lists.specs.Event.{leadOf}
 use Rattle.model.specs.Model.{put, Entry, Odt, DaqList, Slave, blank}
 use Rattle.model.specs.Step.{emptied, odtIn, at}
 
@@ -50,6 +49,9 @@ blocksIn y cal meas zero = []
 blocksIn y cal meas (suc n) = blocksIn y cal meas n ++ blockIn (y .entry n) cal meas
 
 -- ODT k's packet, without its number: in a list's first ODT the clock, then the bytes
+abbrev pub leadOf : ℕ → ℕ → List ℕ
+leadOf k clock = cond (isFirst k) (clock % 256 ∷ clock / 256 % 256 ∷ []) []
+
 unfoldable pub contentsIn : ℕ → ℕ → List ℕ → List ℕ → Odt → List ℕ
 contentsIn k clock cal meas y = leadOf k clock ++ blocksIn y cal meas (entryCount k)
 

@@ -2,9 +2,9 @@
 use Prim.Native.Nat.{ℕ, _+_, _-_}
 use mathlib.Core.Bool.{Bool, true, false, cond}
 use mathlib.Core.List.{[]}
-use Rattle.state.specs.Layout.{firstOdt, listOf}
+use lib.Dec.{eqb}
+use Rattle.state.specs.Layout.{lastEntry, firstOdt, listOf}
 use Rattle.state.specs.Generator.{nextOf}
-use Rattle.session.specs.Perform.{nextEntry}
 use Rattle.words.specs.declared.Resource.{Resource}
 use Rattle.words.specs.declared.Resource.the-variants.{Calibration, Lists}
 use Rattle.words.specs.declared.Extension.the-variants.{Calibration as CalibrationMemory}
@@ -13,9 +13,9 @@ use Rattle.words.specs.declared.Seed.the-variants.{None, For}
 use Rattle.words.specs.declared.Mta.{Mta}
 use Rattle.words.specs.declared.Mta.the-variants.{At}
 use Rattle.words.specs.declared.Pointer.{Pointer}
-use Rattle.words.specs.declared.Pointer.the-variants.{At as Points}
-use Rattle.judge.specs.declared.Deed.{Deed}
-use Rattle.judge.specs.declared.Deed.the-variants.{Refuse, RefuseSize, WrongKey, Connect, Disconnect, Status, Synch, NoSeed, GiveSeed, Unlock, SetMta, Upload, ShortUpload, Checksum, Download, ClearList, SetPointer, ClearEntry, WriteEntry, SetMode, Stop, Start, KeepRunning, Select, StopAll, StartSelected, StopSelected, ProcessorInfo, ResolutionInfo}
+use Rattle.words.specs.declared.Pointer.the-variants.{Unset as NoEntry, At as Points}
+use Rattle.model.specs.declared.Deed.{Deed}
+use Rattle.model.specs.declared.Deed.the-variants.{Refuse, RefuseSize, WrongKey, Connect, Disconnect, Status, Synch, NoSeed, GiveSeed, Unlock, SetMta, Upload, ShortUpload, Checksum, Download, ClearList, SetPointer, ClearEntry, WriteEntry, SetMode, Stop, Start, KeepRunning, Select, StopAll, StartSelected, StopSelected, ProcessorInfo, ResolutionInfo}
 use Rattle.model.specs.Model.{put, Entry, noEntry, Odt, DaqList, Session, Slave, blank, runs}
 
 -- ---- one part changed
@@ -94,6 +94,10 @@ startIfSelected opened l x = select false (cond (x .selected) (cond (runs opened
 
 abbrev pub stopIfSelected : DaqList → DaqList
 stopIfSelected x = select false (cond (x .selected) (switch false x) x)
+
+-- after an ODT's last entry the pointer is unset
+unfoldable pub nextEntry : ℕ → ℕ → Pointer
+nextEntry k e = cond (eqb e lastEntry) NoEntry (Points k (e + 1))
 
 -- ---- the deeds
 unfoldable pub stepIn : Deed → Session → Session

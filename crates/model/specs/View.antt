@@ -5,7 +5,7 @@ use lib.ListN.{getD}
 use Rattle.state.specs.Layout.{lists, odtCount, entryCount, firstOdt, runningAt, sampleAt, servedAt, lastAt}
 use Rattle.state.specs.Bytes.{block}
 use Rattle.state.specs.State.{flagOf, generatorOf, ctrOf, openOf, unlockedOf, seedOf, mtaOf, pointerOf, placeOf, messageOf, answerOf}
-use Rattle.lists.specs.Lists.{sizeOf, extensionOf, addressOf, modeOf, selectedOf, storedLength}
+use Rattle.state.specs.Lists.{sizeOf, extensionOf, addressOf, modeOf, selectedOf, storedLength}
 use Rattle.model.specs.Answers.{Done}
 use Rattle.model.specs.Model.{upTo, Entry, noEntry, Odt, noOdt, DaqList, noList, Session, Slave}
 

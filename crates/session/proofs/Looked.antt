@@ -17,16 +17,17 @@ use Rattle.words.specs.Command.{commandOf, fewest}
 use Rattle.words.specs.declared.Command.{Command}
 use Rattle.words.specs.declared.Command.the-variants.{Unknown, Connect, Disconnect, GetStatus, Synch, GetSeed, Unlock, SetMta, Upload, ShortUpload, BuildChecksum, Download, ClearDaqList, SetDaqPtr, WriteDaq, SetDaqListMode, StartStopDaqList, StartStopSynch, GetDaqProcessorInfo, GetDaqResolutionInfo}
 use Rattle.words.specs.declared.Reason.the-variants.{TooShort}
-use Rattle.judge.specs.Judge.{judge, judgeBy}
-use Rattle.judge.specs.Seen.{Packet, Seen}
-use Rattle.judge.specs.declared.Deed.{Deed}
-use Rattle.judge.specs.declared.Deed.the-variants.{Refuse}
+use Rattle.model.specs.Judge.{judge, judgeBy}
+use Rattle.model.specs.Seen.{Packet, Seen}
+use Rattle.model.specs.declared.Deed.{Deed}
+use Rattle.model.specs.declared.Deed.the-variants.{Refuse}
 use Rattle.judge.specs.Doable.{Doable}
 use Rattle.judge.proofs.Doable.{judge-doable}
 use Rattle.state.proofs.Pointers.{pointed}
 use Rattle.judge.proofs.Looking.{Alike, Seeing, judge-alike, judge-looked}
 use Rattle.lists.proofs.Named.{there-list}
-use Rattle.session.specs.Look.{numbersOf, numbersAt, pointedRuns, seenOf, pointedNamed, lookedAt, judgeOf}
+use Rattle.model.specs.Seen.{numbersOf}
+use Rattle.session.specs.Look.{numbersAt, pointedRuns, seenOf, pointedNamed, lookedAt, judgeOf}
 use Rattle.session.proofs.Packet.{packet-length, packet-byte, packet-u16, packet-u32}
 
 -- ---- the packet in the buffer

@@ -2,7 +2,7 @@
 use Prim.Native.Nat.{ℕ, _+_}
 use mathlib.Core.Bool.{Bool, false}
 use mathlib.Core.List.{List}
-use lib.ListN.{length, getD}
+use lib.ListN.{getD}
 use Rattle.state.specs.Layout.{lists, packetAt, listOf}
 use Rattle.state.specs.Bytes.{u16At, u32At}
 use Rattle.state.specs.State.{generatorOf, unlockedOf, seedOf, mtaOf, pointerOf}
@@ -10,29 +10,11 @@ use Rattle.lists.specs.Lists.{fitOf, runsOf, allFit, runsNamed, fitsNamed, read
 use Rattle.words.specs.declared.Resource.the-variants.{Calibration, Lists}
 use Rattle.words.specs.declared.Pointer.{Pointer}
 use Rattle.words.specs.declared.Pointer.the-variants.{Unset as NoEntry, At as Entry}
-use Rattle.judge.specs.Judge.{judge}
-use Rattle.judge.specs.Seen.{Packet, Seen}
-use Rattle.judge.specs.declared.Deed.{Deed}
+use Rattle.model.specs.Judge.{judge}
+use Rattle.model.specs.Seen.{Packet, numbersOf, Seen}
+use Rattle.model.specs.declared.Deed.{Deed}
 
--- the numbers in a packet
-abbrev pub numbersOf : List ℕ → Packet
-numbersOf p = record {
-  n = length p;
-  b0 = getD p 0 0;
-  b1 = getD p 1 0;
-  b2 = getD p 2 0;
-  b3 = getD p 3 0;
-  b4 = getD p 4 0;
-  b5 = getD p 5 0;
-  b6 = getD p 6 0;
-  b7 = getD p 7 0;
-  w2 = u16At p 2;
-  w4 = u16At p 4;
-  d2 = u32At p 2;
-  d4 = u32At p 4;
-}
-
--- the same, read where the packet of n bytes lies in the message buffer; what is behind its end is no number of it
+-- the numbers in a packet of n bytes, read where it lies in the message buffer; what is behind its end is no number of it
 abbrev pub numbersAt : List ℕ → ℕ → Packet
 numbersAt s m = record {
   n = m;

@@ -3,10 +3,8 @@ use Prim.Native.Nat.{ℕ, _+_}
 use mathlib.Core.Path.{_≡_}
 use mathlib.Core.Bool.{cond}
 use mathlib.Core.List.{List, [], _∷_}
-use lib.Dec.{eqb}
 use lib.ListN.{set}
-use lib.Seq.{sets}
-use Rattle.state.specs.Layout.{lists, lastEntry, events, packetMost, entryMost, addressable, selectedAt, firstOdt, listOf}
+use Rattle.state.specs.Layout.{lists, events, packetMost, entryMost, addressable, selectedAt, firstOdt, listOf}
 use Rattle.state.specs.Bytes.{block, bytes32}
 use Rattle.state.specs.Generator.{nextOf}
 use Rattle.state.specs.Memory.{pick, blockSum}
@@ -16,15 +14,12 @@ use Rattle.words.specs.Command.{codeOf}
 use Rattle.words.specs.declared.Extension.the-variants.{Calibration}
 use Rattle.words.specs.declared.Seed.the-variants.{None, For}
 use Rattle.words.specs.declared.Mta.the-variants.{At}
-use Rattle.words.specs.declared.Pointer.{Pointer}
-use Rattle.words.specs.declared.Pointer.the-variants.{Unset as NoEntry, At as Entry}
+use Rattle.words.specs.declared.Pointer.the-variants.{At as Entry}
 use Rattle.words.specs.declared.Reason.the-variants as reason
-use Rattle.judge.specs.declared.Deed.{Deed}
-use Rattle.judge.specs.declared.Deed.the-variants.{Refuse, RefuseSize, WrongKey, Connect, Disconnect, Status, Synch, NoSeed, GiveSeed, Unlock, SetMta, Upload, ShortUpload, Checksum, Download, ClearList, SetPointer, ClearEntry, WriteEntry, SetMode, Stop, Start, KeepRunning, Select, StopAll, StartSelected, StopSelected, ProcessorInfo, ResolutionInfo}
-
--- after an ODT's last entry the pointer is unset
-unfoldable pub nextEntry : ℕ → ℕ → Pointer
-nextEntry k e = cond (eqb e lastEntry) NoEntry (Entry k (e + 1))
+use Rattle.model.specs.declared.Deed.{Deed}
+use Rattle.model.specs.declared.Deed.the-variants.{Refuse, RefuseSize, WrongKey, Connect, Disconnect, Status, Synch, NoSeed, GiveSeed, Unlock, SetMta, Upload, ShortUpload, Checksum, Download, ClearList, SetPointer, ClearEntry, WriteEntry, SetMode, Stop, Start, KeepRunning, Select, StopAll, StartSelected, StopSelected, ProcessorInfo, ResolutionInfo}
+use Rattle.model.specs.Step.{nextEntry}
+use Rattle.model.specs.Answers.{written}
 
 -- ---- the state after a deed, but for its answer
 unfoldable pub effect : Deed → List ℕ → List ℕ
@@ -89,38 +84,6 @@ reply StartSelected s cal meas = 0xFF ∷ []
 reply StopSelected s cal meas = 0xFF ∷ []
 reply ProcessorInfo s cal meas = 0xFF ∷ 0x10 ∷ lists ∷ 0x00 ∷ events ∷ 0x00 ∷ 0x00 ∷ 0x00 ∷ []
 reply ResolutionInfo s cal meas = 0xFF ∷ 0x01 ∷ entryMost ∷ 0x00 ∷ 0x00 ∷ 0x6A ∷ 0x01 ∷ 0x00 ∷ []
-
--- ---- the calibration memory after a deed whose packet is p: DOWNLOAD alone writes there
-unfoldable pub written : Deed → List ℕ → List ℕ → List ℕ
-written (Refuse r) p cal = cal
-written RefuseSize p cal = cal
-written WrongKey p cal = cal
-written Connect p cal = cal
-written Disconnect p cal = cal
-written Status p cal = cal
-written Synch p cal = cal
-written NoSeed p cal = cal
-written (GiveSeed r) p cal = cal
-written (Unlock r) p cal = cal
-written (SetMta e a) p cal = cal
-written (Upload e a n) p cal = cal
-written (ShortUpload e a n) p cal = cal
-written (Checksum e a n) p cal = cal
-written (Download a n) p cal = sets cal a (block p 2 n)
-written (ClearList l) p cal = cal
-written (SetPointer k e) p cal = cal
-written (ClearEntry k e) p cal = cal
-written (WriteEntry k e n ext a) p cal = cal
-written (SetMode l event) p cal = cal
-written (Stop l) p cal = cal
-written (Start l) p cal = cal
-written (KeepRunning l) p cal = cal
-written (Select l) p cal = cal
-written StopAll p cal = cal
-written StartSelected p cal = cal
-written StopSelected p cal = cal
-written ProcessorInfo p cal = cal
-written ResolutionInfo p cal = cal
 
 -- the state with the deed done and its answer waiting
 abbrev pub after : Deed → List ℕ → List ℕ → List ℕ → List ℕ

@@ -12,9 +12,10 @@ use Rattle.line.specs.declared.Outcome.the-variants as line
 use Rattle.state.specs.Bytes.{block}
 use Rattle.state.specs.State.{consistent, openOf, placeOf, setPlace, messageOf, setMessage, waits}
 use Rattle.session.specs.Look.{judgeOf}
-use Rattle.session.specs.Perform.{after, written}
-use Rattle.judge.specs.declared.Deed.{Deed}
-use Rattle.judge.specs.declared.Deed.the-variants.{Connect}
+use Rattle.session.specs.Perform.{after}
+use Rattle.model.specs.Answers.{written}
+use Rattle.model.specs.declared.Deed.{Deed}
+use Rattle.model.specs.declared.Deed.the-variants.{Connect}
 use Rattle.words.specs.declared.Received.{Received}
 use Rattle.words.specs.declared.Received.the-variants.{Nothing, Answered, Silent, BadLength, BadEscape, BadChecksum, Unread, CutOff, NoState}
 

@@ -8,13 +8,14 @@ ghost use Rattle.state.specs.Layout.{packetMost, uploadMost, downloadMost, size
 ghost use Rattle.state.specs.Bytes.{block};
 ghost use Rattle.state.specs.Memory.{pick, blockSum};
 ghost use Rattle.state.specs.State.{answered};
-ghost use Rattle.session.specs.Perform.{after, written};
+ghost use Rattle.session.specs.Perform.{after};
+ghost use Rattle.model.specs.Answers.{written};
 ghost use Rattle.judge.specs.Doable.{Inside};
 use crate::answer;
 use crate::blocks::block_sum;
 use crate::blocks::copy;
-use judge::Deed;
 use lists::asked::any_runs;
+use model::Deed;
 use state::fields;
 use state::layout;
 use words::Extension;

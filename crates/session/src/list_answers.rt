@@ -7,7 +7,7 @@ ghost use Rattle.state.specs.Layout.{lists, size};
 ghost use Rattle.session.specs.Perform.{after};
 use crate::answer;
 use crate::list_deeds::give_first_odt;
-use judge::Deed;
+use model::Deed;
 use state::layout;
 
 // A running list that is started again goes on as it is.

@@ -10,7 +10,7 @@ use crate::answer;
 use crate::deeds;
 use crate::list_answers;
 use crate::list_deeds;
-use judge::Deed;
+use model::Deed;
 
 // A deed whose packet has len bytes.
 pub fn perform(deed: Deed, s: &mut [u8], cal: &mut [u8], meas: &[u8], len: u8)

@@ -11,8 +11,8 @@ use Rattle.line.proofs.Stuffed.{false-true}
 use Rattle.state.specs.Layout.{lists}
 use Rattle.state.specs.State.{consistent}
 use Rattle.lists.specs.Event.{samplingOf}
-use Rattle.lists.specs.declared.Sampling.{Sampling}
-use Rattle.lists.specs.declared.Sampling.the-variants.{Sampled}
+use Rattle.model.specs.declared.Sampling.{Sampling}
+use Rattle.model.specs.declared.Sampling.the-variants.{Sampled}
 use Rattle.demands.specs.Slave.{Slave, ours}
 use Rattle.demands.specs.Runs.{Call, Byte, Event, SendingSlot, Elsewhere, afterCall, frames, slots}
 use Rattle.demands.specs.Heard.{stopsAt}

@@ -5,11 +5,14 @@ use Rattle.state.specs.Bytes.{u16At, u32At, put16, put32, copied, cleared}
 use Rattle.state.specs.Generator.{nextOf, startOf, keyOf}
 use Rattle.state.specs.Memory.{insideOf, blockSum, byteOf, bytesOf}
 use Rattle.state.specs.State.{consistent, flagOf, generatorOf, setGenerator, maskOf, seedOf, setSeed, mtaOf, setMta, pointerOf, setPointer, closed, fresh, placeOf, setPlace, messageOf, setMessage, answerLength, answerKind, answerOf, answered}
-use Rattle.lists.specs.Lists.{sizeOf, extensionOf, addressOf, bytesOfFirst, modeOf, bytesOfOdts, odtsFit, fitOf, runsOf, anyRuns, mayStart, allFit, leastOf, storedLength, someStored, dropped, switched, listCleared, modeSet, entryCleared, entrySet, stopEach, startSelected, stopSelected}
+use Rattle.state.specs.Lists.{sizeOf, extensionOf, addressOf, modeOf, leastOf, storedLength}
+use Rattle.lists.specs.Lists.{bytesOfFirst, bytesOfOdts, odtsFit, fitOf, runsOf, anyRuns, mayStart, allFit, someStored, dropped, switched, listCleared, modeSet, entryCleared, entrySet, stopEach, startSelected, stopSelected}
 use Rattle.words.specs.Command.{commandOf}
-use Rattle.judge.specs.Judge.{connectDeed, getSeedDeed, unlockBy, setMtaDeed, uploadDeed, shortUploadDeed, checksumDeed, downloadTo, downloadDeed, clearDeed, pointerDeed, writeBlock, writeDeed, modeDeed, startDeed, startStopDeed, synchDeed, judgeThe, judgeBy, judge}
+use Rattle.model.specs.Judge.{connectDeed, getSeedDeed, unlockBy, setMtaDeed, uploadDeed, shortUploadDeed, checksumDeed, downloadTo, downloadDeed, clearDeed, pointerDeed, writeBlock, writeDeed, modeDeed, startDeed, startStopDeed, synchDeed, judgeThe, judgeBy, judge}
 use Rattle.session.specs.Look.{judgeOf}
-use Rattle.session.specs.Perform.{nextEntry, effect, reply, written}
+use Rattle.model.specs.Step.{nextEntry}
+use Rattle.session.specs.Perform.{effect, reply}
+use Rattle.model.specs.Answers.{written}
 use Rattle.session.specs.Receive.{goodConnect, heeded, meant, readOn, receiveOf}
 use Rattle.lists.specs.Event.{samplingOf, entryBytes, gathered, contentsOf, stored, capturedOdts, sampledState, tally, eventOf}
 use Rattle.lists.specs.Slot.{firstStored, packetIn, roundFrom, turnOf, packetOf, answerSent, packetSent, sentBy, slotOf}

@@ -10,8 +10,8 @@ use Rattle.state.specs.Layout.{addressable}
 use Rattle.state.specs.State.{consistent, openOf, waits, answerOf}
 use Rattle.session.specs.Look.{judgeOf}
 use Rattle.session.specs.Receive.{obeyed, heeded}
-use Rattle.judge.specs.declared.Deed.{Deed}
-use Rattle.judge.specs.declared.Deed.the-variants.{Refuse, Download}
+use Rattle.model.specs.declared.Deed.{Deed}
+use Rattle.model.specs.declared.Deed.the-variants.{Refuse, Download}
 use Rattle.words.specs.declared.Reason.the-variants.{NotInside}
 use Rattle.demands.specs.Slave.{Slave}
 use Rattle.demands.specs.Heard.{packetEnded, readBy, deedOf}

@@ -11,13 +11,13 @@ use Rattle.line.specs.Writer.{atFront}
 use Rattle.line.specs.Number.{outcomeNumber}
 use Rattle.state.specs.Layout.{lists, calibrationAt, listsAt, firstOdt, entryCount}
 use Rattle.state.specs.State.{consistent, ctrOf, openOf, maskOf, mtaOf, setMta, waits, answered}
-use Rattle.lists.specs.Lists.{storedLength}
+use Rattle.state.specs.Lists.{storedLength}
 use Rattle.session.specs.Receive.{Step, only, obeyed, goodConnect, heeded, fedOf, receiveOf}
 use Rattle.lists.specs.Event.{Happened, gathered, stored, eventOf}
 use Rattle.lists.specs.Slot.{Slot, turnOf, slotOf}
 use Rattle.words.specs.Number.{slottedValue}
 use Rattle.session.specs.PowerUp.{powerUpOf}
-use Rattle.judge.specs.declared.Deed.the-variants.{Refuse}
+use Rattle.model.specs.declared.Deed.the-variants.{Refuse}
 use Rattle.words.specs.declared.Reason.the-variants.{Unknown}
 use Rattle.words.specs.declared.Mta.{Mta}
 use Rattle.words.specs.declared.Mta.the-variants.{Unset, At}

@@ -1,5 +1,5 @@
 use borrow.Author.Tests.{eq-eqb, le-ltb, lt-ltb, ne-eqb}
-use Rattle.judge.specs.Judge.{checksumDeed}
+use Rattle.model.specs.Judge.{checksumDeed}
 use borrow.Author.Needs.{needs}
 use Rattle.judge.proofs.checks.build_checksum.Statement.{statement}
 use Rattle.judge.proofs.checks.build_checksum.Tie as tie

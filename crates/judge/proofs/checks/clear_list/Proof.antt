@@ -1,5 +1,5 @@
 use borrow.Author.Tests.{eq-eqb, ne-eqb, le-ltb, lt-ltb, le-leb, lt-leb}
-use Rattle.judge.specs.Judge.{clearDeed}
+use Rattle.model.specs.Judge.{clearDeed}
 use borrow.Author.Needs.{needs}
 use Rattle.judge.proofs.checks.clear_list.Statement.{statement}
 use Rattle.judge.proofs.checks.clear_list.Tie as tie

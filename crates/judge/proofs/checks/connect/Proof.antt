@@ -1,5 +1,5 @@
 use borrow.Author.Tests.{eq-eqb, ne-eqb}
-use Rattle.judge.specs.Judge.{connectDeed}
+use Rattle.model.specs.Judge.{connectDeed}
 use Rattle.judge.proofs.checks.connect.Statement.{statement}
 use Rattle.judge.proofs.checks.connect.Tie as tie
 

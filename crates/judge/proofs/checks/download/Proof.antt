@@ -1,5 +1,5 @@
 use borrow.Author.Tests.{eq-eqb, le-ltb, lt-ltb, ne-eqb}
-use Rattle.judge.specs.Judge.{downloadDeed}
+use Rattle.model.specs.Judge.{downloadDeed}
 use borrow.Author.Needs.{needs}
 use Rattle.judge.proofs.checks.download.Statement.{statement}
 use Rattle.judge.proofs.checks.download.Tie as tie

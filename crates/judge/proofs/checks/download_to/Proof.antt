@@ -1,4 +1,4 @@
-use Rattle.judge.specs.Judge.{downloadTo}
+use Rattle.model.specs.Judge.{downloadTo}
 use borrow.Author.Needs.{needs}
 use Rattle.judge.proofs.checks.download_to.Statement.{statement}
 use Rattle.judge.proofs.checks.download_to.Tie as tie

@@ -1,5 +1,5 @@
 use borrow.Author.Tests.{eq-eqb, ne-eqb, le-ltb, lt-ltb, le-leb, lt-leb}
-use Rattle.judge.specs.Judge.{getSeedDeed}
+use Rattle.model.specs.Judge.{getSeedDeed}
 use borrow.Author.Needs.{needs}
 use Rattle.judge.proofs.checks.get_seed.Statement.{statement}
 use Rattle.judge.proofs.checks.get_seed.Tie as tie

@@ -1,5 +1,5 @@
 use borrow.Author.Tests.{eq-eqb, ne-eqb, le-ltb, lt-ltb, le-leb, lt-leb}
-use Rattle.judge.specs.Judge.{modeDeed}
+use Rattle.model.specs.Judge.{modeDeed}
 use borrow.Author.Needs.{needs}
 use Rattle.judge.proofs.checks.set_mode.Statement.{statement}
 use Rattle.judge.proofs.checks.set_mode.Tie as tie

@@ -1,5 +1,5 @@
 use borrow.Author.Tests.{le-ltb, lt-ltb}
-use Rattle.judge.specs.Judge.{setMtaDeed}
+use Rattle.model.specs.Judge.{setMtaDeed}
 use borrow.Author.Needs.{needs}
 use Rattle.judge.proofs.checks.set_mta.Statement.{statement}
 use Rattle.judge.proofs.checks.set_mta.Tie as tie

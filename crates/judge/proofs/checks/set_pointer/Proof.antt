@@ -1,5 +1,5 @@
 use borrow.Author.Tests.{le-leb, lt-leb}
-use Rattle.judge.specs.Judge.{pointerDeed}
+use Rattle.model.specs.Judge.{pointerDeed}
 use borrow.Author.Needs.{needs}
 use Rattle.judge.proofs.checks.set_pointer.Statement.{statement}
 use Rattle.judge.proofs.checks.set_pointer.Tie as tie

@@ -1,5 +1,5 @@
 use borrow.Author.Tests.{eq-eqb, le-ltb, lt-ltb, ne-eqb}
-use Rattle.judge.specs.Judge.{shortUploadDeed}
+use Rattle.model.specs.Judge.{shortUploadDeed}
 use borrow.Author.Needs.{needs}
 use Rattle.judge.proofs.checks.short_upload.Statement.{statement}
 use Rattle.judge.proofs.checks.short_upload.Tie as tie

@@ -1,4 +1,4 @@
-use Rattle.judge.specs.Judge.{startDeed}
+use Rattle.model.specs.Judge.{startDeed}
 use Rattle.judge.proofs.checks.start.Statement.{statement}
 use Rattle.judge.proofs.checks.start.Tie as tie
 

@@ -1,5 +1,5 @@
 use borrow.Author.Tests.{eq-eqb, ne-eqb, le-ltb, lt-ltb, le-leb, lt-leb}
-use Rattle.judge.specs.Judge.{startStopDeed}
+use Rattle.model.specs.Judge.{startStopDeed}
 use borrow.Author.Needs.{needs}
 use Rattle.judge.proofs.checks.start_stop.Statement.{statement}
 use Rattle.judge.proofs.checks.start_stop.Tie as tie

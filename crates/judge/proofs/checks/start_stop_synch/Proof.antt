@@ -1,5 +1,5 @@
 use borrow.Author.Tests.{eq-eqb, ne-eqb, le-ltb, lt-ltb, le-leb, lt-leb}
-use Rattle.judge.specs.Judge.{synchDeed}
+use Rattle.model.specs.Judge.{synchDeed}
 use Rattle.judge.proofs.checks.start_stop_synch.Statement.{statement}
 use Rattle.judge.proofs.checks.start_stop_synch.Tie as tie
 

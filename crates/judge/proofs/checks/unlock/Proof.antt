@@ -1,5 +1,5 @@
 use borrow.Author.Tests.{eq-eqb, ne-eqb, le-ltb, lt-ltb, le-leb, lt-leb}
-use Rattle.judge.specs.Judge.{unlockBy}
+use Rattle.model.specs.Judge.{unlockBy}
 use borrow.Author.Needs.{needs}
 use Rattle.judge.proofs.checks.unlock.Statement.{statement}
 use Rattle.judge.proofs.checks.unlock.Tie as tie

@@ -1,5 +1,5 @@
 use borrow.Author.Tests.{eq-eqb, le-ltb, lt-ltb, ne-eqb}
-use Rattle.judge.specs.Judge.{uploadDeed}
+use Rattle.model.specs.Judge.{uploadDeed}
 use borrow.Author.Needs.{needs}
 use Rattle.judge.proofs.checks.upload.Statement.{statement}
 use Rattle.judge.proofs.checks.upload.Tie as tie

@@ -1,5 +1,5 @@
 use borrow.Author.Tests.{eq-eqb, ne-eqb}
-use Rattle.judge.specs.Judge.{writeBlock}
+use Rattle.model.specs.Judge.{writeBlock}
 use borrow.Author.Needs.{needs}
 use Rattle.judge.proofs.checks.write_block.Statement.{statement}
 use Rattle.judge.proofs.checks.write_block.Tie as tie

@@ -1,5 +1,5 @@
 use borrow.Author.Tests.{eq-eqb, ne-eqb, le-ltb, lt-ltb, le-leb, lt-leb}
-use Rattle.judge.specs.Judge.{writeDeed}
+use Rattle.model.specs.Judge.{writeDeed}
 use borrow.Author.Needs.{needs}
 use Rattle.judge.proofs.checks.write_entry.Statement.{statement}
 use Rattle.judge.proofs.checks.write_entry.Tie as tie

@@ -5,7 +5,7 @@ use native.Mathlib.Omega.{arith}
 use lib.ListN.{length}
 use lib.Seq.{sets}
 use Rattle.state.specs.Layout.{entries}
-use Rattle.lists.specs.Lists.{sizeOf}
+use Rattle.state.specs.Lists.{sizeOf}
 use Rattle.lists.specs.Event.{gathered}
 use Rattle.lists.proofs.Entries.{sets-alike, size-alike, first-most}
 use Rattle.lists.proofs.Gathered.{gathered-length, gathered-first, gathered-odt, gathered-next}

@@ -1,6 +1,6 @@
 use native.Mathlib.Omega.{arith}
 use Rattle.state.specs.Bytes.{u16At}
-use Rattle.lists.specs.Lists.{addressOf}
+use Rattle.state.specs.Lists.{addressOf}
 use borrow.Author.Needs.{needs}
 use Rattle.lists.proofs.list.entry_address.Statement.{statement}
 use Rattle.lists.proofs.list.entry_address.Tie as tie

@@ -1,4 +1,4 @@
-use Rattle.lists.specs.Lists.{extensionOf}
+use Rattle.state.specs.Lists.{extensionOf}
 use borrow.Author.Needs.{needs}
 use Rattle.lists.proofs.list.entry_extension.Statement.{statement}
 use Rattle.lists.proofs.list.entry_extension.Tie as tie

@@ -1,6 +1,6 @@
 use native.Mathlib.Omega.{arith}
 use borrow.Author.Tests.{lt-ltb, le-ltb}
-use Rattle.lists.specs.Lists.{sizeOf}
+use Rattle.state.specs.Lists.{sizeOf}
 use borrow.Author.Needs.{needs}
 use Rattle.lists.proofs.list.entry_size.Statement.{statement}
 use Rattle.lists.proofs.list.entry_size.Tie as tie

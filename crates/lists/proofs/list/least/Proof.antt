@@ -1,5 +1,5 @@
 use mathlib.Core.Path.{sym, _∙_}
-use Rattle.lists.specs.Lists.{leastOf}
+use Rattle.state.specs.Lists.{leastOf}
 use borrow.Author.Needs.{needs}
 use Rattle.lists.proofs.list.least.Statement.{statement}
 use Rattle.lists.proofs.list.least.Tie as tie

@@ -1,6 +1,6 @@
 use native.Mathlib.Omega.{arith}
 use borrow.Author.Tests.{lt-ltb, le-ltb}
-use Rattle.lists.specs.Lists.{modeOf}
+use Rattle.state.specs.Lists.{modeOf}
 use borrow.Author.Needs.{needs}
 use Rattle.lists.proofs.list.mode.Statement.{statement}
 use Rattle.lists.proofs.list.mode.Tie as tie

@@ -1,6 +1,6 @@
 use native.Mathlib.Omega.{arith}
 use borrow.Author.Tests.{lt-ltb, le-ltb}
-use Rattle.lists.specs.Lists.{storedLength}
+use Rattle.state.specs.Lists.{storedLength}
 use borrow.Author.Needs.{needs}
 use Rattle.lists.proofs.list.stored_length.Statement.{statement}
 use Rattle.lists.proofs.list.stored_length.Tie as tie

@@ -6,7 +6,8 @@ use Rattle.state.proofs.Inside.{inside-le}
 use Rattle.session.proofs.Data.{block-block}
 use Rattle.state.specs.Bytes.{copied}
 use Rattle.state.specs.Layout.{packetAt}
-use Rattle.session.specs.Perform.{effect, reply, written}
+use Rattle.session.specs.Perform.{effect, reply}
+use Rattle.model.specs.Answers.{written}
 use borrow.Author.Needs.{needs}
 use Rattle.session.proofs.deeds.download.Statement.{statement}
 use Rattle.session.proofs.deeds.download.Tie as tie

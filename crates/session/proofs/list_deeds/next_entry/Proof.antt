@@ -1,6 +1,6 @@
 use native.Mathlib.Omega.{arith}
 use borrow.Author.Tests.{eq-eqb, ne-eqb}
-use Rattle.session.specs.Perform.{nextEntry}
+use Rattle.model.specs.Step.{nextEntry}
 use borrow.Author.Needs.{needs}
 use Rattle.session.proofs.list_deeds.next_entry.Statement.{statement}
 use Rattle.session.proofs.list_deeds.next_entry.Tie as tie

@@ -1,6 +1,6 @@
 use mathlib.Core.Path.{sym, _∙_}
 use borrow.Author.Tests.{lt-ltb, le-ltb}
-use Rattle.judge.specs.Judge.{judgeBy}
+use Rattle.model.specs.Judge.{judgeBy}
 use borrow.Author.Needs.{needs}
 use Rattle.session.proofs.look.judge_by.Statement.{statement}
 use Rattle.session.proofs.look.judge_by.Tie as tie

@@ -1,5 +1,5 @@
 use mathlib.Core.Path.{_∙_}
-use Rattle.judge.specs.Judge.{judgeThe}
+use Rattle.model.specs.Judge.{judgeThe}
 use borrow.Author.Needs.{needs}
 use Rattle.session.proofs.look.judge_the.Statement.{statement}
 use Rattle.session.proofs.look.judge_the.Tie as tie

@@ -1,5 +1,6 @@
 use mathlib.Core.Path.{refl}
-use Rattle.session.specs.Perform.{effect, reply, written}
+use Rattle.session.specs.Perform.{effect, reply}
+use Rattle.model.specs.Answers.{written}
 use borrow.Author.Needs.{needs}
 use Rattle.session.proofs.perform.perform.Statement.{statement}
 use Rattle.session.proofs.perform.perform.Tie as tie

@@ -3,7 +3,8 @@ use mathlib.Core.Path.{refl, sym, _∙_}
 use borrow.Author.Tests.{lt-ltb, le-ltb}
 use lib.ListN.{length}
 use Rattle.state.specs.Bytes.{block}
-use Rattle.session.specs.Perform.{effect, reply, written}
+use Rattle.session.specs.Perform.{effect, reply}
+use Rattle.model.specs.Answers.{written}
 use Rattle.session.specs.Receive.{heeded}
 use Rattle.session.proofs.Packet.{packet-length}
 use Rattle.session.proofs.Looked.{judged-doable}

@@ -14,22 +14,23 @@ use Rattle.words.specs.Command.{commandOf}
 use Rattle.words.specs.declared.Resource.{Resource}
 use Rattle.words.specs.declared.Pointer.{Pointer}
 use Rattle.words.specs.declared.Pointer.the-variants.{Unset as NoEntry, At as Points}
-use Rattle.judge.specs.Judge.{judge}
+use Rattle.model.specs.Judge.{judge, pointedIn, startable, allStartable, seenIn, judgeIn}
 use Rattle.judge.specs.Doable.{Doable}
-use Rattle.judge.specs.declared.Deed.{Deed}
-use Rattle.judge.specs.declared.Deed.the-variants.{Refuse, RefuseSize, WrongKey, Connect, Disconnect, Status, Synch, NoSeed, GiveSeed, Unlock, SetMta, Upload, ShortUpload, Checksum, Download, ClearList, SetPointer, ClearEntry, WriteEntry, SetMode, Stop, Start, KeepRunning, Select, StopAll, StartSelected, StopSelected, ProcessorInfo, ResolutionInfo}
+use Rattle.model.specs.declared.Deed.{Deed}
+use Rattle.model.specs.declared.Deed.the-variants.{Refuse, RefuseSize, WrongKey, Connect, Disconnect, Status, Synch, NoSeed, GiveSeed, Unlock, SetMta, Upload, ShortUpload, Checksum, Download, ClearList, SetPointer, ClearEntry, WriteEntry, SetMode, Stop, Start, KeepRunning, Select, StopAll, StartSelected, StopSelected, ProcessorInfo, ResolutionInfo}
 use Rattle.judge.proofs.Looking.{Seeing, judge-looked}
-use Rattle.session.specs.Look.{numbersOf, pointedRuns, seenOf, judgeOf}
-use Rattle.session.specs.Perform.{effect, reply, written, after}
+use Rattle.model.specs.Seen.{numbersOf}
+use Rattle.session.specs.Look.{pointedRuns, seenOf, judgeOf}
+use Rattle.session.specs.Perform.{effect, reply, after}
+use Rattle.model.specs.Answers.{written, maskBy, replyIn, doneBy}
 use Rattle.fields.proofs.Effects.{effected, answering}
 use Rattle.model.specs.Model.{Session, Slave, someRuns}
 use Rattle.model.specs.Step.{unlock, stepIn, step}
-use Rattle.model.specs.Answers.{pointedIn, startable, allStartable, seenIn, judgeIn, maskBy, replyIn, doneBy}
 use Rattle.model.specs.Calls.{withAnswer}
 use Rattle.model.specs.View.{sessionOf, viewOf, shown}
-use Rattle.model.proofs.Fit.{Fit}
-use Rattle.model.proofs.Effect.{list-at, fits-at, runs-at, session-effect, view-effect}
-use Rattle.model.proofs.Calls.{view-answered}
+use Rattle.views.proofs.Fit.{Fit}
+use Rattle.views.proofs.Effect.{list-at, fits-at, runs-at, session-effect, view-effect}
+use Rattle.views.proofs.Calls.{view-answered}
 
 -- ---- what is seen
 module _ (s : List ℕ) where

@@ -4,9 +4,9 @@ use mathlib.Core.Path.{_≡_}
 use mathlib.Core.Bool.{Bool, true, false, cond}
 use mathlib.Core.List.{List}
 use lib.Dec.{eqb}
 use Rattle.model.specs.Model.{byte, Session}
 use Rattle.model.specs.Answers.{Done}
-use Rattle.model.specs.Commands.{Fresh}
+use Rattle.views.specs.Commands.{Fresh}
 
 -- in d the pointer, and of every list mode, selection, running flag and entries, are as in c; samples come and go
 pub record SettingsKept (c d : Session) : Type 0 where

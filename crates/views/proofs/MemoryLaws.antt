@@ -24,19 +24,18 @@ use Rattle.words.specs.declared.Extension.the-variants.{Calibration as Calibrat
 use Rattle.words.specs.declared.Mta.{Mta}
 use Rattle.words.specs.declared.Mta.the-variants.{Unset, At}
 use Rattle.words.specs.declared.Reason.the-variants.{OutOfRange, DataMissing, NotInside}
-use Rattle.judge.specs.Judge.{extensionFrom, setMtaDeed, uploadDeed, shortUploadDeed, checksumDeed, downloadTo, downloadDeed, judgeThe}
-use Rattle.judge.specs.declared.Deed.{Deed}
-use Rattle.judge.specs.declared.Deed.the-variants.{Upload, ShortUpload, Checksum, Download}
-use Rattle.session.specs.Perform.{written}
+use Rattle.model.specs.Judge.{extensionFrom, setMtaDeed, uploadDeed, shortUploadDeed, checksumDeed, downloadTo, downloadDeed, judgeThe, judgeIn}
+use Rattle.model.specs.declared.Deed.{Deed}
+use Rattle.model.specs.declared.Deed.the-variants.{Upload, ShortUpload, Checksum, Download}
+use Rattle.model.specs.Answers.{written, replyIn, Done, doneBy}
 use Rattle.fields.proofs.Stores.{sets-in, put32-same}
 use Rattle.fields.proofs.Frames.{only-sets}
 use Rattle.model.specs.Model.{byte, Session}
 use Rattle.model.specs.Step.{withMta, stepIn}
-use Rattle.model.specs.Answers.{judgeIn, replyIn, Done, doneBy}
-use Rattle.model.specs.Commands.{four, memoryOf, sumFrom, TheGenerator, Whether-open, TheLocks, TheSeed, TheMta, ThePointer, TheLists, AllBut, SET-MTA, Carries, UPLOAD, SHORT-UPLOAD, BUILD-CHECKSUM, DOWNLOAD}
-use Rattle.model.proofs.Parts.{either, aside}
-use Rattle.model.proofs.Bytes.{bytes-cons, bytes-four}
-use Rattle.model.proofs.Taken.{four-is, named-by, fe-ff, Taken, unless, provided, branch, judged, Leads}
+use Rattle.views.specs.Commands.{four, memoryOf, sumFrom, TheGenerator, Whether-open, TheLocks, TheSeed, TheMta, ThePointer, TheLists, AllBut, SET-MTA, Carries, UPLOAD, SHORT-UPLOAD, BUILD-CHECKSUM, DOWNLOAD}
+use Rattle.views.proofs.Parts.{either, aside}
+use Rattle.views.proofs.Bytes.{bytes-cons, bytes-four}
+use Rattle.views.proofs.Taken.{four-is, named-by, fe-ff, Taken, unless, provided, branch, judged, Leads}
 
 but-mta : (c : Session) (x : Mta) → AllBut TheMta c (withMta c x)
 but-mta c x TheGenerator n = refl

@@ -7,7 +7,7 @@ use borrow.Author.Tests.{eqb-true, eqb-false, ltb-true, ltb-false}
 use lib.Dec.{eqb, ltb, lit<}
 use lib.ListN.{length, getD, set, take, drop}
 use lib.Seq.{getD-set-same, getD-set-other, getD-drop, set-out}
-use Rattle.line.specs.Message.{byteForm}
+use Rattle.line.specs.Message.{byteForm, longest}
 use Rattle.line.specs.Stuffing.{SYNC, ESC}
 use Rattle.line.specs.Unstuffing.{Fed, placeBy, insideBy}
 use Rattle.line.specs.Reader.{lenIn, begunIn, putOf, messages, takeOf}
@@ -16,12 +16,11 @@ use Rattle.line.specs.declared.Place.the-variants.{Outside, Inside, Escaped}
 use Rattle.line.proofs.Laws.{cond-ind}
 use Rattle.line.proofs.Steps.{take-cases}
 use Rattle.state.specs.Layout.{messageAt}
-use Rattle.line.specs.Message.{longest}
 use Rattle.state.specs.Bytes.{block, bytes32}
 use Rattle.state.specs.State.{placeOf, messageOf}
 use Rattle.session.specs.Receive.{fedOf}
 use Rattle.model.specs.Model.{Bytes}
-use Rattle.model.proofs.Parts.{either}
+use Rattle.views.proofs.Parts.{either}
 
 pub bytes-cons : (x : ℕ) (bs : List ℕ) → x < 256 → Bytes bs → Bytes (x ∷ bs)
 bytes-cons x bs h w zero = h

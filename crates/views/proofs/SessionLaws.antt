@@ -21,18 +21,17 @@ use Rattle.words.specs.declared.Resource.the-variants.{Calibration, Lists}
 use Rattle.words.specs.declared.Seed.{Seed}
 use Rattle.words.specs.declared.Seed.the-variants.{None, For}
 use Rattle.words.specs.declared.Reason.the-variants.{OutOfRange, Sequence, DataMissing}
-use Rattle.judge.specs.Judge.{connectDeed, seedDeed, getSeedDeed, unlockBy, judgeThe, judgeBy, judge}
-use Rattle.judge.specs.declared.Deed.{Deed}
-use Rattle.judge.specs.declared.Deed.the-variants.{Synch, GiveSeed, Unlock}
-use Rattle.session.specs.Perform.{written}
+use Rattle.model.specs.Judge.{connectDeed, seedDeed, getSeedDeed, unlockBy, judgeThe, judgeBy, judge, judgeIn}
+use Rattle.model.specs.declared.Deed.{Deed}
+use Rattle.model.specs.declared.Deed.the-variants.{Synch, GiveSeed, Unlock}
+use Rattle.model.specs.Answers.{written, replyIn, doneBy}
 use Rattle.model.specs.Model.{byte, Session, blank, runsIn, someRuns}
 use Rattle.model.specs.Step.{unlock, withGenerator, withLock, withSeed, stepIn}
-use Rattle.model.specs.Answers.{judgeIn, replyIn, doneBy}
-use Rattle.model.specs.Commands.{resourceNumber, maskFor, TheGenerator, Whether-open, TheLocks, TheSeed, TheMta, ThePointer, TheLists, AllButBoth, Fresh, CONNECT, DISCONNECT, GET-STATUS, SYNCH, Seeds, GET-SEED, UNLOCK, GET-DAQ-PROCESSOR-INFO, GET-DAQ-RESOLUTION-INFO}
-use Rattle.model.proofs.Parts.{either}
-use Rattle.model.proofs.Taken.{four-is, fe-ff, Taken, unless, provided, branch, judged, Leads}
-use Rattle.model.proofs.Bytes.{bytes-cons, bytes-four}
-use Rattle.model.proofs.MemoryLaws.{four-back}
+use Rattle.views.specs.Commands.{resourceNumber, maskFor, TheGenerator, Whether-open, TheLocks, TheSeed, TheMta, ThePointer, TheLists, AllButBoth, Fresh, CONNECT, DISCONNECT, GET-STATUS, SYNCH, Seeds, GET-SEED, UNLOCK, GET-DAQ-PROCESSOR-INFO, GET-DAQ-RESOLUTION-INFO}
+use Rattle.views.proofs.Parts.{either}
+use Rattle.views.proofs.Taken.{four-is, fe-ff, Taken, unless, provided, branch, judged, Leads}
+use Rattle.views.proofs.Bytes.{bytes-cons, bytes-four}
+use Rattle.views.proofs.MemoryLaws.{four-back}
 
 -- ---- FF CONNECT, FE DISCONNECT
 pub blank-fresh : (c : Session) (o : Bool) → Fresh c (blank (c .generator) o)

@@ -14,14 +14,13 @@ use Rattle.words.specs.declared.Command.{Command}
 use Rattle.words.specs.declared.Extension.{Extension}
 use Rattle.words.specs.declared.Reason.{Reason}
 use Rattle.words.specs.declared.Reason.the-variants.{TooShort, Locked}
-use Rattle.judge.specs.Seen.{Seen}
-use Rattle.judge.specs.Judge.{extensionFrom, lockedBy, judgeThe, judgeBy, judge}
-use Rattle.judge.specs.declared.Deed.{Deed}
-use Rattle.judge.specs.declared.Deed.the-variants.{Refuse}
-use Rattle.session.specs.Look.{numbersOf}
+use Rattle.model.specs.Seen.{Seen, numbersOf}
+use Rattle.model.specs.Judge.{extensionFrom, lockedBy, judgeThe, judgeBy, judge, seenIn, judgeIn}
+use Rattle.model.specs.declared.Deed.{Deed}
+use Rattle.model.specs.declared.Deed.the-variants.{Refuse}
 use Rattle.model.specs.Model.{byte, Session}
-use Rattle.model.specs.Answers.{seenIn, judgeIn, replyIn, doneBy}
-use Rattle.model.specs.Commands.{two, four, extensionNumber, Way}
+use Rattle.model.specs.Answers.{replyIn, doneBy}
+use Rattle.views.specs.Commands.{two, four, extensionNumber, Way}
 
 -- ---- the packet's numbers
 pub two-is : (p : List ℕ) (i : ℕ) → u16At p i ≡ two p i

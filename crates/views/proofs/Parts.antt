@@ -12,14 +12,14 @@ use Rattle.line.proofs.Laws.{cond-ind}
 use Rattle.state.specs.Layout.{size, lists, firstOdt, odtCount, entryCount, storedMost, generatorAt, ctrAt, servedAt, lastAt, calibrationAt, seedAt, mtaAt, pointerAt, modeAt, selectedAt, runningAt, entrySize, entriesAt, entryAt, sampleAt}
 use Rattle.state.specs.Bytes.{u16At}
 use Rattle.state.specs.State.{generatorOf, unlockedOf, mtaOf, seedOf, pointerOf}
-use Rattle.lists.specs.Lists.{sizeOf, extensionOf, addressOf, modeOf, leastOf, storedLength}
+use Rattle.state.specs.Lists.{sizeOf, extensionOf, addressOf, modeOf, leastOf, storedLength}
 use Rattle.fields.proofs.Stores.{out}
 use Rattle.fields.proofs.Frames.{Only}
 use Rattle.fields.proofs.Effects.{Effected}
 use Rattle.fields.proofs.Readers.{Same, apart, same-part, same-then, same-block, flag-reads, generator-reads, open-reads, lock-reads, seed-reads, mta-reads, pointer-reads, place-reads, message-reads, answer-reads, stored-reads}
 use Rattle.model.specs.Model.{upTo, put, noEntry, Odt, noOdt, DaqList, noList}
 use Rattle.model.specs.Step.{withSession, withGenerator, withSeed, withMta, withPointer, withLists}
 use Rattle.model.specs.View.{entryOf, odtOf, daqOf, listsOf, sessionOf, viewOf}
 
 -- ---- functions with a bound
 pub either : {P : Type 0} (t : Bool) → (t ≡ true → P) → (t ≡ false → P) → P

@@ -3,13 +3,14 @@ use Prim.Native.Nat.{ℕ}
 use mathlib.Core.Path.{_≡_, sym, ap, subst, _∙_}
 use mathlib.Core.List.{List}
 use lib.ListN.{length}
 use Rattle.model.specs.Model.{byte, Session}
-use Rattle.model.specs.Answers.{judgeIn, Done, commandIn}
-use Rattle.model.specs.Commands.{Way, Law, SYNCH, Obeys}
-use Rattle.model.proofs.Taken.{Taken, Leads}
-use Rattle.model.proofs.SessionLaws.{connect, disconnect, get-status, synch, get-seed, unlock-law, processor-info, resolution-info}
-use Rattle.model.proofs.MemoryLaws.{set-mta, upload, short-upload, build-checksum, download}
-use Rattle.model.proofs.ListLaws.{clear-daq-list, set-daq-ptr, write-daq, set-daq-list-mode, start-stop-daq-list, start-stop-synch}
+use Rattle.model.specs.Judge.{judgeIn}
+use Rattle.model.specs.Answers.{Done, commandIn}
+use Rattle.views.specs.Commands.{Way, Law, SYNCH, Obeys}
+use Rattle.views.proofs.Taken.{Taken, Leads}
+use Rattle.views.proofs.SessionLaws.{connect, disconnect, get-status, synch, get-seed, unlock-law, processor-info, resolution-info}
+use Rattle.views.proofs.MemoryLaws.{set-mta, upload, short-upload, build-checksum, download}
+use Rattle.views.proofs.ListLaws.{clear-daq-list, set-daq-ptr, write-daq, set-daq-list-mode, start-stop-daq-list, start-stop-synch}
 
 -- what a way leads to is what the model does
 abbrev pub AsModel : Way → Type 0

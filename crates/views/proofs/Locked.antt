@@ -26,18 +26,17 @@ use Rattle.words.specs.declared.Seed.the-variants.{None, For}
 use Rattle.words.specs.declared.Mta.{Mta}
 use Rattle.words.specs.declared.Mta.the-variants.{Unset, At}
 use Rattle.words.specs.declared.Reason.the-variants.{TooShort, Locked, Sequence, OutOfRange, DataMissing}
-use Rattle.judge.specs.Seen.{Seen}
-use Rattle.judge.specs.Judge.{extensionFrom, connectDeed, seedDeed, getSeedDeed, unlockBy, setMtaDeed, uploadDeed, shortUploadDeed, checksumDeed, downloadTo, downloadDeed, lockedBy, judgeThe, judgeBy, judge}
-use Rattle.judge.specs.declared.Deed.{Deed}
-use Rattle.judge.specs.declared.Deed.the-variants.{Refuse, Connect, Disconnect, Unlock, WrongKey}
-use Rattle.session.specs.Look.{numbersOf}
+use Rattle.model.specs.Seen.{Seen, numbersOf}
+use Rattle.model.specs.Judge.{extensionFrom, connectDeed, seedDeed, getSeedDeed, unlockBy, setMtaDeed, uploadDeed, shortUploadDeed, checksumDeed, downloadTo, downloadDeed, lockedBy, judgeThe, judgeBy, judge, seenIn, judgeIn}
+use Rattle.model.specs.declared.Deed.{Deed}
+use Rattle.model.specs.declared.Deed.the-variants.{Refuse, Connect, Disconnect, Unlock, WrongKey}
 use Rattle.model.specs.Model.{byte, Session}
 use Rattle.model.specs.Step.{unlock, withMta, stepIn}
-use Rattle.model.specs.Answers.{seenIn, judgeIn, replyIn, doneBy, commandIn}
-use Rattle.model.specs.Commands.{Fresh}
-use Rattle.model.specs.Locked.{SettingsKept, endsSession, Shields}
-use Rattle.model.proofs.Parts.{either}
-use Rattle.model.proofs.SessionLaws.{blank-fresh}
+use Rattle.model.specs.Answers.{replyIn, doneBy, commandIn}
+use Rattle.views.specs.Commands.{Fresh}
+use Rattle.views.specs.Locked.{SettingsKept, endsSession, Shields}
+use Rattle.views.proofs.Parts.{either}
+use Rattle.views.proofs.SessionLaws.{blank-fresh}
 
 -- the commands that neither end nor renew a session
 abbrev Other : Command → Type 0

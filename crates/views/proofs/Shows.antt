@@ -13,7 +13,8 @@ use lib.Seq.{getD-set-same, getD-set-other}
 use Rattle.state.specs.Layout.{size, lists, firstOdt, odtCount, allOdts, entryCount, listOf, events, listSize, entrySize, odtSize, entryMost, modeAt, selectedAt, runningAt, entriesAt, entryAt, sampleAt}
 use Rattle.state.specs.Bytes.{u16At, cleared, put16}
 use Rattle.state.specs.State.{flagOf, generatorOf, setGenerator, openOf, unlockedOf, lockAt, setSeed, setMta, setPointer, Pointed, closed, fresh}
-use Rattle.lists.specs.Lists.{sizeOf, extensionOf, addressOf, modeOf, dropped, switched, listCleared, modeSet, tagOf, entryCleared, entrySet}
+use Rattle.state.specs.Lists.{sizeOf, extensionOf, addressOf, modeOf}
+use Rattle.lists.specs.Lists.{dropped, switched, listCleared, modeSet, tagOf, entryCleared, entrySet}
 use Rattle.words.specs.declared.Resource.{Resource}
 use Rattle.words.specs.declared.Resource.the-variants.{Calibration, Lists}
 use Rattle.words.specs.declared.Extension.{Extension}
@@ -26,10 +27,10 @@ use Rattle.fields.proofs.Stores.{cleared-in, put16-same}
 use Rattle.fields.proofs.Fields.{Addressed, mta-same, pointer-same, seed-same, generator-same, lock-same, lock-other, Bare, bare-locked, bare-seed, bare-mta, bare-pointer, empty-stored, closed-open, closed-bare, fresh-open, fresh-bare}
 use Rattle.fields.proofs.Frames.{Only, only-none, only-then, only-wider, only-generator, only-set, only-put16, only-cleared, only-seed, only-mta, only-pointer, only-lock, only-closed, only-fresh}
 use Rattle.fields.proofs.Readers.{apart, flag-reads, generator-reads, open-reads, seed-reads, mta-reads, pointer-reads}
 use Rattle.model.specs.Model.{put, Entry, noEntry, noOdt, DaqList, noList, blank}
 use Rattle.model.specs.Step.{unlock, withGenerator, withLock, withSeed, withMta, withPointer, emptied, switch, select, unset, clear, setMode, withEntry, setEntry, odtIn}
 use Rattle.model.specs.View.{entryOf, odtOf, daqOf, listsOf, sessionOf}
-use Rattle.model.proofs.Parts.{either, upTo-at, upTo-is, upTo-map, upTo-put, spared, both, odt-from, list-from, mode-own, entry-own, entries-own, store-own, odt-own, odts-own, own-one, own-both, list-own, lists-reads, in-generator, in-seed, in-mta, in-pointer}
+use Rattle.views.proofs.Parts.{either, upTo-at, upTo-is, upTo-map, upTo-put, spared, both, odt-from, list-from, mode-own, entry-own, entries-own, store-own, odt-own, odts-own, own-one, own-both, list-own, lists-reads, in-generator, in-seed, in-mta, in-pointer}
 
 -- ---- single fields
 module _ (s : List ℕ) (h : length s ≡ size) where

@@ -19,7 +19,8 @@ use Rattle.state.specs.Layout.{size, lists, firstOdt, odtCount, allOdts, entryC
 use Rattle.state.specs.Bytes.{put32, block}
 use Rattle.state.specs.Generator.{startOf}
 use Rattle.state.specs.State.{flagOf, generatorOf, setGenerator, placeOf, messageOf, setMessage, answerLength, answerKind, answerOf, answered}
-use Rattle.lists.specs.Lists.{odtsFit, leastOf, storedLength}
+use Rattle.lists.specs.Lists.{odtsFit}
+use Rattle.state.specs.Lists.{leastOf, storedLength}
 use Rattle.lists.specs.Event.{entryBytes, gathered, contentsOf, stored, capturedOdts, captured}
 use Rattle.lists.specs.Slot.{nextCtr, answerSent, packetSent}
 use Rattle.lists.proofs.Fitting.{fit-each}
@@ -32,12 +33,12 @@ use Rattle.fields.proofs.Stores.{block-sets, sets-in}
 use Rattle.fields.proofs.Frames.{Only, out-above, only-none, only-then, only-wider, only-set, only-sets, only-put32, only-generator, only-readOn, only-message, only-place, only-answered}
 use Rattle.fields.proofs.Readers.{Same, apart, same-part, flag-reads, generator-reads, open-reads, seed-reads, mta-reads, pointer-reads, place-reads, message-reads, answer-reads}
 use Rattle.fields.proofs.Served.{answerSent-front, answerSent-session, answerSent-reader}
 use Rattle.model.specs.Model.{noEntry, noOdt, blank}
 use Rattle.model.specs.Step.{withSession, withLists, at, emptied, odtIn}
 use Rattle.model.specs.Calls.{withAnswer, withReader, answerGone, withoutPacket, packetGone, blocksIn, contentsIn, withPacket, sampled, poweredUp}
 use Rattle.model.specs.View.{entryOf, odtOf, daqOf, sessionOf, viewOf}
-use Rattle.model.proofs.Parts.{either, upTo-at, upTo-above, upTo-is, upTo-put, spared, both, odt-from, list-from, mode-own, entries-own, store-own, odt-own, own-one, list-own, lists-reads, locks-reads, in-session, in-lists}
-use Rattle.model.proofs.Shows.{Changes, changes, as-odt, store-empty, bare-session}
+use Rattle.views.proofs.Parts.{either, upTo-at, upTo-above, upTo-is, upTo-put, spared, both, odt-from, list-from, mode-own, entries-own, store-own, odt-own, own-one, list-own, lists-reads, locks-reads, in-session, in-lists}
+use Rattle.views.proofs.Shows.{Changes, changes, as-odt, store-empty, bare-session}
 
 pub session-reads : {s t : List ℕ} → Same generatorAt ctrAt s t → Same sessionAt size s t → sessionOf t ≡ sessionOf s
 unfolding sessionOf

@@ -1,13 +1,16 @@
 -- What a command leads to, by its packet p, what is seen v of the state, and how many bytes of calibration and of measured values are lent. Of each
 -- command the checks stand in the paper's order, and the first that applies answers.
-use Prim.Native.Nat.{ℕ, _+_}
-use mathlib.Core.Bool.{Bool, cond, not, false}
+use Prim.Native.Nat.{ℕ, zero, suc, _+_}
+use mathlib.Core.Bool.{Bool, true, false, cond, not}
+use mathlib.Core.List.{List}
 use lib.Dec.{eqb, ltb, leb}
 use Rattle.state.specs.Layout.{lists, events, entryMost, uploadMost, downloadMost, addressable, firstOdt, odtCount, listOf, entryCount}
+use Rattle.state.specs.Bytes.{u16At}
 use Rattle.state.specs.Generator.{keyOf}
 use Rattle.state.specs.Memory.{pick, insideOf}
 use Rattle.words.specs.Command.{commandOf, fewest, needsOf}
-use Rattle.judge.specs.Seen.{Packet, Seen}
+use Rattle.model.specs.Model.{Session, fits, runsIn}
+use Rattle.model.specs.Seen.{Packet, numbersOf, Seen}
 use Rattle.words.specs.declared.Needs.{Needs}
 use Rattle.words.specs.declared.Needs.the-variants as needs
 use Rattle.words.specs.declared.Command.{Command}
@@ -23,8 +26,8 @@ use Rattle.words.specs.declared.Mta.the-variants.{Unset, At}
 use Rattle.words.specs.declared.Pointer.{Pointer}
 use Rattle.words.specs.declared.Pointer.the-variants.{Unset as NoEntry, At as Entry}
 use Rattle.words.specs.declared.Reason.the-variants.{Unknown as UnknownCode, TooShort, Locked, Sequence, OutOfRange, DataMissing, ListRuns, ReadOnly, NotInside, CannotStart}
-use Rattle.judge.specs.declared.Deed.{Deed}
-use Rattle.judge.specs.declared.Deed.the-variants as deed
+use Rattle.model.specs.declared.Deed.{Deed}
+use Rattle.model.specs.declared.Deed.the-variants as deed
 
 abbrev pub extensionFrom : ℕ → Extension
 extensionFrom n = cond (eqb n 0) CalibrationMemory Measured
@@ -207,3 +210,36 @@ judgeBy c p v nc nm =
 
 unfoldable pub judge : Packet → Seen → ℕ → ℕ → Deed
 judge p v nc nm = judgeBy (commandOf (p .b0)) p v nc nm
+
+-- ---- what is seen of a session
+-- the pointer's list runs
+abbrev pub pointedIn : Pointer → Session → Bool
+pointedIn NoEntry c = false
+pointedIn (Entry k e) c = runsIn c (listOf k)
+
+-- every selected one of the first n lists can be started
+abbrev pub startable : Session → ℕ → Bool
+startable c l = cond (c .list l .selected) (fits l (c .list l)) true
+
+unfoldable pub allStartable : Session → ℕ → Bool
+allStartable c zero = true
+allStartable c (suc n) = cond (allStartable c n) (startable c n) false
+
+-- by the checks of a command that names list l
+abbrev pub seenIn : ℕ → Session → Seen
+seenIn l c = record {
+  calibration = c .unlocked Calibration;
+  lists = c .unlocked Lists;
+  seed = c .seed;
+  generator = c .generator;
+  mta = c .mta;
+  pointer = c .pointer;
+  runs = runsIn c l;
+  fits = fits l (c .list l);
+  pointed = pointedIn (c .pointer) c;
+  ready = allStartable c lists;
+}
+
+-- what the command in packet p leads to
+unfoldable pub judgeIn : List ℕ → Session → ℕ → ℕ → Deed
+judgeIn p c nc nm = judge (numbersOf p) (seenIn (u16At p 2) c) nc nm

@@ -19,15 +19,14 @@ use Rattle.words.specs.declared.Extension.{Extension}
 use Rattle.words.specs.declared.Pointer.{Pointer}
 use Rattle.words.specs.declared.Pointer.the-variants.{Unset as NoEntry, At as Points}
 use Rattle.words.specs.declared.Reason.the-variants.{OutOfRange, ListRuns, NotInside, CannotStart}
-use Rattle.judge.specs.Judge.{extensionFrom, clearDeed, pointerDeed, writeBlock, writeDeed, modeDeed, startDeed, startStopDeed, synchDeed, judgeThe}
-use Rattle.judge.specs.declared.Deed.{Deed}
-use Rattle.judge.specs.declared.Deed.the-variants.{ClearEntry, WriteEntry, Stop, Start, KeepRunning, Select, StopAll, StartSelected, StopSelected}
-use Rattle.session.specs.Perform.{nextEntry, written}
+use Rattle.model.specs.Judge.{extensionFrom, clearDeed, pointerDeed, writeBlock, writeDeed, modeDeed, startDeed, startStopDeed, synchDeed, judgeThe, pointedIn, allStartable, judgeIn}
+use Rattle.model.specs.declared.Deed.{Deed}
+use Rattle.model.specs.declared.Deed.the-variants.{ClearEntry, WriteEntry, Stop, Start, KeepRunning, Select, StopAll, StartSelected, StopSelected}
+use Rattle.model.specs.Step.{nextEntry, withPointer, withLists, withEntry, setEntry, odtIn, clear, setMode, switch, select, stopIt, startIfSelected, stopIfSelected, stepIn}
+use Rattle.model.specs.Answers.{written, replyIn, doneBy}
 use Rattle.model.specs.Model.{byte, put, Entry, noEntry, Odt, DaqList, Session, fits, runsIn}
-use Rattle.model.specs.Step.{withPointer, withLists, withEntry, setEntry, odtIn, clear, setMode, switch, select, stopIt, startIfSelected, stopIfSelected, stepIn}
-use Rattle.model.specs.Answers.{pointedIn, allStartable, judgeIn, replyIn, doneBy}
-use Rattle.model.specs.Commands.{two, four, extensionNumber, TheGenerator, Whether-open, TheLocks, TheSeed, TheMta, ThePointer, TheLists, AllBut, AllButBoth, CLEAR-DAQ-LIST, SET-DAQ-PTR, WRITE-DAQ, SET-DAQ-LIST-MODE, Switched, Unswitched, START-STOP-DAQ-LIST, START-STOP-SYNCH}
-use Rattle.model.proofs.Taken.{four-is, named-by, fe-ff, Taken, unless, provided, branch, judged, Leads}
+use Rattle.views.specs.Commands.{two, four, extensionNumber, TheGenerator, Whether-open, TheLocks, TheSeed, TheMta, ThePointer, TheLists, AllBut, AllButBoth, CLEAR-DAQ-LIST, SET-DAQ-PTR, WRITE-DAQ, SET-DAQ-LIST-MODE, Switched, Unswitched, START-STOP-DAQ-LIST, START-STOP-SYNCH}
+use Rattle.views.proofs.Taken.{four-is, named-by, fe-ff, Taken, unless, provided, branch, judged, Leads}
 
 -- ---- what is left
 but-pointer : (c : Session) (x : Pointer) → AllBut ThePointer c (withPointer c x)

@@ -1,6 +1,9 @@
 -- What the checks look at: a packet's numbers, and what is seen of the state.
 use Prim.Native.Nat.{ℕ}
 use mathlib.Core.Bool.{Bool}
+use mathlib.Core.List.{List}
+use lib.ListN.{length, getD}
+use Rattle.state.specs.Bytes.{u16At, u32At}
 use Rattle.words.specs.declared.Seed.{Seed}
 use Rattle.words.specs.declared.Mta.{Mta}
 use Rattle.words.specs.declared.Pointer.{Pointer}
@@ -20,6 +23,24 @@ pub record Packet : Type 0 where
   pub w4 : ℕ
   pub d2 : ℕ
   pub d4 : ℕ
+
+-- those in packet p
+abbrev pub numbersOf : List ℕ → Packet
+numbersOf p = record {
+  n = length p;
+  b0 = getD p 0 0;
+  b1 = getD p 1 0;
+  b2 = getD p 2 0;
+  b3 = getD p 3 0;
+  b4 = getD p 4 0;
+  b5 = getD p 5 0;
+  b6 = getD p 6 0;
+  b7 = getD p 7 0;
+  w2 = u16At p 2;
+  w4 = u16At p 4;
+  d2 = u32At p 2;
+  d4 = u32At p 4;
+}
 
 -- calibration and lists are unlocked; the list that w2 names runs, and it could be started; the pointer's list runs; every selected list could be started
 pub record Seen : Type 0 where

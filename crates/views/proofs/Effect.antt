@@ -13,22 +13,23 @@ use Rattle.state.specs.Layout.{size, lists, firstOdt, odtCount, allOdts, entryC
 use Rattle.state.specs.Generator.{nextOf}
 use Rattle.state.specs.Memory.{pick, insideOf}
 use Rattle.state.specs.State.{openOf, generatorOf, setGenerator, lockAt, setPointer, Pointed}
-use Rattle.lists.specs.Lists.{bytesOfFirst, odtBytes, bytesOfOdts, odtsFit, fitOf, runsOf, selectedOf, switched, stopEach, startOne, startSelected, stopOne, stopSelected}
+use Rattle.lists.specs.Lists.{bytesOfFirst, odtBytes, bytesOfOdts, odtsFit, fitOf, runsOf, switched, stopEach, startOne, startSelected, stopOne, stopSelected}
+use Rattle.state.specs.Lists.{selectedOf}
 use Rattle.judge.specs.Doable.{Doable}
-use Rattle.session.specs.Perform.{nextEntry, effect}
+use Rattle.model.specs.Step.{nextEntry, withSession, withSeed, withPointer, withLists, switch, select, stopIt, startIfSelected, stopIfSelected, stepIn, step}
+use Rattle.session.specs.Perform.{effect}
 use Rattle.words.specs.declared.Seed.the-variants.{None, For}
-use Rattle.judge.specs.declared.Deed.{Deed}
-use Rattle.judge.specs.declared.Deed.the-variants.{Refuse, RefuseSize, WrongKey, Connect, Disconnect, Status, Synch, NoSeed, GiveSeed, Unlock, SetMta, Upload, ShortUpload, Checksum, Download, ClearList, SetPointer, ClearEntry, WriteEntry, SetMode, Stop, Start, KeepRunning, Select, StopAll, StartSelected, StopSelected, ProcessorInfo, ResolutionInfo}
+use Rattle.model.specs.declared.Deed.{Deed}
+use Rattle.model.specs.declared.Deed.the-variants.{Refuse, RefuseSize, WrongKey, Connect, Disconnect, Status, Synch, NoSeed, GiveSeed, Unlock, SetMta, Upload, ShortUpload, Checksum, Download, ClearList, SetPointer, ClearEntry, WriteEntry, SetMode, Stop, Start, KeepRunning, Select, StopAll, StartSelected, StopSelected, ProcessorInfo, ResolutionInfo}
 use Rattle.state.proofs.Inside.{inside-le}
 use Rattle.fields.proofs.Frames.{Only, only-none, only-set, only-wider, only-generator, only-lock}
 use Rattle.fields.proofs.Readers.{apart, open-reads}
 use Rattle.fields.proofs.Effects.{effected, only-switched, only-listCleared, only-modeSet, only-entryCleared, only-entrySet, only-stopEach, only-startSelected, only-stopSelected}
 use Rattle.model.specs.Model.{put, noEntry, noOdt, DaqList, noList, Session, sizesOf, bytesIn, allBytes, eachFits, fits, runs, runsIn}
-use Rattle.model.specs.Step.{withSession, withSeed, withPointer, withLists, switch, select, stopIt, startIfSelected, stopIfSelected, stepIn, step}
 use Rattle.model.specs.View.{entryOf, odtOf, daqOf, listsOf, sessionOf, viewOf}
-use Rattle.model.proofs.Fit.{Fit}
-use Rattle.model.proofs.Parts.{either, upTo-at, upTo-above, in-session, in-lists}
-use Rattle.model.proofs.Shows.{shows-seed, shows-generator, shows-mta, shows-pointer, shows-lock, shows-closed, shows-fresh, Changes, changes-switched, changes-selected, changes-mode, changes-cleared, changes-entryCleared, changes-entrySet}
+use Rattle.views.proofs.Fit.{Fit}
+use Rattle.views.proofs.Parts.{either, upTo-at, upTo-above, in-session, in-lists}
+use Rattle.views.proofs.Shows.{shows-seed, shows-generator, shows-mta, shows-pointer, shows-lock, shows-closed, shows-fresh, Changes, changes-switched, changes-selected, changes-mode, changes-cleared, changes-entryCleared, changes-entrySet}
 
 -- ---- what is read of a list that there is
 module _ (s : List ℕ) where
