@@ -1,4 +1,6 @@
 // What is said of a sheet that is wrong: `bad` on standard output, and on standard error where it is wrong, and what.
+use line::MOST;
+use line::ROOM;
 use syntax::Fault;
 use syntax::Step;
 
@@ -10,6 +12,13 @@ fn say_bad() {
     io::write_all(1, b"bad\n");
 }
 
+// How many bytes a packet has at most.
+fn tell_most(text: &[u8]) {
+    tell(text);
+    io::print_decimal(2, MOST as u64);
+    tell(b" bytes");
+}
+
 fn tell_step(step: Step) {
     match step {
         Step::PowerUp => tell(b"P takes 4 bytes, and none to expect"),
@@ -17,16 +26,27 @@ fn tell_step(step: Step) {
             b"M takes a place of 2 bytes and bytes that lie below 4,096 from there on, and none to expect",
         ),
         Step::Wire => tell(b"W takes wire bytes, and after = a number to expect for each"),
-        Step::Command => tell(b"> takes a command of 1 to 8 bytes"),
-        Step::Slot => tell(b"< takes a packet of 1 to 8 bytes, or - alone"),
+        Step::Command => tell_most(b"> takes a command of 1 to "),
+        Step::Slot => {
+            tell_most(b"< takes a packet of 1 to ");
+            tell(b", or - alone");
+        }
         Step::Unlock => tell(b"U takes 01 or 04, and after = the 4 bytes of the key to expect"),
-        Step::Repeat => tell(
-            b"R takes how often, from 01 on, and a command of 1 to 8 bytes, and after = the answer to expect, of 1 to 8 bytes",
-        ),
+        Step::Repeat => {
+            tell_most(b"R takes how often, from 01 on, and a command of 1 to ");
+            tell_most(b", and after = the answer to expect, of 1 to ");
+        }
         Step::Event => tell(
             b"E takes a number and 2 bytes of clock, and after = the lists to sample and the lists to miss it, or the number of a refusal",
         ),
     }
+}
+
+// How many bytes a list has at most.
+fn tell_hex() {
+    tell(b"from here on not used: bytes are two capital hex digits, one space between, at most ");
+    io::print_decimal(2, ROOM as u64);
+    tell(b", with ' = ' before those to expect");
 }
 
 fn tell_fault(fault: Fault) {
@@ -40,9 +60,7 @@ fn tell_fault(fault: Fault) {
         Fault::Name => tell(
             b"a step's name ends here with a space, and its bytes begin in the next column",
         ),
-        Fault::Hex => tell(
-            b"from here on not used: bytes are two capital hex digits, one space between, at most 23, with ' = ' before those to expect",
-        ),
+        Fault::Hex => tell_hex(),
         Fault::Bytes(step) => tell_step(step),
         Fault::Expected(step) => tell_step(step),
         Fault::Stepless => tell(b"a case without a step"),

@@ -47,6 +47,12 @@ fn print_name(text: &[u8]) {
     show::print(bytes::part(text, syntax::NAME, syntax::BYTES - syntax::NAME));
 }
 
+fn begin_case(text: &[u8], was: Tool) -> Tool {
+    show::print(bytes::part(text, syntax::NAME, text.len()));
+    show::print(b"\n");
+    was.begun()
+}
+
 fn end_case(was: Tool) -> Tool {
     show::print(b"  the whole case           ");
     show::print_verdict(was.good);
@@ -64,11 +70,7 @@ fn run_turn(
 ) -> Tool {
     match turn {
         Turn::Pass => was,
-        Turn::Begin => {
-            show::print(bytes::part(text, syntax::NAME, text.len()));
-            show::print(b"\n");
-            was.begun()
-        }
+        Turn::Begin => begin_case(text, was),
         Turn::End => end_case(was),
         Turn::Run(step, n, m) => {
             print_name(text);
