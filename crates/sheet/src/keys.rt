@@ -1,4 +1,5 @@
 // The resource that a key is for, and the command that it goes in.
+use state::bytes::store32;
 use words::Resource;
 
 // 01 is calibration, 04 the lists.
@@ -10,17 +11,9 @@ pub fn resource(code: u8) -> Resource {
     }
 }
 
-fn low(x: u32) -> u8 {
-    (x % 256) as u8
-}
-
-// The four bytes of a key.
-pub fn bytes(key: u32) -> [u8; 4] {
-    [low(key), low(key >> 8), low(key >> 16), low(key >> 24)]
-}
-
 // UNLOCK with this key.
 pub fn unlock(key: u32) -> [u8; 6] {
-    let k = bytes(key);
-    [0xF7, 4, k[0], k[1], k[2], k[3]]
+    let mut packet = [0xF7, 4, 0, 0, 0, 0];
+    store32(&mut packet, 2, key);
+    packet
 }

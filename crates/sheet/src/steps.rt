@@ -15,6 +15,7 @@ use session::STATE_SIZE;
 use state::bytes::get;
 use state::bytes::get16;
 use state::bytes::get32;
+use state::bytes::store32;
 use state::layout::ADDRESSABLE;
 use state::seeds::key_for;
 use words::Evented;
@@ -126,7 +127,8 @@ pub fn unlock(
 }
 
 fn check_key(key: u32, expected: &[u8]) -> bool {
-    let bytes = keys::bytes(key);
+    let mut bytes = [0; 4];
+    store32(&mut bytes, 0, key);
     show::print(b"key ");
     show::print_bytes(&bytes);
     let good = show::check(&bytes, expected);
