@@ -1,8 +1,8 @@
--- Places in bytes.
-use Prim.Native.Nat.{ℕ, suc, _-_}
+-- Parts of bytes, and bytes that are stored.
+use Prim.Native.Nat.{ℕ, _-_}
 use mathlib.Core.Bool.{cond}
-use mathlib.Core.List.{List, [], _∷_}
-use lib.Dec.{eqb, ltb}
+use mathlib.Core.List.{List}
+use lib.Dec.{ltb}
 use lib.ListN.{length, take, drop}
 use lib.Seq.{sets}
 use Rattle.state.specs.Layout.{addressable}
@@ -13,11 +13,6 @@ leastOf a b = cond (ltb a b) a b
 -- the n bytes from k on, or as many of them as there are
 abbrev pub partOf : List ℕ → ℕ → ℕ → List ℕ
 partOf s k n = take (leastOf n (length s - leastOf k (length s))) (drop (leastOf k (length s)) s)
-
--- how many bytes stand before the first b
-unfoldable pub before : ℕ → List ℕ → ℕ
-before b [] = 0
-before b (c ∷ cs) = cond (eqb c b) 0 (suc (before b cs))
 
 -- xs stored in a memory from `at` on, as far as it goes
 abbrev pub storedIn : List ℕ → ℕ → List ℕ → List ℕ

@@ -1,8 +1,7 @@
-// Parts of bytes, and places in them.
-ghost use Prim.Native.Nat.{_+_, _≤_};
+// Parts of bytes.
+ghost use Prim.Native.Nat.{_≤_};
 ghost use mathlib.Core.Path.{_≡_};
-ghost use lib.ListN.{length, drop};
-ghost use Rattle.sheet.specs.Bytes.{leastOf, partOf, before};
+ghost use Rattle.sheet.specs.Bytes.{leastOf, partOf};
 use line::ROOM;
 
 pub fn least(a: usize, b: usize) -> usize
@@ -25,19 +24,4 @@ pub fn front(bytes: &[u8; ROOM], len: usize) -> &[u8]
     ensures { λ r. ⌜ now r ≡ partOf (now (bytes .entry)) 0 len ⌝ }
 {
     part(bytes, 0, len)
-}
-
-// The place of the first such byte from a place on, or the end.
-pub fn find(bytes: &[u8], from: usize, byte: u8) -> usize
-    requires { ⌜ from ≤ length (now bytes) ⌝ }
-    ensures { λ r. ⌜ (from ≤ r) × (r ≤ length (now (bytes .entry))) × (r ≡ from + before byte (drop from (now (bytes .entry)))) ⌝ }
-{
-    let mut at = from;
-    while at < bytes.len() {
-        if bytes[at] == byte {
-            return at;
-        }
-        at += 1;
-    }
-    at
 }

@@ -107,7 +107,7 @@ fn run_lines(
     let mut tool = Tool::new();
     let mut at = 0;
     while at < text.len() {
-        let end = bytes::find(text, at, b'\n');
+        let end = syntax::line_end(text, at);
         tool = run_line(&text[at..end], tool, state, cal, meas);
         if tool.stopped {
             return tool;

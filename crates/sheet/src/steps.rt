@@ -126,6 +126,7 @@ pub fn unlock(
     command(&keys::unlock(key), b"", was.judged(good), state, cal, meas)
 }
 
+// The key, and whether it is the expected one.
 fn check_key(key: u32, expected: &[u8]) -> bool {
     let mut bytes = [0; 4];
     store32(&mut bytes, 0, key);

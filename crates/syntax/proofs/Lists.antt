@@ -1,4 +1,4 @@
--- Laws of lists of bytes in capital hex, and of the printable front of a line. Assumes nothing.
+-- Laws of lists of bytes in capital hex, of the printable front of a line, and of its end. Assumes nothing.
 use mathlib.Core.Path.{_≡_, ap, _∙_}
 use mathlib.Core.List.{List, [], _∷_}
 use Prim.Native.Nat.{ℕ, zero, suc, _+_, _-_, _*_, _<_, _≤_}
@@ -8,7 +8,7 @@ use native.Mathlib.Nat.{not-suc-le-zero}
 use lib.ListN.{length, getD, set, drop, drop-of-length-le}
 use lib.Seq.{sets, drop-cons}
 use lib.Dec.{eqb, ltb}
-use borrow.Author.Tests.{le-leb, lt-leb}
+use borrow.Author.Tests.{le-leb, lt-leb, eq-eqb, ne-eqb}
 use Rattle.line.specs.Message.{room}
 use Rattle.line.proofs.Laws.{cond-ind}
 use Rattle.syntax.specs.declared.hex.Pair.{Pair}
@@ -16,7 +16,7 @@ use Rattle.syntax.specs.declared.hex.Pair.the-variants.{Nothing, Last, M
 use Rattle.syntax.specs.declared.Step.{Step}
 use Rattle.syntax.specs.Hex.{pairAt, counted, pairsFrom, valueAt, valuesFrom}
 use Rattle.syntax.specs.Columns.{bytesAt, firstMost}
-use Rattle.syntax.specs.Form.{plainOf, dashes, firstEnd}
+use Rattle.syntax.specs.Form.{newline, lineLength, plainOf, dashes, firstEnd}
 
 -- no byte stands at k
 pub pairs-none : (s : List ℕ) (k n : ℕ) → 0 < n → pairAt s k ≡ Nothing → pairsFrom n s k ≡ 0
@@ -108,3 +108,16 @@ first-most step s n h =
     (λ _. cond-ind (λ (k : ℕ). k ≤ firstMost) (eqb (getD s bytesAt 0) 45)
     (λ _. cond-ind (λ (k : ℕ). k ≤ firstMost) (dashes step) (λ _. omega arith) (λ _. omega arith))
     (λ _. omega arith))
+
+-- a line ends here, further on, or with the text
+pub line-here : (s : List ℕ) (i : ℕ) → i < length s → getD s i 0 ≡ newline → lineLength (drop i s) ≡ 0
+unfolding lineLength
+line-here s i h e = rw (drop-cons s i 0 h, eq-eqb (getD s i 0) newline e)
+
+pub line-next : (s : List ℕ) (i : ℕ) → i < length s → (getD s i 0 ≡ newline → ⊥) → lineLength (drop i s) ≡ suc (lineLength (drop (i + 1) s))
+unfolding lineLength
+line-next s i h n = rw (add-one, drop-cons s i 0 h, ne-eqb (getD s i 0) newline n)
+
+pub line-end : (s : List ℕ) (i : ℕ) → length s ≤ i → lineLength (drop i s) ≡ 0
+unfolding lineLength
+line-end s i g = rw (drop-of-length-le s {i = i} g)

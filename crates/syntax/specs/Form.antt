@@ -18,6 +18,14 @@ use Rattle.syntax.specs.declared.Line.the-variants as line
 use Rattle.syntax.specs.Columns.{bytesAt}
 use Rattle.syntax.specs.Hex.{space, valueAt, pairsFrom, valuesFrom, spelled}
 
+abbrev pub newline : ℕ
+newline = 10
+
+-- how many bytes the first line has, whose end is a newline or the text's
+unfoldable pub lineLength : List ℕ → ℕ
+lineLength [] = 0
+lineLength (c ∷ cs) = cond (eqb c newline) 0 (suc (lineLength cs))
+
 abbrev pub bad : Fault → ℕ → Line
 bad f k = line.Bad f k
 

@@ -2,11 +2,12 @@
 // bytes, and after an = sign those to expect; nothing else. A title has a # sign, a space and its words. An empty line ends a
 // case.
 ghost use mathlib.Core.Path.{_≡_};
-ghost use Prim.Native.Nat.{_≤_, min};
+ghost use Prim.Native.Nat.{_+_, _≤_, min};
+ghost use lib.ListN.{length, drop};
 ghost use lib.Seq.{sets};
 ghost use Rattle.line.specs.Message.{room};
 ghost use Rattle.syntax.specs.Columns.{firstMost};
-ghost use Rattle.syntax.specs.Form.{plainOf, kindOf, placedOf, resourceOf, timesOf, bytesFit, someUpTo, expectedFits, fittedOf, dashes, firstEnd, signAt, expectingOf, listsOf, stepOf, kindLine, lineOf, stepBytes, expectedBytes};
+ghost use Rattle.syntax.specs.Form.{lineLength, plainOf, kindOf, placedOf, resourceOf, timesOf, bytesFit, someUpTo, expectedFits, fittedOf, dashes, firstEnd, signAt, expectingOf, listsOf, stepOf, kindLine, lineOf, stepBytes, expectedBytes};
 use crate::Fault;
 use crate::Line;
 use crate::Step;
@@ -28,6 +29,20 @@ enum Kind {
     Title,
     Does(Step),
     Neither,
+}
+
+// Where the line that begins at a place ends.
+pub fn line_end(text: &[u8], from: usize) -> usize
+    ensures { λ r. ⌜ (from ≤ r) × (from ≤ length (now (text .entry)) → r ≤ length (now (text .entry))) × (r ≡ from + lineLength (drop from (now (text .entry)))) ⌝ }
+{
+    let mut at = from;
+    while at < text.len() {
+        if text[at] == b'\n' {
+            return at;
+        }
+        at += 1;
+    }
+    at
 }
 
 // How many signs of printable ASCII stand at the front.

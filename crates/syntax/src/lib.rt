@@ -8,6 +8,7 @@ pub use form::BYTES;
 pub use form::NAME;
 pub use form::bytes;
 pub use form::expected;
+pub use form::line_end;
 pub use form::line_of;
 
 pub enum Step {

@@ -1,5 +1,5 @@
 use borrow.Author.Needs.{needs}
-use Rattle.sheet.proofs.Places.{part-back}
+use Rattle.sheet.proofs.Parts.{part-back}
 use Rattle.sheet.proofs.bytes.part.Statement.{statement}
 use Rattle.sheet.proofs.bytes.part.Tie as tie
 

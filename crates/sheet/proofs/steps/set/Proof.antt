@@ -5,7 +5,7 @@ use Prim.Native.Nat.{_≤_, _-_}
 use lib.ListN.{take}
 use lib.Seq.{sets}
 use borrow.Author.Needs.{needs}
-use Rattle.sheet.proofs.Places.{stored-next, stored-all}
+use Rattle.sheet.proofs.Parts.{stored-next, stored-all}
 use Rattle.sheet.proofs.steps.set.Statement.{statement}
 use Rattle.sheet.proofs.steps.set.Tie as tie
 

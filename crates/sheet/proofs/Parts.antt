@@ -1,28 +1,14 @@
--- Laws of places in bytes, and of bytes that are stored. Assumes nothing.
-use mathlib.Core.Path.{_≡_, sym, _∙_}
+-- Laws of parts of bytes, and of bytes that are stored. Assumes nothing.
+use mathlib.Core.Path.{_≡_, _∙_}
 use mathlib.Core.List.{List}
-use Prim.Native.Nat.{ℕ, suc, _+_, _-_, _<_, _≤_}
+use Prim.Native.Nat.{ℕ, _+_, _-_, _<_}
 use native.Mathlib.Numerals.{add-one}
 use native.Mathlib.Omega.{arith}
-use lib.ListN.{length, getD, set, take, drop, drop-of-length-le}
-use lib.Seq.{sets, take-suc, length-take-le, drop-cons}
-use borrow.Author.Tests.{eq-eqb, ne-eqb}
+use lib.ListN.{length, getD, set, take, drop}
+use lib.Seq.{sets, take-suc, length-take-le}
 use Rattle.state.specs.Layout.{addressable}
 use Rattle.state.proofs.Sets.{sets-next}
-use Rattle.sheet.specs.Bytes.{leastOf, partOf, before, storedIn}
-
--- the place of a byte: here, further on, nowhere
-pub before-here : (b : ℕ) (s : List ℕ) (i : ℕ) → i < length s → getD s i 0 ≡ b → before b (drop i s) ≡ 0
-unfolding before
-before-here b s i h e = rw (drop-cons s i 0 h, eq-eqb (getD s i 0) b e)
-
-pub before-next : (b : ℕ) (s : List ℕ) (i : ℕ) → i < length s → (getD s i 0 ≡ b → ⊥) → before b (drop i s) ≡ suc (before b (drop (i + 1) s))
-unfolding before
-before-next b s i h n = rw (add-one, drop-cons s i 0 h, ne-eqb (getD s i 0) b n)
-
-pub before-end : (b : ℕ) (s : List ℕ) (i : ℕ) → length s ≤ i → before b (drop i s) ≡ 0
-unfolding before
-before-end b s i g = rw (drop-of-length-le s {i = i} g)
+use Rattle.sheet.specs.Bytes.{leastOf, partOf, storedIn}
 
 -- the part of a slice from a on that has b bytes
 pub part-back : (s : List ℕ) (k n a b : ℕ) → a ≡ leastOf k (length s) → b ≡ leastOf n (length s - a) → take (a + b - a) (drop a s) ≡ partOf s k n
