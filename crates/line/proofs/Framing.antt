@@ -35,26 +35,26 @@ pub data Along (r : Messages) : ℕ → List ℕ → List ℕ → ℕ → List �
 
 module _ (r : Messages) where
   -- what a byte of a message leads to, and then a run over bytes of the wire
-  abbrev pub after : Fed → List ℕ → Ran
-  after f bs = then f (runBy (takeBy r) (f .taken .place) (f .message) bs)
+  abbrev pub onwards : Fed → List ℕ → Ran
+  onwards f bs = then f (runBy (takeBy r) (f .taken .place) (f .message) bs)
 
   -- a stuffed byte reaches the reader of message bytes once
   pub byte : (k : ℕ) (m : List ℕ) (x : ℕ) (bs : List ℕ) → r .begun k m ≡ true
-      → runBy (takeBy r) (Inside k) m (stuffByte x ++ bs) ≡ quiet (length (stuffByte x) - 1) (after (r .put k m x) bs)
+      → runBy (takeBy r) (Inside k) m (stuffByte x ++ bs) ≡ quiet (length (stuffByte x) - 1) (onwards (r .put k m x) bs)
   byte k m x bs g = go (eqb x SYNC) (eqb x ESC) refl refl
     where
-      go : (t u : Bool) → eqb x SYNC ≡ t → eqb x ESC ≡ u → runBy (takeBy r) (Inside k) m (stuffByte x ++ bs) ≡ quiet (length (stuffByte x) - 1) (after (r .put k m x) bs)
+      go : (t u : Bool) → eqb x SYNC ≡ t → eqb x ESC ≡ u → runBy (takeBy r) (Inside k) m (stuffByte x ++ bs) ≡ quiet (length (stuffByte x) - 1) (onwards (r .put k m x) bs)
       go true u e f = rw (eqb-true x SYNC e) (simp g)
       go false true e f = rw (eqb-true x ESC f) (simp g)
       go false false e f = simp (e, f, g)
 
   -- so do the bytes xs of a message that goes on, and its last byte x
   pub framed : {k j : ℕ} {m m′ xs : List ℕ} (x : ℕ) → Along r k m xs j m′ → r .begun j m′ ≡ true
-      → runBy (takeBy r) (Inside k) m (stuff (xs ++ x ∷ [])) ≡ quiet (length (stuff (xs ++ x ∷ [])) - 1) (after (r .put j m′ x) [])
+      → runBy (takeBy r) (Inside k) m (stuff (xs ++ x ∷ [])) ≡ quiet (length (stuff (xs ++ x ∷ [])) - 1) (onwards (r .put j m′ x) [])
   framed {k = k} {m = m} x here g = rw (append-nil (stuffByte x)) (rw (append-nil (stuffByte x)) at (byte k m x [] g))
   framed x (step {k = k} {j = j} {i = i} {x = y} {m = m} {m′ = m′} {m″ = m″} {xs = xs} h e a) g =
       let rest = stuff (xs ++ x ∷ []) in
-      let last = after (r .put i m″ x) [] in
+      let last = onwards (r .put i m″ x) [] in
       let n : (length (stuffByte y) - 1) + (1 + (length rest - 1)) ≡ length (stuffByte y ++ rest) - 1 =
       rw (length-append (stuffByte y) rest) (omega (arith, byte-size y, stuff-some xs x)) in
       byte k m y rest h

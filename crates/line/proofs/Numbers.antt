@@ -6,7 +6,7 @@ use native.Mathlib.Omega.{arith}
 use lib.ListN.{length, take, set, length-append, List·getD-append}
 use lib.Seq.{take-append-seam, getD-set-other, drop-at, getD-at}
 use Rattle.line.specs.Form.{Form, bytesOf, numberAt, filled}
-use Rattle.line.specs.Message.{byteForm, packetAt, checksumAt, sizeIn, Serial, headIn, messageIn}
+use Rattle.line.specs.Message.{byteForm, packetBegins, checksumAt, sizeIn, Serial, headIn, messageIn}
 use Rattle.line.specs.Reader.{lenIn}
 use Rattle.line.specs.Wire.{part}
 
@@ -68,14 +68,14 @@ module _ (f : Form) (s : Serial f) (ctr : ℕ) (packet rest : List ℕ) where
   pub check-lies : numberAt (f .sumWidth) (checksumAt f (length packet)) (messageIn f ctr packet ++ rest) ≡ f .checksum (headIn f ctr packet)
   check-lies = rw (append-assoc (headIn f ctr packet)) (number-at (f .sumWidth) (checksumAt f (length packet)) (f .checksum (headIn f ctr packet)) (headIn f ctr packet) rest (s .summed) (head-length f ctr packet))
 
-  pub packet-lies : part (packetAt f) (length packet) (messageIn f ctr packet ++ rest) ≡ packet
+  pub packet-lies : part (packetBegins f) (length packet) (messageIn f ctr packet ++ rest) ≡ packet
   packet-lies =
       let a : List ℕ = bytesOf (f .width) (length packet) in
       let b : List ℕ = bytesOf (f .width) ctr in
       let x : List ℕ = bytesOf (f .sumWidth) (f .checksum (headIn f ctr packet)) ++ rest in
-      let l : length (a ++ b) ≡ packetAt f = simp (length-append, bytes-length) in
-      ap (part (packetAt f) (length packet)) (lies ∙ sym (append-assoc a b (filled (f .fill (length packet)) packet ++ x)))
-      ∙ rw (drop-at (a ++ b) (filled (f .fill (length packet)) packet ++ x) (packetAt f) l) (filled-front (f .fill (length packet)) packet x)
+      let l : length (a ++ b) ≡ packetBegins f = simp (length-append, bytes-length) in
+      ap (part (packetBegins f) (length packet)) (lies ∙ sym (append-assoc a b (filled (f .fill (length packet)) packet ++ x)))
+      ∙ rw (drop-at (a ++ b) (filled (f .fill (length packet)) packet ++ x) (packetBegins f) l) (filled-front (f .fill (length packet)) packet x)
 
 -- ---- the byte form
 pub byte-serial : Serial byteForm

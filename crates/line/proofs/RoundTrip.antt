@@ -10,7 +10,7 @@ use lib.ListN.{length, take, drop, set, length-append}
 use lib.Seq.{take-at}
 use Rattle.line.specs.Stuffing.{stuff}
 use Rattle.line.specs.Form.{Form, bytesOf, numberAt}
-use Rattle.line.specs.Message.{packetAt, checksumAt, sizeIn, longestIn, Serial, headIn, messageIn, frameIn, byteForm, most, longest, frame}
+use Rattle.line.specs.Message.{packetBegins, checksumAt, sizeIn, longestIn, Serial, headIn, messageIn, frameIn, byteForm, most, longest, frame}
 use Rattle.line.specs.Unstuffing.{on, over, placeBy, cutOf, takeBy}
 use Rattle.line.specs.Reader.{lenIn, begunIn, judgedIn, putIn, messagesIn, takeIn, takeOf}
 use Rattle.line.specs.Writer.{atFront}
@@ -34,7 +34,7 @@ split-last (x ∷ y ∷ q) some = let r = split-last (y ∷ q) (omega arith) in 
 
 -- what is judged by what lies in the buffer
 judged-by : (f : Form) (l : List ℕ) (n c x : ℕ) → lenIn f l ≡ n → numberAt (f .width) (f .width) l ≡ c → numberAt (f .sumWidth) (checksumAt f n) l ≡ x
-    → f .checksum (take (checksumAt f n) l) ≡ x → judgedIn f l ≡ Good c (packetAt f) n
+    → f .checksum (take (checksumAt f n) l) ≡ x → judgedIn f l ≡ Good c (packetBegins f) n
 judged-by f l n c x e₁ e₂ e₃ e₄ = simp (e₁, e₂, e₃, e₄, eq-eqb x x refl)
 
 module _ (f : Form) (s : Serial f) (m packet : List ℕ) (ctr : ℕ) (fits : longestIn f ≤ length m) (some : 1 ≤ length packet) (few : length packet ≤ f .most) where
@@ -88,7 +88,7 @@ module _ (f : Form) (s : Serial f) (m packet : List ℕ) (ctr : ℕ) (fits : lon
   len-there : lenIn f (atFront whole m) ≡ length packet
   len-there = ap (lenIn f) there ∙ len-lies f s ctr packet (drop (length whole) m)
 
-  judged : judgedIn f (atFront whole m) ≡ Good ctr (packetAt f) (length packet)
+  judged : judgedIn f (atFront whole m) ≡ Good ctr (packetBegins f) (length packet)
   judged =
       let rest : List ℕ = drop (length whole) m in
       let head : List ℕ = headIn f ctr packet in
@@ -99,7 +99,7 @@ module _ (f : Form) (s : Serial f) (m packet : List ℕ) (ctr : ℕ) (fits : lon
       ∙ ap (f .checksum) (take-at head (tail ++ rest) (checksumAt f (length packet)) (head-length f ctr packet)))
 
   -- its last byte
-  last : (xs : List ℕ) (x : ℕ) → xs ++ x ∷ [] ≡ whole → putIn f (length xs) (atFront xs m) x ≡ over (Good ctr (packetAt f) (length packet)) (atFront whole m)
+  last : (xs : List ℕ) (x : ℕ) → xs ++ x ∷ [] ≡ whole → putIn f (length xs) (atFront xs m) x ≡ over (Good ctr (packetBegins f) (length packet)) (atFront whole m)
   last xs x e =
       let l : length xs + 1 ≡ sizeIn f (length packet) = sym (length-append xs (x ∷ [])) ∙ ap length e ∙ whole-length in
       let b : set (atFront xs m) (length xs) x ≡ atFront whole m = sym (front-next xs m x) ∙ ap (λ (q : List ℕ). atFront q m) e in
@@ -109,7 +109,7 @@ module _ (f : Form) (s : Serial f) (m packet : List ℕ) (ctr : ℕ) (fits : lon
 
   -- what the message comes to after its SYNC
   through : (xs : List ℕ) (x : ℕ) → xs ++ x ∷ [] ≡ whole
-      → runBy (takeBy (messagesIn f)) (Inside 0) m (stuff whole) ≡ quiet (length (stuff whole) - 1) (record { outcomes = Good ctr (packetAt f) (length packet) ∷ []; place = Outside; message = atFront whole m })
+      → runBy (takeBy (messagesIn f)) (Inside 0) m (stuff whole) ≡ quiet (length (stuff whole) - 1) (record { outcomes = Good ctr (packetBegins f) (length packet) ∷ []; place = Outside; message = atFront whole m })
   through xs x e = rw (last xs x e, e) at (framed (messagesIn f) x (more [] xs x e) (begun-there xs (x ∷ []) e (omega arith)))
 
   -- what a frame comes to, from any place
@@ -120,7 +120,7 @@ module _ (f : Form) (s : Serial f) (m packet : List ℕ) (ctr : ℕ) (fits : lon
       ∙ ap (λ (r : Ran). record { outcomes = cutOf (placeBy (messagesIn f) p m) ∷ r .outcomes; place = r .place; message = r .message }) (through (w .0) (w .1) (w .2))
 
   -- the good message points to its packet in the buffer
-  pub packet-there : part (packetAt f) (length packet) (atFront whole m) ≡ packet
+  pub packet-there : part (packetBegins f) (length packet) (atFront whole m) ≡ packet
   packet-there = rw there (packet-lies f s ctr packet (drop (length whole) m))
 
 -- the same after anything at all

@@ -11,7 +11,7 @@ use lib.ListN.{length, take, drop, set, length-set, length-drop}
 use lib.Seq.{take-suc-set, take-add, drop-cons, length-take-le}
 use Rattle.line.specs.Stuffing.{SYNC, ESC, stuff, onWire}
 use Rattle.line.specs.Form.{Form, bytesOf}
-use Rattle.line.specs.Message.{packetAt, checksumAt, sizeIn, longestIn, Serial, withChecksumIn, byteForm, most, longest, message, frame}
+use Rattle.line.specs.Message.{packetBegins, checksumAt, sizeIn, longestIn, Serial, withChecksumIn, byteForm, most, longest, message, frame}
 use Rattle.line.specs.Unstuffing.{Fed, placeBy, cutOf}
 use Rattle.line.specs.Reader.{lenIn, messagesIn, takeIn, messages, takeOf}
 use Rattle.line.specs.Run.{runIn}
@@ -157,7 +157,7 @@ module _ (f : Form) (c at n : ℕ) (m h : List ℕ) (came : Came f c at n m h) (
   head-read =
       let len : take (f .width) m ≡ bytesOf (f .width) n = exact 0 (omega (arith, came .whole)) ∙ ap (bytesOf (f .width)) (came .len) in
       let ctr : part (f .width) (f .width) m ≡ bytesOf (f .width) c = exact (f .width) (omega (arith, came .whole)) ∙ ap (bytesOf (f .width)) (came .ctr) in
-      take-add (packetAt f) (n + f .fill n) m ∙ rw (take-add (f .width) (f .width) m, len, ctr, came .start) (append-assoc (bytesOf (f .width) n) (bytesOf (f .width) c) (part (packetAt f) (n + f .fill n) m))
+      take-add (packetBegins f) (n + f .fill n) m ∙ rw (take-add (f .width) (f .width) m, len, ctr, came .start) (append-assoc (bytesOf (f .width) n) (bytesOf (f .width) c) (part (packetBegins f) (n + f .fill n) m))
 
   pub message-read : take (sizeIn f n) m ≡ withChecksumIn f (bytesOf (f .width) n ++ (bytesOf (f .width) c ++ part at (n + f .fill n) m))
   message-read =
@@ -185,7 +185,7 @@ sound-frame p m bs b c at n good =
     (came .earlier, came .bytes ∙ ap (λ (q : List ℕ). came .earlier ++ onWire q) (byte-read c at n (lastIn byteForm p m bs b .message) _ came))
 
 -- where a good message lies in the buffer
-pub good-where : (p : Place) (m : List ℕ) (b c at n : ℕ) → takeOf p m b .taken .outcome ≡ Good c at n → (at ≡ packetAt byteForm) × (1 ≤ n) × (n ≤ most) × (at + n ≤ longest)
+pub good-where : (p : Place) (m : List ℕ) (b c at n : ℕ) → takeOf p m b .taken .outcome ≡ Good c at n → (at ≡ packetBegins byteForm) × (1 ≤ n) × (n ≤ most) × (at + n ≤ longest)
 unfolding takeOf
 good-where p m b c at n good =
     let came : Came byteForm c at n (takeIn byteForm p m b .message) (before (placeBy messages p m) m ++ b ∷ []) = sound byteForm byte-serial p m [] b c at n good in

@@ -9,7 +9,7 @@ use lib.Dec.{eqb, ltb}
 use lib.ListN.{length, take, set}
 use lib.Seq.{getD-set-same}
 use Rattle.line.specs.Form.{Form, numberAt}
-use Rattle.line.specs.Message.{packetAt, checksumAt, sizeIn, longestIn, Serial, byteForm, longest}
+use Rattle.line.specs.Message.{packetBegins, checksumAt, sizeIn, longestIn, Serial, byteForm, longest}
 use Rattle.line.specs.Unstuffing.{Fed, Does, on, over, takeBy}
 use Rattle.line.specs.Reader.{lenIn, begunIn, judgedAt, judgedIn, putIn, messagesIn, takeIn, begunOf, putOf, messages, takeOf}
 use Rattle.line.specs.declared.Place.{Place}
@@ -38,7 +38,7 @@ pub data PutsIn (f : Form) (k : ℕ) (m : List ℕ) (x : ℕ) : Fed → Type 0 w
   -- the last, and the checksum is right
   fills : (n : ℕ) → 1 ≤ n → n ≤ f .most → k + 1 ≡ sizeIn f n → lenIn f (set m k x) ≡ n
       → numberAt (f .sumWidth) (checksumAt f n) (set m k x) ≡ f .checksum (take (checksumAt f n) (set m k x))
-      → PutsIn f k m x (over (Good (numberAt (f .width) (f .width) (set m k x)) (packetAt f) n) (set m k x))
+      → PutsIn f k m x (over (Good (numberAt (f .width) (f .width) (set m k x)) (packetBegins f) n) (set m k x))
   -- the last, and the checksum is wrong
   spoils : PutsIn f k m x (over BadChecksum (set m k x))
 

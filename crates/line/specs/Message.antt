@@ -8,12 +8,12 @@ use Rattle.line.specs.Stuffing.{onWire}
 
 -- ---- in any form
 -- the packet stands behind LEN and CTR
-abbrev pub packetAt : Form → ℕ
-packetAt f = f .width + f .width
+abbrev pub packetBegins : Form → ℕ
+packetBegins f = f .width + f .width
 
 -- the checksum stands behind a packet of n bytes and its fill
 abbrev pub checksumAt : Form → ℕ → ℕ
-checksumAt f n = packetAt f + (n + f .fill n)
+checksumAt f n = packetBegins f + (n + f .fill n)
 
 -- how many bytes a message of LEN n has
 abbrev pub sizeIn : Form → ℕ → ℕ

@@ -5,7 +5,7 @@ use mathlib.Core.List.{List}
 use lib.Dec.{eqb, ltb}
 use lib.ListN.{length, set, take}
 use Rattle.line.specs.Form.{Form, numberAt}
-use Rattle.line.specs.Message.{byteForm, packetAt, checksumAt, sizeIn, longestIn}
+use Rattle.line.specs.Message.{byteForm, packetBegins, checksumAt, sizeIn, longestIn}
 use Rattle.line.specs.Unstuffing.{Fed, Messages, on, over, takeBy}
 use Rattle.line.specs.declared.Place.{Place}
 use Rattle.line.specs.declared.Place.the-variants.{Inside}
@@ -24,7 +24,7 @@ begunIn f k n = cond (ltb k (f .width)) true (cond (eqb n 0) false (cond (ltb (f
 abbrev pub judgedAt : Form → ℕ → List ℕ → Outcome
 judgedAt f n m =
     cond (eqb (numberAt (f .sumWidth) (checksumAt f n) m) (f .checksum (take (checksumAt f n) m)))
-    (Good (numberAt (f .width) (f .width) m) (packetAt f) n)
+    (Good (numberAt (f .width) (f .width) m) (packetBegins f) n)
     BadChecksum
 
 abbrev pub judgedIn : Form → List ℕ → Outcome

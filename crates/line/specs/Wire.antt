@@ -7,7 +7,7 @@ use lib.Dec.{eqb}
 use lib.ListN.{length, take, drop, replicate}
 use Rattle.line.specs.Stuffing.{SYNC, ESC, stuff, onWire}
 use Rattle.line.specs.Form.{Form, bytesOf, numberAt}
-use Rattle.line.specs.Message.{byteForm, packetAt, checksumAt, sizeIn, messageIn}
+use Rattle.line.specs.Message.{byteForm, packetBegins, checksumAt, sizeIn, messageIn}
 use Rattle.line.specs.Unstuffing.{Fed, placeBy, cutOf}
 use Rattle.line.specs.Reader.{messagesIn, lenIn, takeIn, takeOf}
 use Rattle.line.specs.Writer.{atFront}
@@ -57,7 +57,7 @@ Exact w m = (i : ℕ) → i + w ≤ length m → part i w m ≡ bytesOf w (numbe
 
 -- the bytes h that came end in a message on the wire, which lies at the front of m: its CTR is c, its packet the n bytes from `at` on
 pub record Came (f : Form) (c at n : ℕ) (m h : List ℕ) : Type 0 where
-  pub start : at ≡ packetAt f
+  pub start : at ≡ packetBegins f
   pub some : 1 ≤ n
   pub few : n ≤ f .most
   pub whole : sizeIn f n ≤ length m
@@ -92,7 +92,7 @@ andThen r q = record { outcomes = r .outcomes ++ q .outcomes; place = q .place; 
 abbrev pub heardIn : Form → Place → List ℕ → ℕ → List ℕ → Ran
 heardIn f p m ctr packet =
     record {
-      outcomes = cutOf (placeBy (messagesIn f) p m) ∷ (replicate (length (stuff (messageIn f ctr packet)) - 1) Nothing ++ Good ctr (packetAt f) (length packet) ∷ []);
+      outcomes = cutOf (placeBy (messagesIn f) p m) ∷ (replicate (length (stuff (messageIn f ctr packet)) - 1) Nothing ++ Good ctr (packetBegins f) (length packet) ∷ []);
       place = Outside;
       message = atFront (messageIn f ctr packet) m;
     }
