@@ -26,6 +26,7 @@ pub mod ByteKeeps
 pub mod Numbering
 pub mod Locks
 pub mod Keys
+pub mod Opening
 pub mod Downloads
 pub mod Life
 pub mod CutJudge

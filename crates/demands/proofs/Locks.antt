@@ -91,7 +91,7 @@ locked-keeps s cal meas b h = go (consistent s) refl where
 
 -- ---- unlocked
 -- the seed leaves the locks
-seed-locks : (r x : Resource) (s : List ℕ) → unlockedOf (effect (Unlock r) s) x ≡ unlockedOf (set s (lockAt r) 1) x
+pub seed-locks : (r x : Resource) (s : List ℕ) → unlockedOf (effect (Unlock r) s) x ≡ unlockedOf (set s (lockAt r) 1) x
 unfolding effect
 seed-locks r x s = lock-reads x (apart tt (only-seed (set s (lockAt r) 1) None))
 

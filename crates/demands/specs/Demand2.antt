@@ -105,6 +105,14 @@ abbrev pub otherLock : Resource → Resource
 otherLock Calibration = Lists
 otherLock Lists = Calibration
 
+-- byte b ends UNLOCK with the right key to the seed that is out, which is for r
+pub record RightKeyEnds (s : List ℕ) (b : ℕ) (r : Resource) : Type 0 where
+  pub packet : List ℕ
+  pub command : Commands s b packet
+  pub seed : seedOf s ≡ For r
+  pub key : bringsKey packet ≡ true
+  pub right : keyMatches packet r s ≡ true
+
 -- ---- the key to a seed, as the bytes on the wire: the number of the resource is added to the seed, and of the four bytes of the sum the last goes first
 abbrev pub keyNumber : Resource → ℕ
 keyNumber Calibration = 0x0000D05E
@@ -183,6 +191,9 @@ pub record Demand2 (v : Slave) : Type 0 where
       → Commands s b p → seedOf s ≡ For r → bringsKey p ≡ true → keyMatches p r s ≡ true
       → (unlockedOf (v .receive s cal meas b .state) r ≡ true)
       × (unlockedOf (v .receive s cal meas b .state) (otherLock r) ≡ unlockedOf s (otherLock r))
+  -- and nothing else opens a lock
+  pub opensByKey : (s cal meas : List ℕ) (b : ℕ) (r : Resource) → consistent s ≡ true → unlockedOf s r ≡ false → unlockedOf (v .receive s cal meas b .state) r ≡ true
+      → RightKeyEnds s b r
   -- GET_SEED of a locked resource gives a seed, whatever the generator, and the key to that seed opens that lock
   pub seedOpens : (s cal meas : List ℕ) (b : ℕ) (p : List ℕ) (r : Resource) → consistent s ≡ true → generatorOf s < 2 ^ 32
       → Commands s b p → take 3 p ≡ 0xF8 ∷ 0x00 ∷ bitOf r ∷ [] → unlockedOf s r ≡ false → SeedOpens v r s (v .receive s cal meas b .state)
