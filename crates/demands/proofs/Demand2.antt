@@ -6,7 +6,7 @@ use Rattle.demands.proofs.Numbering.{power-up-is, frames-numbered, fram
 use Rattle.demands.proofs.Sends.{slot-is, slot-reads-back, slot-past}
 use Rattle.demands.proofs.Locks.{locked-keeps, unlocks-own}
 use Rattle.demands.proofs.Keys.{seed-opens}
-use Rattle.demands.proofs.Opening.{opens-by-key}
+use Rattle.demands.proofs.Opening.{opens-by-key, life-keyless}
 use Rattle.demands.proofs.Cut.{cut, cutEvent}
 use Rattle.demands.proofs.Downloads.{gives-back}
 use Rattle.demands.proofs.Life.{life-locked, gives-back-later, life-numbered}
@@ -25,6 +25,7 @@ demand2 =
       restStays = slot-past;
       locked = locked-keeps;
       lockedOn = life-locked;
+      lockedTill = life-keyless;
       cut = cut;
       cutEvent = cutEvent;
       givesBack = gives-back;

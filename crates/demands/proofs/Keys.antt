@@ -13,10 +13,10 @@ use lib.ListN.{length, getD, set, take, length-take}
 use lib.Pow.{low, shr-lt}
 use lib.Seq.{getD-take}
 use Rattle.line.specs.Message.{room}
-use Rattle.state.specs.Layout.{size, generatorAt, ctrAt, placeAt, servedAt, lastAt, answerAt, sessionAt, calibrationAt, mtaAt, sampleAt, listOf}
+use Rattle.state.specs.Layout.{size, generatorAt, ctrAt, placeAt, servedAt, lastAt, answerAt, sessionAt, openAt, mtaAt, sampleAt, listOf}
 use Rattle.state.specs.Bytes.{u32At, put32, bytes32}
 use Rattle.state.specs.Generator.{addend, rotatedLeft8, keyOf, nextOf}
-use Rattle.state.specs.State.{consistent, bitOf, generatorOf, setGenerator, unlockedOf, seedOf, setSeed, answered}
+use Rattle.state.specs.State.{consistent, bitOf, generatorOf, setGenerator, openOf, unlockedOf, seedOf, setSeed, answered}
 use Rattle.words.specs.Command.{commandOf}
 use Rattle.model.specs.Judge.{getSeedDeed, judgeThe, judgeBy, judge}
 use Rattle.session.specs.Look.{judgeOf}
@@ -35,7 +35,7 @@ use Rattle.state.proofs.Xorshift.{next-fits, next-some, start-same, generator-s
 use Rattle.fields.proofs.Effects.{answering}
 use Rattle.fields.proofs.Fields.{generator-same, seed-same}
 use Rattle.fields.proofs.Frames.{Only, only-set, only-then, only-seed, only-generator, only-answered}
-use Rattle.fields.proofs.Readers.{Same, apart, before, same-then, same-part, generator-reads, lock-reads, seed-reads}
+use Rattle.fields.proofs.Readers.{Same, apart, before, same-then, same-part, generator-reads, open-reads, lock-reads, seed-reads}
 use Rattle.fields.proofs.Stores.{put32-same}
 use Rattle.fields.proofs.Served.{answerSent-front, answerSent-session, packetSent-rest}
 use Rattle.fields.proofs.Kept.{receive-kept, event-kept, slot-kept}
@@ -50,20 +50,21 @@ use Rattle.demands.proofs.Sends.{turned, slot-state, slot-stays}
 use Rattle.demands.proofs.Locks.{unlocks-own}
 
 -- ---- what the check of a key looks at, and the locks: the same in both states
-record SameLocks (s t : List ℕ) : Type 0 where
-  generator : generatorOf t ≡ generatorOf s
-  seed : seedOf t ≡ seedOf s
-  lock : (r : Resource) → unlockedOf t r ≡ unlockedOf s r
+pub record SameLocks (s t : List ℕ) : Type 0 where
+  pub generator : generatorOf t ≡ generatorOf s
+  pub opened : openOf t ≡ openOf s
+  pub seed : seedOf t ≡ seedOf s
+  pub lock : (r : Resource) → unlockedOf t r ≡ unlockedOf s r
 
-alike : {s t : List ℕ} → Same generatorAt ctrAt s t → Same calibrationAt mtaAt s t → SameLocks s t
+alike : {s t : List ℕ} → Same generatorAt ctrAt s t → Same openAt mtaAt s t → SameLocks s t
 alike g w =
-    record { generator = generator-reads g; seed = seed-reads (same-part (lit≤ tt) (lit≤ tt) w); lock = λ r. lock-reads r (same-part (lit≤ tt) (lit≤ tt) w) }
+    record { generator = generator-reads g; opened = open-reads (same-part (lit≤ tt) (lit≤ tt) w); seed = seed-reads (same-part (lit≤ tt) (lit≤ tt) w); lock = λ r. lock-reads r (same-part (lit≤ tt) (lit≤ tt) w) }
 
 alike-self : {s : List ℕ} → SameLocks s s
-alike-self = record { generator = refl; seed = refl; lock = λ r. refl }
+alike-self = record { generator = refl; opened = refl; seed = refl; lock = λ r. refl }
 
 alike-then : {s t u : List ℕ} → SameLocks s t → SameLocks t u → SameLocks s u
-alike-then p q = record { generator = q .generator ∙ p .generator; seed = q .seed ∙ p .seed; lock = λ r. q .lock r ∙ p .lock r }
+alike-then p q = record { generator = q .generator ∙ p .generator; opened = q .opened ∙ p .opened; seed = q .seed ∙ p .seed; lock = λ r. q .lock r ∙ p .lock r }
 
 -- a packet that is sent leaves the generator
 packet-front : (s : List ℕ) (k : ℕ) → Same generatorAt ctrAt s (packetSent s k)
@@ -81,13 +82,18 @@ turn-alike Nobody s = alike-self
 turn-alike Answer s = alike (same-part (lit≤ tt) (lit≤ tt) (answerSent-front s)) (same-part (lit≤ tt) (lit≤ tt) (answerSent-session s))
 turn-alike (Packet k) s = alike (packet-front s k) (same-part (lit≤ tt) (lit≤ tt) (packetSent-rest s k))
 
-slot-alike : (s out : List ℕ) → consistent s ≡ true → SameLocks s (slotOf s out .state)
+pub slot-alike : (s out : List ℕ) → consistent s ≡ true → SameLocks s (slotOf s out .state)
 slot-alike s out c = elim (decLe room (length out)) [ yes r ↦ with-room r | no r ↦ without (lt-of-not-le r) ] where
   with-room : room ≤ length out → SameLocks s (slotOf s out .state)
   with-room r = rw (slot-state s out c r) (turn-alike (turnOf s) s)
 
   without : length out < room → SameLocks s (slotOf s out .state)
   without r = rw (slot-stays s out c r) alike-self
+
+pub event-alike : (s cal meas : List ℕ) (event clock : ℕ) → SameLocks s (eventOf s cal meas event clock .state)
+event-alike s cal meas event clock =
+    let front : Same 0 (sampleAt 0) s (eventOf s cal meas event clock .state) = event-front s cal meas event clock in
+    alike (same-part (lit≤ tt) (lit≤ tt) front) (same-part (lit≤ tt) (lit≤ tt) front)
 
 run-alike : (cs : List Call) (s : List ℕ) → consistent s ≡ true → Uncommanded ours s cs → SameLocks s (run ours s cs) × (consistent (run ours s cs) ≡ true)
 run-alike [] s c u = (alike-self, c)
@@ -99,9 +105,8 @@ run-alike (Byte cal meas b ∷ cs) s c u =
     (alike-then here (later .0), later .1)
 run-alike (Event cal meas event clock ∷ cs) s c u =
     let t : List ℕ = eventOf s cal meas event clock .state in
-    let front : Same 0 (sampleAt 0) s t = event-front s cal meas event clock in
     let later = run-alike cs t (event-kept s cal meas event clock c) u in
-    (alike-then (alike (same-part (lit≤ tt) (lit≤ tt) front) (same-part (lit≤ tt) (lit≤ tt) front)) (later .0), later .1)
+    (alike-then (event-alike s cal meas event clock) (later .0), later .1)
 run-alike (SendingSlot out ∷ cs) s c u =
     let later = run-alike cs (slotOf s out .state) (slot-kept s out c) u in
     (alike-then (slot-alike s out c) (later .0), later .1)

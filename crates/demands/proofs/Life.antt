@@ -32,7 +32,7 @@ use Rattle.demands.proofs.Downloads.{uploaded, Wrote, downloaded}
 use Rattle.demands.proofs.Numbering.{At, Numbered, slot-numbers, byte-ctr, event-ctr, power-ctr, power-up-is}
 
 -- ---- the state stays consistent
-passed-kept : (h : Device) (m : Moment) → consistent (h .state) ≡ true → consistent (passed ours h m .state) ≡ true
+pub passed-kept : (h : Device) (m : Moment) → consistent (h .state) ≡ true → consistent (passed ours h m .state) ≡ true
 passed-kept h (PowerOn start) c = rw (power-up-is (h .state) start (consistent-size (h .state) c)) (power-consistent start)
 passed-kept h (Hears meas b) c = receive-kept (h .state) (h .cal) meas b c
 passed-kept h (Samples meas event clock) c = event-kept (h .state) (h .cal) meas event clock c

@@ -113,6 +113,13 @@ pub record RightKeyEnds (s : List ℕ) (b : ℕ) (r : Resource) : Type 0 where
   pub key : bringsKey packet ≡ true
   pub right : keyMatches packet r s ≡ true
 
+-- no byte ends UNLOCK with the right key to calibration
+abbrev pub KeylessAt : Device → Moment → Type 0
+KeylessAt h (PowerOn start) = Unit {0}
+KeylessAt h (Hears meas b) = RightKeyEnds (h .state) b Calibration → ⊥
+KeylessAt h (Samples meas event clock) = Unit {0}
+KeylessAt h (Serves out) = Unit {0}
+
 -- ---- the key to a seed, as the bytes on the wire: the number of the resource is added to the seed, and of the four bytes of the sum the last goes first
 abbrev pub keyNumber : Resource → ℕ
 keyNumber Calibration = 0x0000D05E
@@ -174,6 +181,8 @@ pub record Demand2 (v : Slave) : Type 0 where
   pub locked : (s cal meas : List ℕ) (b : ℕ) → shut s ≡ true → v .receive s cal meas b .cal ≡ cal
   -- so does a memory that nothing else writes, through a whole life in which calibration stays locked
   pub lockedOn : (h : Device) (ms : List Moment) → Always ShutAt v h ms → lived v h ms .cal ≡ h .cal
+  -- and, once locked or without a session, until the right key to calibration comes
+  pub lockedTill : (h : Device) (ms : List Moment) → consistent (h .state) ≡ true → shut (h .state) ≡ true → Always KeylessAt v h ms → lived v h ms .cal ≡ h .cal
   -- only the first 4,096 bytes of a memory matter, and the rest stays
   pub cut : (s cal meas : List ℕ) (b : ℕ) → v .receive s cal meas b ≡ putBack (v .receive s (take addressable cal) (take addressable meas) b) (drop addressable cal)
   pub cutEvent : (s cal meas : List ℕ) (event clock : ℕ) → v .event s cal meas event clock ≡ v .event s (take addressable cal) (take addressable meas) event clock
