@@ -29,7 +29,7 @@ use Rattle.demands.specs.Waiting.{packetFor}
 use Rattle.demands.specs.Demand1.{Demand1}
 use Rattle.demands.specs.Demand2.{Demand2, ReadsBack}
 use Rattle.demands.specs.Demand3.{Demand3}
-use Rattle.shown.specs.Wrong.{refusesAlways, silent, onlyConnects, alwaysFF, storesNothing, obeysDamaged, readsEscaped, allAtOnce, upTo, sumsEscaped, neverSamples, inventsCounts, inventsMissed, movesAfterRefusal, readsLate, rereadEach, opensBoth}
+use Rattle.shown.specs.Wrong.{refusesAlways, silent, onlyConnects, alwaysFF, storesNothing, obeysDamaged, readsEscaped, allAtOnce, upTo, sumsEscaped, neverSamples, inventsCounts, inventsMissed, movesAfterRefusal, readsLate, opensBoth}
 use Rattle.shown.specs.Exchange.{slot, says, asks, askAll, begun, lastByte, reached, connect, synch, seedOfCalibration, keyOfCalibration, upload, uploadFirst, downloadOne, downloading, uploading, measuring}
 use Rattle.shown.proofs.Computed.{computed}
 
@@ -176,7 +176,7 @@ movesAfterRefusal-fails d =
 
 -- a byte of 5 is sampled, another comes while it is 6, and 6 is sent
 pub readsLate-fails : Demand3 readsLate → ⊥
-unfolding computed rereadEach
+unfolding computed
 readsLate-fails d =
     let e : _≡_ {A = ℕ} 6 5 = ap (λ ps. getD (getD ps 1 []) 1 0) (d .sampled (reached readsLate (measuring (5 ∷ []))) [] (5 ∷ []) 0 0 0 (Byte [] (6 ∷ []) 0 ∷ replicate 16 slot) refl (lit≤ tt) (lit< tt) refl (refl, tt) (lit≤ tt) .1)
     in omega arith

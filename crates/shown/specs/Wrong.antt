@@ -9,7 +9,7 @@ use Rattle.line.specs.Stuffing.{stuff, onWire}
 use Rattle.line.specs.Message.{sum}
 use Rattle.line.specs.Writer.{atFront}
 use Rattle.line.specs.Number.{outcomeNumber}
-use Rattle.state.specs.Layout.{lists, calibrationAt, listsAt, firstOdt, entryCount}
+use Rattle.state.specs.Layout.{calibrationAt, listsAt, firstOdt, entryCount}
 use Rattle.state.specs.State.{consistent, ctrOf, openOf, maskOf, mtaOf, setMta, waits, answered}
 use Rattle.state.specs.Lists.{storedLength}
 use Rattle.session.specs.Receive.{Step, only, obeyed, goodConnect, heeded, fedOf, receiveOf}
@@ -178,13 +178,9 @@ movesAfterRefusal = heeding (λ p s cal meas. cond (eqb (getD p 0 0) 0xF5) (move
 abbrev pub reread : List ℕ → ℕ → List ℕ → List ℕ → List ℕ
 reread s k cal meas = cond (ltb 0 (storedLength s k)) (stored s k (gathered s k cal meas (entryCount k))) s
 
-unfoldable pub rereadEach : List ℕ → List ℕ → List ℕ → ℕ → List ℕ
-rereadEach s cal meas zero = s
-rereadEach s cal meas (suc n) = reread (rereadEach s cal meas n) (firstOdt n + 1) cal meas
-
--- a sample's second ODT is read again at each byte until it is sent
+-- the second ODT of list 0 is read again at each byte until it is sent
 abbrev pub readsLate : Slave
-readsLate = receiving (λ s cal meas b. cond (consistent s) (receiveOf (rereadEach s cal meas lists) cal meas b) (receiveOf s cal meas b))
+readsLate = receiving (λ s cal meas b. cond (consistent s) (receiveOf (reread s (firstOdt 0 + 1) cal meas) cal meas b) (receiveOf s cal meas b))
 
 -- once a lock has opened, both are open
 abbrev pub bothOpen : List ℕ → Step → Step
