@@ -24,8 +24,8 @@ use Rattle.fields.proofs.Readers.{Same, before, behind, same-block}
 use Rattle.fields.proofs.Kept.{power-consistent, receive-kept, event-kept, slot-kept}
 use Rattle.demands.specs.Slave.{ours}
 use Rattle.demands.specs.Runs.{SendingSlot, sends}
-use Rattle.demands.specs.Life.{Device, Moment, PowerOn, Hears, Samples, Serves, passed, lived, sentIn, Always}
-use Rattle.demands.specs.Demand2.{Downloads, Uploads, dueAt, dueIn, ShutAt, ClearAt}
+use Rattle.demands.specs.Life.{Device, Moment, PowerOn, Hears, Samples, Serves, passed, lived, sentIn, OfByte, OfBytes}
+use Rattle.demands.specs.Demand2.{Downloads, Uploads, dueAt, dueIn, WhileShut, Spares}
 use Rattle.demands.proofs.Received.{Reads, rests, acts, received}
 use Rattle.demands.proofs.Locks.{locked-keeps}
 use Rattle.demands.proofs.Downloads.{uploaded, Wrote, downloaded}
@@ -43,13 +43,13 @@ life-kept h [] c = c
 life-kept h (m ∷ ms) c = life-kept (passed ours h m) ms (passed-kept h m c)
 
 -- ---- while calibration is locked the memory stays
-passed-locked : (h : Device) (m : Moment) → ShutAt h m → passed ours h m .cal ≡ h .cal
+passed-locked : (h : Device) (m : Moment) → OfByte WhileShut h m → passed ours h m .cal ≡ h .cal
 passed-locked h (PowerOn start) u = refl
 passed-locked h (Hears meas b) u = locked-keeps (h .state) (h .cal) meas b u
 passed-locked h (Samples meas event clock) u = refl
 passed-locked h (Serves out) u = refl
 
-pub life-locked : (h : Device) (ms : List Moment) → Always ShutAt ours h ms → lived ours h ms .cal ≡ h .cal
+pub life-locked : (h : Device) (ms : List Moment) → OfBytes WhileShut ours h ms → lived ours h ms .cal ≡ h .cal
 life-locked h [] u = refl
 life-locked h (m ∷ ms) u = life-locked (passed ours h m) ms (u .1) ∙ passed-locked h m (u .0)
 
@@ -111,13 +111,13 @@ module _ (a n : ℕ) where
   byte-leaves (rests r other few) u = leaves-all
   byte-leaves {cal = cal} (acts d p w) u = deed-leaves d p cal u
 
-  passed-leaves : (h : Device) (m : Moment) → consistent (h .state) ≡ true → ClearAt a n h m → Leaves a n (h .cal) (passed ours h m .cal)
+  passed-leaves : (h : Device) (m : Moment) → consistent (h .state) ≡ true → OfByte (Spares a n) h m → Leaves a n (h .cal) (passed ours h m .cal)
   passed-leaves h (PowerOn start) c u = leaves-all
   passed-leaves h (Hears meas b) c u = byte-leaves (received (h .state) (h .cal) meas b c) u
   passed-leaves h (Samples meas event clock) c u = leaves-all
   passed-leaves h (Serves out) c u = leaves-all
 
-  life-leaves : (h : Device) (ms : List Moment) → consistent (h .state) ≡ true → Always (ClearAt a n) ours h ms → Leaves a n (h .cal) (lived ours h ms .cal)
+  life-leaves : (h : Device) (ms : List Moment) → consistent (h .state) ≡ true → OfBytes (Spares a n) ours h ms → Leaves a n (h .cal) (lived ours h ms .cal)
   life-leaves h [] c u = leaves-all
   life-leaves h (m ∷ ms) c u =
       let here : Leaves a n (h .cal) (passed ours h m .cal) = passed-leaves h m c (u .0) in
@@ -126,7 +126,7 @@ module _ (a n : ℕ) where
 
 -- ---- so what DOWNLOAD wrote is given back
 pub gives-back-later : (h : Device) (meas : List ℕ) (b : ℕ) (p : List ℕ) (a n : ℕ) (between : List Moment) (meas′ : List ℕ) (c : ℕ) (q : List ℕ) → consistent (h .state) ≡ true
-    → Downloads (h .state) b p a n → answerOf (passed ours h (Hears meas b) .state) ≡ 0xFF ∷ [] → Always (ClearAt a n) ours (passed ours h (Hears meas b)) between
+    → Downloads (h .state) b p a n → answerOf (passed ours h (Hears meas b) .state) ≡ 0xFF ∷ [] → OfBytes (Spares a n) ours (passed ours h (Hears meas b)) between
     → Uploads (lived ours (passed ours h (Hears meas b)) between .state) c q a n
     → answerOf (passed ours (lived ours (passed ours h (Hears meas b)) between) (Hears meas′ c) .state) ≡ 0xFF ∷ block p 2 n
 gives-back-later h meas b p a n between meas′ c q k down said clear up =

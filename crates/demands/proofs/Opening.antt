@@ -34,8 +34,8 @@ use Rattle.fields.proofs.Fields.{other, lock-other, bare-locked, closed-bare, f
 use Rattle.fields.proofs.Frames.{Only, only-set, only-mta, only-pointer, only-seed, only-generator, only-answered}
 use Rattle.fields.proofs.Readers.{apart, lock-reads}
 use Rattle.demands.specs.Heard.{readBy, keyMatches}
-use Rattle.demands.specs.Life.{Device, Moment, PowerOn, Hears, Samples, Serves, passed, lived, Always}
-use Rattle.demands.specs.Demand2.{shut, RightKeyEnds, KeylessAt}
+use Rattle.demands.specs.Life.{Device, Moment, PowerOn, Hears, Samples, Serves, passed, lived, OfByte, OfBytes}
+use Rattle.demands.specs.Demand2.{shut, RightKeyEnds, Keyless}
 use Rattle.demands.specs.Slave.{ours}
 use Rattle.demands.proofs.ReadBy.{read-length, read-open, read-lock, read-seed, read-generator}
 use Rattle.demands.proofs.Judged.{Found, RightKey}
@@ -183,7 +183,7 @@ power-shut : (start : ℕ) → shut (powered start) ≡ true
 unfolding flagOf
 power-shut start = shut-closed (powered start) (rw (power-open start))
 
-passed-shut : (h : Device) (m : Moment) → consistent (h .state) ≡ true → shut (h .state) ≡ true → KeylessAt h m → shut (passed ours h m .state) ≡ true
+passed-shut : (h : Device) (m : Moment) → consistent (h .state) ≡ true → shut (h .state) ≡ true → OfByte Keyless h m → shut (passed ours h m .state) ≡ true
 passed-shut h (PowerOn start) c e k = rw (power-up-is (h .state) start (consistent-size (h .state) c)) (power-shut start)
 passed-shut h (Hears meas b) c e k = byte-shut (h .state) (h .cal) meas b c e k
 passed-shut h (Samples meas event clock) c e k = shut-same (h .state) (eventOf (h .state) (h .cal) meas event clock .state) (event-alike (h .state) (h .cal) meas event clock) e
@@ -196,6 +196,6 @@ passed-keeps h (Hears meas b) e = locked-keeps (h .state) (h .cal) meas b e
 passed-keeps h (Samples meas event clock) e = refl
 passed-keeps h (Serves out) e = refl
 
-pub life-keyless : (h : Device) (ms : List Moment) → consistent (h .state) ≡ true → shut (h .state) ≡ true → Always KeylessAt ours h ms → lived ours h ms .cal ≡ h .cal
+pub life-keyless : (h : Device) (ms : List Moment) → consistent (h .state) ≡ true → shut (h .state) ≡ true → OfBytes Keyless ours h ms → lived ours h ms .cal ≡ h .cal
 life-keyless h [] c e k = refl
 life-keyless h (m ∷ ms) c e k = life-keyless (passed ours h m) ms (passed-kept h m c) (passed-shut h m c e (k .0)) (k .1) ∙ passed-keeps h m e

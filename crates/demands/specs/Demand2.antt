@@ -30,7 +30,7 @@ use Rattle.model.specs.declared.Sampling.the-variants.{Sampled}
 use Rattle.words.specs.declared.Evented.the-variants.{Done}
 use Rattle.demands.specs.Slave.{Slave}
 use Rattle.demands.specs.Runs.{Call, Byte, Event, SendingSlot, Elsewhere, afterCall, run, sends, each, frames}
-use Rattle.demands.specs.Life.{Device, Moment, PowerOn, Hears, Samples, Serves, passed, lived, sentIn, Always}
+use Rattle.demands.specs.Life.{Device, Moment, PowerOn, Hears, Samples, Serves, passed, lived, sentIn, OfBytes}
 use Rattle.demands.specs.Heard.{Commands, doneAt, bringsKey, keyMatches}
 use Rattle.demands.specs.Waiting.{AllBut, waitingOf, packetFor, sampleOf, isSampled, isMissed}
 
@@ -88,18 +88,12 @@ dueIn v i h (Samples meas event clock ∷ ms) = dueIn v i (passed v h (Samples m
 dueIn v i h (Serves out ∷ ms) = numbered 0 i (dueAt (h .state) (SendingSlot out)) ++ dueIn v (i + length (dueAt (h .state) (SendingSlot out))) (passed v h (Serves out)) ms
 
 -- a byte comes while calibration is locked, or no session is open
-abbrev pub ShutAt : Device → Moment → Type 0
-ShutAt h (PowerOn start) = Unit {0}
-ShutAt h (Hears meas b) = shut (h .state) ≡ true
-ShutAt h (Samples meas event clock) = Unit {0}
-ShutAt h (Serves out) = Unit {0}
+abbrev pub WhileShut : Device → List ℕ → ℕ → Type 0
+WhileShut h meas b = shut (h .state) ≡ true
 
--- no DOWNLOAD writes one of the n bytes from a
-abbrev pub ClearAt : ℕ → ℕ → Device → Moment → Type 0
-ClearAt a n h (PowerOn start) = Unit {0}
-ClearAt a n h (Hears meas b) = (at many : ℕ) → doneAt (h .state) (h .cal) meas b ≡ some (Download at many) → (at + many ≤ a) ⊎ (a + n ≤ at)
-ClearAt a n h (Samples meas event clock) = Unit {0}
-ClearAt a n h (Serves out) = Unit {0}
+-- it ends no DOWNLOAD that writes one of the n bytes from a
+abbrev pub Spares : ℕ → ℕ → Device → List ℕ → ℕ → Type 0
+Spares a n h meas b = (at many : ℕ) → doneAt (h .state) (h .cal) meas b ≡ some (Download at many) → (at + many ≤ a) ⊎ (a + n ≤ at)
 
 abbrev pub otherLock : Resource → Resource
 otherLock Calibration = Lists
@@ -113,12 +107,9 @@ pub record RightKeyEnds (s : List ℕ) (b : ℕ) (r : Resource) : Type 0 where
   pub key : bringsKey packet ≡ true
   pub right : keyMatches packet r s ≡ true
 
--- no byte ends UNLOCK with the right key to calibration
-abbrev pub KeylessAt : Device → Moment → Type 0
-KeylessAt h (PowerOn start) = Unit {0}
-KeylessAt h (Hears meas b) = RightKeyEnds (h .state) b Calibration → ⊥
-KeylessAt h (Samples meas event clock) = Unit {0}
-KeylessAt h (Serves out) = Unit {0}
+-- byte b does not end UNLOCK with the right key to calibration
+abbrev pub Keyless : Device → List ℕ → ℕ → Type 0
+Keyless h meas b = RightKeyEnds (h .state) b Calibration → ⊥
 
 -- ---- the key to a seed, as the bytes on the wire: the number of the resource is added to the seed, and of the four bytes of the sum the last goes first
 abbrev pub keyNumber : Resource → ℕ
@@ -179,10 +170,10 @@ pub record Demand2 (v : Slave) : Type 0 where
   pub restStays : (s out : List ℕ) → AllBut 0 (slottedValue (v .slot s out .slotted)) out (v .slot s out .out)
   -- while calibration is locked, or no session is open, no calibration byte changes
   pub locked : (s cal meas : List ℕ) (b : ℕ) → shut s ≡ true → v .receive s cal meas b .cal ≡ cal
-  -- so does a memory that nothing else writes, through a whole life in which calibration stays locked
-  pub lockedOn : (h : Device) (ms : List Moment) → Always ShutAt v h ms → lived v h ms .cal ≡ h .cal
-  -- and, once locked or without a session, until the right key to calibration comes
-  pub lockedTill : (h : Device) (ms : List Moment) → consistent (h .state) ≡ true → shut (h .state) ≡ true → Always KeylessAt v h ms → lived v h ms .cal ≡ h .cal
+  -- so a memory that nothing else writes stays as it is through a life in which calibration is locked whenever a byte comes
+  pub lockedOn : (h : Device) (ms : List Moment) → OfBytes WhileShut v h ms → lived v h ms .cal ≡ h .cal
+  -- and from any state that is locked or without a session until the right key to calibration comes
+  pub lockedTill : (h : Device) (ms : List Moment) → consistent (h .state) ≡ true → shut (h .state) ≡ true → OfBytes Keyless v h ms → lived v h ms .cal ≡ h .cal
   -- only the first 4,096 bytes of a memory matter, and the rest stays
   pub cut : (s cal meas : List ℕ) (b : ℕ) → v .receive s cal meas b ≡ putBack (v .receive s (take addressable cal) (take addressable meas) b) (drop addressable cal)
   pub cutEvent : (s cal meas : List ℕ) (event clock : ℕ) → v .event s cal meas event clock ≡ v .event s (take addressable cal) (take addressable meas) event clock
@@ -192,7 +183,7 @@ pub record Demand2 (v : Slave) : Type 0 where
       → (answerOf (v .receive t (v .receive s cal meas b .cal) meas′ c .state) ≡ 0xFF ∷ block p 2 n) × AllBut a (a + n) cal (v .receive s cal meas b .cal)
   -- so does UPLOAD any time later, if nothing but the slave writes that memory and no DOWNLOAD has written there since, whatever calls and power-ups came
   pub givesBackLater : (h : Device) (meas : List ℕ) (b : ℕ) (p : List ℕ) (a n : ℕ) (between : List Moment) (meas′ : List ℕ) (c : ℕ) (q : List ℕ) → consistent (h .state) ≡ true
-      → Downloads (h .state) b p a n → answerOf (passed v h (Hears meas b) .state) ≡ 0xFF ∷ [] → Always (ClearAt a n) v (passed v h (Hears meas b)) between
+      → Downloads (h .state) b p a n → answerOf (passed v h (Hears meas b) .state) ≡ 0xFF ∷ [] → OfBytes (Spares a n) v (passed v h (Hears meas b)) between
       → Uploads (lived v (passed v h (Hears meas b)) between .state) c q a n
       → answerOf (passed v (lived v (passed v h (Hears meas b)) between) (Hears meas′ c) .state) ≡ 0xFF ∷ block p 2 n
   -- a right key unlocks its own resource alone

@@ -38,7 +38,13 @@ abbrev pub sentIn : Slave → Device → List Moment → List (List ℕ)
 sentIn v h [] = []
 sentIn v h (m ∷ ms) = sendsAt v h m ++ sentIn v (passed v h m) ms
 
--- P holds at every moment of a life, of the device as it then is
-abbrev pub Always : (Device → Moment → Type 0) → Slave → Device → List Moment → Type 0
-Always P v h [] = Unit {0}
-Always P v h (m ∷ ms) = P h m × Always P v (passed v h m) ms
+-- P holds of every byte that comes in a life, and of the device as it then is
+abbrev pub OfByte : (Device → List ℕ → ℕ → Type 0) → Device → Moment → Type 0
+OfByte P h (PowerOn start) = Unit {0}
+OfByte P h (Hears meas b) = P h meas b
+OfByte P h (Samples meas event clock) = Unit {0}
+OfByte P h (Serves out) = Unit {0}
+
+abbrev pub OfBytes : (Device → List ℕ → ℕ → Type 0) → Slave → Device → List Moment → Type 0
+OfBytes P v h [] = Unit {0}
+OfBytes P v h (m ∷ ms) = OfByte P h m × OfBytes P v (passed v h m) ms
