@@ -1,6 +1,6 @@
 -- Our slave meets the first demand: any bytes get a defined outcome, and a refusal leaves what it should. Assumes nothing.
 use lib.Seq.{sets, length-sets}
-use Rattle.fields.proofs.Stores.{out}
+use Rattle.fields.proofs.Stores.{out as outside}
 use Prim.{tt}
 use Prim.Native.Nat.{ℕ, _≤_, _<_, _+_}
 use mathlib.Core.Path.{_≡_, refl, sym, ap, subst, _∙_}
@@ -86,7 +86,7 @@ refused-by {s} {cal} {meas} {b} c one fe n (acts d p w) =
 -- the same stores in both leave what differs where it was
 only-both : {lo hi : ℕ} {s t : List ℕ} (i : ℕ) (xs : List ℕ) → Only lo hi s t → Only lo hi (sets s i xs) (sets t i xs)
 only-both {lo} {hi} {s} {t} i xs w = record { long = simp (length-sets, w .long); bytes = λ j o. same-sets {s = s} {t = t} i xs (one j o) .byte j (omega arith) (omega arith) } where
-  one : (j : ℕ) → T (out lo hi j) → Same j (j + 1) s t
+  one : (j : ℕ) → T (outside lo hi j) → Same j (j + 1) s t
   one j o = record { long = w .long; byte = λ k p q. let e : j ≡ k = omega arith in subst (λ (m : ℕ). getD t m 0 ≡ getD s m 0) e (w .bytes j o) }
 
 only-back : {lo hi : ℕ} {s t : List ℕ} → Only lo hi s t → Only lo hi t s

@@ -106,13 +106,13 @@ module _ (p s : List ℕ) where
   seed-found : (unlocked : Bool) (r : Resource) → Has (seedDeed unlocked r)
   seed-found unlocked r = cond-ind Has unlocked (λ _. tt) (λ _. tt)
 
-  get-seed-found : (calibration lists : Bool) (mode resource : ℕ) → Has (getSeedDeed calibration lists mode resource)
+  get-seed-found : (cal lis : Bool) (mode resource : ℕ) → Has (getSeedDeed cal lis mode resource)
   unfolding getSeedDeed
-  get-seed-found calibration lists mode resource =
+  get-seed-found cal lis mode resource =
       cond-ind Has (eqb mode 1) (λ _. tt) (λ _.
       cond-ind Has (ltb 1 mode) (λ _. tt) (λ _.
-      cond-ind Has (eqb resource 0x01) (λ _. seed-found calibration Calibration) (λ _.
-      cond-ind Has (eqb resource 0x04) (λ _. seed-found lists Lists) (λ _. tt))))
+      cond-ind Has (eqb resource 0x01) (λ _. seed-found cal Calibration) (λ _.
+      cond-ind Has (eqb resource 0x04) (λ _. seed-found lis Lists) (λ _. tt))))
 
   unlock-found : getD p 0 0 ≡ 0xF7 → (seed : Seed) → seedOf s ≡ seed → Has (unlockBy seed (generatorOf s) (getD p 1 0) (length p) (u32At p 2))
   unfolding unlockBy

@@ -108,7 +108,7 @@ module _ (a n : ℕ) where
   deed-leaves ResolutionInfo p cal u = leaves-all
 
   byte-leaves : {s cal meas : List ℕ} {b : ℕ} {o : Step} {x : Option Deed} → Reads s cal meas b o x → Beside a n x → Leaves a n cal (o .cal)
-  byte-leaves (rests r other few) u = leaves-all
+  byte-leaves (rests r x f) u = leaves-all
   byte-leaves {cal = cal} (acts d p w) u = deed-leaves d p cal u
 
   passed-leaves : (h : Device) (m : Moment) → consistent (h .state) ≡ true → OfByte (Spares a n) h m → Leaves a n (h .cal) (passed ours h m .cal)

@@ -71,7 +71,7 @@ unfolding written
 connect-written d p cal e = rw e
 
 shut-by : {s cal meas : List ℕ} {b : ℕ} {o : Step} {x : Option Deed} → consistent s ≡ true → shut s ≡ true → Reads s cal meas b o x → o .cal ≡ cal
-shut-by c h (rests r other few) = refl
+shut-by c h (rests r n f) = refl
 shut-by {s} {cal} {meas} {b} c h (acts d p w) = go (openOf s) (unlockedOf s Calibration) refl refl h where
   go : (o u : Bool) → openOf s ≡ o → unlockedOf s Calibration ≡ u → cond o (cond u false true) true ≡ true → written d p cal ≡ cal
   go true true x y z = absurd (false-true z)

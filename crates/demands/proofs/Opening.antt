@@ -30,7 +30,7 @@ use Rattle.judge.specs.declared.Deed.the-variants.{Refuse, RefuseSize, WrongKey
 use Rattle.state.proofs.Consistent.{consistent-size}
 use Rattle.fields.proofs.Stores.{put32-out}
 use Rattle.fields.proofs.Effects.{answering, only-switched, only-listCleared, only-modeSet, only-entryCleared, only-entrySet, only-stopEach, only-startSelected, only-stopSelected}
-use Rattle.fields.proofs.Fields.{other, lock-other, bare-locked, closed-bare, fresh-bare}
+use Rattle.fields.proofs.Fields.{lock-other, bare-locked, closed-bare, fresh-bare}
 use Rattle.fields.proofs.Frames.{Only, only-set, only-mta, only-pointer, only-seed, only-generator, only-answered}
 use Rattle.fields.proofs.Readers.{apart, lock-reads}
 use Rattle.demands.specs.Heard.{readBy, keyMatches}
@@ -131,7 +131,7 @@ module _ (s cal meas : List ℕ) (b : ℕ) (r : Resource) (c : consistent s ≡ 
         open-then false e = absurd (connect-unlocks r (sym (w .closed e .0) ∙ k .deed))
 
   opens-by : {o : Step} {x : Option Deed} → Reads s cal meas b o x → unlockedOf s r ≡ false → unlockedOf (o .state) r ≡ true → RightKeyEnds s b r
-  opens-by (rests q other few) e t = absurd (false-true (sym (read-lock s b c r ∙ e) ∙ t))
+  opens-by (rests q n f) e t = absurd (false-true (sym (read-lock s b c r ∙ e) ∙ t))
   opens-by (acts d p w) e t =
       ⊎-elim (turned-key d p w) (λ still. absurd (false-true (sym (answered-locks d p w ∙ still) ∙ t)))
       (opens d p (readBy s b) r (length p) (length cal) (length meas) (read-length s b c) (w .can) (w .found) (read-lock s b c r ∙ e))
@@ -155,7 +155,7 @@ unfolding effect
 connect-locks d s r h e = rw e (bare-locked (fresh s) r (fresh-bare s h))
 
 closed-by : {s cal meas : List ℕ} {b : ℕ} {o : Step} {x : Option Deed} → consistent s ≡ true → openOf s ≡ false → Reads s cal meas b o x → shut (o .state) ≡ true
-closed-by {s} {b = b} c e (rests q other few) = shut-closed (readBy s b) (read-open s b c ∙ e)
+closed-by {s} {b = b} c e (rests q n f) = shut-closed (readBy s b) (read-open s b c ∙ e)
 closed-by {s} {cal} {meas} {b} c e (acts d p w) =
     shut-locked (after d (readBy s b) cal meas) (answered-locks s cal meas b Calibration c d p w ∙ connect-locks d (readBy s b) Calibration (read-length s b c) (w .closed e .0))
 
