@@ -32,6 +32,10 @@ use Rattle.slave.proofs.xcp_receive_byte.Reads as xcp-receive-byte
 use Rattle.slave.proofs.xcp_event.Reads as xcp-event
 use Rattle.slave.proofs.xcp_slot.Reads as xcp-slot
 use Rattle.slave.proofs.xcp_state_size.Reads as xcp-state-size
+use Rattle.demands.proofs.power_up.Reads as our-power-up
+use Rattle.demands.proofs.receive_byte.Reads as our-receive-byte
+use Rattle.demands.proofs.event.Reads as our-event
+use Rattle.demands.proofs.slot.Reads as our-slot
 use Rattle.demands.specs.Tight.{Tight, TightCall}
 
 -- both are what the inputs alone give
@@ -107,3 +111,16 @@ xcp-slot-tight l a r r′ e e′ h h′ i = (same (h .result) (h′ .result) i, 
 
 pub xcp-state-size-tight : TightCall {O = ℕ} xcp-state-size.Post (λ l r e. r)
 xcp-state-size-tight l a r r′ e e′ h h′ = same h h′
+
+-- ---- the session's calls in the words of `ours`
+pub our-power-up-tight : TightCall {O = PoweredUp × List ℕ} our-power-up.Post (λ l r e. (r, now (e .0)))
+our-power-up-tight l a r r′ e e′ h h′ i = (same (h .result) (h′ .result) i, same (h .state) (h′ .state) i)
+
+pub our-receive-byte-tight : TightCall {O = Received × List ℕ × List ℕ} our-receive-byte.Post (λ l r e. (r, now (e .0), now (e .1 .0)))
+our-receive-byte-tight l a r r′ e e′ h h′ i = (same (h .result) (h′ .result) i, same (h .state) (h′ .state) i, same (h .memory) (h′ .memory) i)
+
+pub our-event-tight : TightCall {O = Evented × List ℕ} our-event.Post (λ l r e. (r, now (e .0)))
+our-event-tight l a r r′ e e′ h h′ i = (same (h .result) (h′ .result) i, same (h .state) (h′ .state) i)
+
+pub our-slot-tight : TightCall {O = Slotted × List ℕ × List ℕ} our-slot.Post (λ l r e. (r, now (e .0), now (e .1 .0)))
+our-slot-tight l a r r′ e e′ h h′ i = (same (h .result) (h′ .result) i, same (h .state) (h′ .state) i, same (h .bytes) (h′ .bytes) i)
