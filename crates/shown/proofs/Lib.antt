@@ -8,3 +8,4 @@ pub mod Table
 pub mod Bounds
 pub mod AnswerBound
 pub mod Premises
+pub mod Lives
