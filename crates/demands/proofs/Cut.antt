@@ -9,6 +9,9 @@ use borrow.Author.Tests.{ltb-true, leb-true}
 use lib.Dec.{ltb}
 use lib.ListN.{length, getD, set, take, drop, length-take, length-set, take-append-drop}
 use lib.Seq.{sets, set-append-left, getD-take}
+use Rattle.session.proofs.Heeding.{heeded-is}
+use Rattle.model.specs.Answers.{replyIn, written, writes}
+use Rattle.model.specs.View.{sessionOf}
 use Rattle.line.specs.declared.Outcome.{Outcome}
 use Rattle.line.specs.declared.Outcome.the-variants as line
 use Rattle.state.specs.Layout.{addressable, firstOdt, entries, lists, uploadMost, odtCount}
@@ -19,8 +22,8 @@ use Rattle.state.specs.Lists.{sizeOf, extensionOf, addressOf}
 use Rattle.judge.specs.Doable.{Inside, Doable}
 use Rattle.session.specs.Look.{judgeOf}
 use Rattle.session.specs.Perform.{reply}
-use Rattle.model.specs.Answers.{written}
-use Rattle.session.specs.Receive.{Step, only, obeyed, goodConnect, heeded, meant, readOn, fedOf, receiveOf}
+use Rattle.session.specs.Receive.{Step, only, obeyed, heeded, meant, readOn, fedOf, receiveOf}
+use Rattle.model.specs.Heed.{goodConnect}
 use Rattle.lists.specs.Event.{samplingOf, entryBytes, gathered, captured, sampledState, Tally, counted, tally, eventOf, contentsOf, capturedOdts}
 use Rattle.words.specs.declared.Extension.{Extension}
 use Rattle.words.specs.declared.Extension.the-variants.{Calibration, Measured}
@@ -35,6 +38,7 @@ use Rattle.session.proofs.Data.{block-block}
 use Rattle.session.proofs.Looked.{judged-doable}
 use Rattle.demands.specs.Slave.{ours}
 use Rattle.demands.specs.Demand2.{putBack}
+use Rattle.fields.proofs.Writes.{by-write}
 use Rattle.demands.proofs.CutJudge.{judge-cut}
 
 -- the bytes of a memory that can be addressed
@@ -114,7 +118,7 @@ inside-cut e cal meas most a n i =
     sym (rw (picked e cal meas) (block-cut (pick e cal meas) a n (inside-le a n (pick e (length cal) (length meas)) (i .1) .1)))
 
 reply-cut : (d : Deed) (long : ℕ) (s cal meas : List ℕ) → Doable d long (length cal) (length meas) → reply d s cal meas ≡ reply d s (front cal) (front meas)
-unfolding reply blockSum
+unfolding replyIn sessionOf blockSum
 reply-cut (Refuse r) long s cal meas o = refl
 reply-cut RefuseSize long s cal meas o = refl
 reply-cut WrongKey long s cal meas o = refl
@@ -162,36 +166,10 @@ download-cut p cal a n i =
     ap (λ (l : List ℕ). sets l a (block p 2 n)) (whole cal) ∙ sets-front (block p 2 n) (front cal) (drop addressable cal) a (omega arith)
 
 written-cut : (d : Deed) (p cal : List ℕ) (nm : ℕ) → Doable d (length p) (length cal) nm → written d p cal ≡ written d p (front cal) ++ drop addressable cal
-unfolding written
-written-cut (Refuse r) p cal nm o = whole cal
-written-cut RefuseSize p cal nm o = whole cal
-written-cut WrongKey p cal nm o = whole cal
-written-cut Connect p cal nm o = whole cal
-written-cut Disconnect p cal nm o = whole cal
-written-cut Status p cal nm o = whole cal
-written-cut Synch p cal nm o = whole cal
-written-cut NoSeed p cal nm o = whole cal
-written-cut (GiveSeed r) p cal nm o = whole cal
-written-cut (Unlock r) p cal nm o = whole cal
-written-cut (SetMta e a) p cal nm o = whole cal
-written-cut (Upload e a n) p cal nm o = whole cal
-written-cut (ShortUpload e a n) p cal nm o = whole cal
-written-cut (Checksum e a n) p cal nm o = whole cal
-written-cut (Download a n) p cal nm o = download-cut p cal a n (o .1 .1)
-written-cut (ClearList l) p cal nm o = whole cal
-written-cut (SetPointer k e) p cal nm o = whole cal
-written-cut (ClearEntry k e) p cal nm o = whole cal
-written-cut (WriteEntry k e n x a) p cal nm o = whole cal
-written-cut (SetMode l event) p cal nm o = whole cal
-written-cut (Stop l) p cal nm o = whole cal
-written-cut (Start l) p cal nm o = whole cal
-written-cut (KeepRunning l) p cal nm o = whole cal
-written-cut (Select l) p cal nm o = whole cal
-written-cut StopAll p cal nm o = whole cal
-written-cut StartSelected p cal nm o = whole cal
-written-cut StopSelected p cal nm o = whole cal
-written-cut ProcessorInfo p cal nm o = whole cal
-written-cut ResolutionInfo p cal nm o = whole cal
+unfolding writes
+written-cut d p cal nm =
+    by-write (λ (e : Deed). Doable e (length p) (length cal) nm → written e p cal ≡ written e p (front cal) ++ drop addressable cal)
+    (λ e w o. rw w (whole cal)) (λ a n o. download-cut p cal a n (o .1 .1)) d
 
 -- ---- a received byte
 -- o is what is done on the first bytes alone, with the rest put back
@@ -216,9 +194,8 @@ module _ (cal meas : List ℕ) where
   judged-cut p s = judge-cut (length cal) (length meas) (length (front cal)) (length (front meas)) (front-reach cal) (front-reach meas) p s
 
   heeded-cut : (p s : List ℕ) → Cut rest (heeded p s cal meas) (heeded p s (front cal) (front meas))
-  unfolding heeded
   heeded-cut p s =
-      rw (judged-cut p s)
+      rw (heeded-is p s cal meas, heeded-is p s (front cal) (front meas), judged-cut p s)
       (either-cut (waits s) (only-cut Unread s)
       (either-cut (openOf s) (obeyed-cut (judgeOf p s (length cal) (length meas)) p s (judged-doable p s (length cal) (length meas)))
       (either-cut (goodConnect p) (obeyed-cut Connect p s tt) (only-cut Silent s))))

@@ -4,10 +4,11 @@ use mathlib.Core.Path.{_≡_, refl}
 use mathlib.Core.Bool.{Bool}
 use mathlib.Core.List.{List}
 use lib.ListN.{getD}
+use Rattle.model.specs.Judge.{seenIn, judgeIn, extensionFrom, uploadDeed, shortUploadDeed, checksumDeed, downloadTo, downloadDeed, writeBlock, writeDeed, judgeThe, judgeBy, judge}
+use Rattle.model.specs.View.{sessionOf}
 use Rattle.state.specs.Bytes.{u16At}
 use Rattle.state.specs.Memory.{reach, pick, insideOf}
 use Rattle.words.specs.Command.{commandOf}
-use Rattle.model.specs.Judge.{extensionFrom, uploadDeed, shortUploadDeed, checksumDeed, downloadTo, downloadDeed, writeBlock, writeDeed, judgeThe, judgeBy, judge}
 use Rattle.words.specs.declared.Command.{Command}
 use Rattle.words.specs.declared.Command.the-variants.{Unknown, Connect, Disconnect, GetStatus, Synch, GetSeed, Unlock, SetMta, Upload, ShortUpload, BuildChecksum, Download, ClearDaqList, SetDaqPtr, WriteDaq, SetDaqListMode, StartStopDaqList, StartStopSynch, GetDaqProcessorInfo, GetDaqResolutionInfo}
 use Rattle.words.specs.declared.Extension.{Extension}
@@ -16,9 +17,8 @@ use Rattle.words.specs.declared.Mta.{Mta}
 use Rattle.words.specs.declared.Mta.the-variants.{Unset, At}
 use Rattle.words.specs.declared.Pointer.{Pointer}
 use Rattle.words.specs.declared.Pointer.the-variants.{Unset as NoEntry, At as Entry}
-use Rattle.model.specs.Seen.{Packet, Seen}
-use Rattle.model.specs.Seen.{numbersOf}
-use Rattle.session.specs.Look.{seenOf, judgeOf}
+use Rattle.model.specs.Seen.{Packet, Seen, numbersOf}
+use Rattle.session.specs.Look.{judgeOf}
 
 -- two pairs of lengths of which as many bytes can be addressed
 module _ (nc nm nc′ nm′ : ℕ) (c : reach nc′ ≡ reach nc) (m : reach nm′ ≡ reach nm) where
@@ -91,5 +91,5 @@ module _ (nc nm nc′ nm′ : ℕ) (c : reach nc′ ≡ reach nc) (m : reach nm�
   the-cut GetDaqResolutionInfo p v = refl
 
   pub judge-cut : (p s : List ℕ) → judgeOf p s nc′ nm′ ≡ judgeOf p s nc nm
-  unfolding judgeOf judge judgeBy
-  judge-cut p s = rw (the-cut (commandOf (getD p 0 0)) (numbersOf p) (seenOf (u16At p 2) s))
+  unfolding judgeIn sessionOf judge judgeBy
+  judge-cut p s = rw (the-cut (commandOf (getD p 0 0)) (numbersOf p) (seenIn (u16At p 2) (sessionOf s)))

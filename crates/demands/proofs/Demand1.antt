@@ -11,7 +11,7 @@ use mathlib.Core.List.{List}
 use native.Mathlib.Omega.{arith}
 use borrow.Author.Tests.{lt-ltb, le-ltb, eq-eqb, ne-eqb}
 use lib.Dec.{eqb, ltb, lit≤, T}
-use lib.ListN.{length, getD, take, replicate}
+use lib.ListN.{length, getD, replicate}
 use Rattle.line.specs.Message.{most, room}
 use Rattle.line.specs.Writer.{Sent, writeOf}
 use Rattle.line.proofs.Laws.{cond-ind}
@@ -20,7 +20,7 @@ use Rattle.state.specs.Layout.{placeAt, answerAt, size, sessionAt, sessionSize,
 use Rattle.state.specs.Bytes.{cleared}
 use Rattle.state.specs.State.{consistent, ctrOf, seedOf, generatorOf, closed, answerOf}
 use Rattle.session.specs.Perform.{effect, reply, after}
-use Rattle.model.specs.Answers.{written}
+use Rattle.model.specs.Answers.{written, writes}
 use Rattle.session.specs.Receive.{Step, obeyed, receiveOf}
 use Rattle.lists.specs.Event.{eventOf}
 use Rattle.lists.specs.Slot.{packetOf, turnOf, slottedAs, sentBy, slotOf}
@@ -33,7 +33,6 @@ use Rattle.model.specs.declared.Deed.{Deed}
 use Rattle.model.specs.declared.Deed.the-variants.{WrongKey, Disconnect}
 use Rattle.model.specs.declared.Turn.{Turn}
 use Rattle.model.specs.declared.Turn.the-variants.{Nobody, Answer, Packet}
-use Rattle.state.proofs.Consistent.{consistent-size}
 use Rattle.fields.proofs.Effects.{answering, after-answer}
 use Rattle.fields.proofs.Frames.{Only, only-then, only-wider, only-between, only-answered}
 use Rattle.fields.proofs.Readers.{Same}
@@ -104,11 +103,11 @@ record Closes (d : Deed) : Type 0 where
   pub can : (n nc nm : ℕ) → Doable d n nc nm
 
 wrong-closes : Closes WrongKey
-unfolding effect written
+unfolding effect writes
 wrong-closes = record { state = λ s. refl; memory = λ p cal. refl; can = λ n nc nm. tt }
 
 disconnect-closes : Closes Disconnect
-unfolding effect written
+unfolding effect writes
 disconnect-closes = record { state = λ s. refl; memory = λ p cal. refl; can = λ n nc nm. tt }
 
 closes-to : (d : Deed) (s cal meas : List ℕ) (b : ℕ) → Closes d → consistent s ≡ true → Only placeAt sessionAt (closed s) (after d (readBy s b) cal meas)

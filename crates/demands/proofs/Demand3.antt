@@ -5,6 +5,7 @@ use mathlib.Core.Bool.{true}
 use mathlib.Core.Option.{some}
 use mathlib.Core.List.{List}
 use lib.ListN.{length}
+use Rattle.session.proofs.Heeding.{heeded-is}
 use Rattle.state.specs.Layout.{placeAt, answerAt}
 use Rattle.state.specs.State.{consistent, waits, answerOf}
 use Rattle.session.specs.Receive.{Step, only, heeded, receiveOf}
@@ -53,9 +54,8 @@ answered-soon s before cal meas b later ctr p c one few e o f =
 -- ---- good messages while an answer waits
 unread : (s cal meas : List ℕ) (b : ℕ) (p : List ℕ) → consistent s ≡ true → waits s ≡ true → packetEnded s b ≡ some p
     → (receiveOf s cal meas b .received ≡ Unread) × ChangesOnly placeAt answerAt ours s cal meas b
-unfolding heeded
 unread s cal meas b p c w e =
-    let q : heeded p (readBy s b) cal meas ≡ only Unread (readBy s b) cal = simp (read-waits s b c ∙ w) in
+    let q : heeded p (readBy s b) cal meas ≡ only Unread (readBy s b) cal = heeded-is p (readBy s b) cal meas ∙ simp (read-waits s b c ∙ w) in
     let o : receiveOf s cal meas b ≡ only Unread (readBy s b) cal = heeds-right s cal meas b p c e ∙ q in
     (ap (λ (x : Step). x .received) o, record { state = rw o (all-but (read-only s b c)); memory = ap (λ (x : Step). x .cal) o })
 

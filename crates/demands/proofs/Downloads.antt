@@ -10,17 +10,18 @@ use borrow.Author.Tests.{eqb-false, ltb-false, ne-eqb, le-ltb}
 use lib.Dec.{eqb, ltb}
 use lib.ListN.{length, getD}
 use lib.Seq.{sets, length-sets}
+use Rattle.model.specs.Judge.{seenIn, judgeIn, uploadDeed, downloadTo, downloadDeed, judgeThe, judgeBy, judge, lockedBy}
+use Rattle.model.specs.Answers.{replyIn, written, writes}
+use Rattle.model.specs.View.{sessionOf}
 use Rattle.state.specs.Layout.{uploadMost, downloadMost}
 use Rattle.line.proofs.Laws.{cond-ind}
 use Rattle.state.specs.Bytes.{block, u16At}
 use Rattle.state.specs.Memory.{insideOf}
 use Rattle.state.specs.State.{consistent, mtaOf, answerOf}
 use Rattle.words.specs.Command.{commandOf, needsOf}
-use Rattle.model.specs.Judge.{uploadDeed, downloadTo, downloadDeed, judgeThe, judgeBy, judge, lockedBy}
-use Rattle.session.specs.Look.{judgeOf, seenOf}
+use Rattle.session.specs.Look.{judgeOf}
 use Rattle.model.specs.Seen.{numbersOf}
 use Rattle.session.specs.Perform.{reply}
-use Rattle.model.specs.Answers.{written}
 use Rattle.session.specs.Receive.{Step, receiveOf}
 use Rattle.words.specs.declared.Command.the-variants as command
 use Rattle.words.specs.declared.Extension.the-variants.{Calibration}
@@ -57,7 +58,7 @@ module _ (p s cal meas : List ℕ) (a n : ℕ) where
   Good d = reply d s cal meas ≡ 0xFF ∷ [] → Loads p a n (length cal) d
 
   download-good : Good (downloadDeed (At Calibration a) n (length p) (length cal))
-  unfolding downloadDeed downloadTo reply
+  unfolding downloadDeed downloadTo replyIn sessionOf
   download-good =
       cond-ind Good (eqb n 0) (λ _ e. absurd (fe-ff _ e)) (λ z.
       cond-ind Good (ltb downloadMost n) (λ _ e. absurd (fe-ff _ e)) (λ f.
@@ -66,20 +67,20 @@ module _ (p s cal meas : List ℕ) (a n : ℕ) where
       (λ i _. record { done = refl; some = eqb-false n 0 z; few = ltb-false downloadMost n f; there = ltb-false (length p) (n + 2) t; inside = i })
       (λ _ e. absurd (fe-ff _ e)))))
 
-  the-good : mtaOf s ≡ At Calibration a → getD p 1 0 ≡ n → Good (judgeThe command.Download (numbersOf p) (seenOf (u16At p 2) s) (length cal) (length meas))
+  the-good : mtaOf s ≡ At Calibration a → getD p 1 0 ≡ n → Good (judgeThe command.Download (numbersOf p) (seenIn (u16At p 2) (sessionOf s)) (length cal) (length meas))
   unfolding judgeThe
   the-good there count = rw (there, count) download-good
 
-  by-good : mtaOf s ≡ At Calibration a → getD p 1 0 ≡ n → Good (judgeBy command.Download (numbersOf p) (seenOf (u16At p 2) s) (length cal) (length meas))
-  unfolding judgeBy reply
+  by-good : mtaOf s ≡ At Calibration a → getD p 1 0 ≡ n → Good (judgeBy command.Download (numbersOf p) (seenIn (u16At p 2) (sessionOf s)) (length cal) (length meas))
+  unfolding judgeBy replyIn sessionOf
   by-good there count =
       cond-ind Good (ltb (length p) 2) (λ _ e. absurd (fe-ff _ e)) (λ _.
-      cond-ind Good (lockedBy (needsOf command.Download) (seenOf (u16At p 2) s)) (λ _ e. absurd (fe-ff _ e)) (λ _. the-good there count))
+      cond-ind Good (lockedBy (needsOf command.Download) (seenIn (u16At p 2) (sessionOf s))) (λ _ e. absurd (fe-ff _ e)) (λ _. the-good there count))
 
   judged-good : getD p 0 0 ≡ 0xF0 → mtaOf s ≡ At Calibration a → getD p 1 0 ≡ n → Good (deedOf p s cal meas)
-  unfolding judgeOf judge commandOf
+  unfolding judgeIn sessionOf judge commandOf
   judged-good code there count =
-      subst (λ (c : ℕ). Good (judgeBy (commandOf c) (numbersOf p) (seenOf (u16At p 2) s) (length cal) (length meas))) (sym code) (by-good there count)
+      subst (λ (c : ℕ). Good (judgeBy (commandOf c) (numbersOf p) (seenIn (u16At p 2) (sessionOf s)) (length cal) (length meas))) (sym code) (by-good there count)
 
 -- ---- UPLOAD
 -- a byte that is not 0 is there
@@ -90,16 +91,16 @@ there-is (x ∷ y ∷ q) n e z = omega arith
 
 upload-judged : (q t : List ℕ) (a n nc nm : ℕ) → getD q 0 0 ≡ 0xF5 → mtaOf t ≡ At Calibration a → getD q 1 0 ≡ n → n ≢ 0 → n ≤ uploadMost → insideOf a n nc ≡ true
     → judgeOf q t nc nm ≡ Upload Calibration a n
-unfolding judgeOf judge judgeBy judgeThe commandOf uploadDeed
+unfolding judgeIn sessionOf judge judgeBy judgeThe commandOf uploadDeed
 upload-judged q t a n nc nm code there count z few inside =
     simp (code, le-ltb (length q) 2 (there-is q n count z), there, count, ne-eqb n 0 z, le-ltb uploadMost n few, inside)
 
 upload-says : (a n : ℕ) (t cal meas : List ℕ) → reply (Upload Calibration a n) t cal meas ≡ 0xFF ∷ block cal a n
-unfolding reply
+unfolding replyIn sessionOf
 upload-says a n t cal meas = refl
 
 download-writes : (a n : ℕ) (p cal : List ℕ) → written (Download a n) p cal ≡ sets cal a (block p 2 n)
-unfolding written
+unfolding writes
 download-writes a n p cal = refl
 
 -- the bytes that stand there are given

@@ -7,6 +7,8 @@ use mathlib.Core.List.{List}
 use borrow.Author.Tests.{not-false}
 use lib.Dec.{eqb, ltb, leb}
 use lib.ListN.{length, getD}
+use Rattle.model.specs.Judge.{pointedIn, seenIn, judgeIn, extensionFrom, connectDeed, seedDeed, getSeedDeed, unlockBy, setMtaDeed, uploadDeed, shortUploadDeed, checksumDeed, downloadTo, downloadDeed, clearDeed, pointerDeed, writeBlock, writeDeed, modeDeed, startDeed, startStopDeed, synchDeed, lockedBy, judgeThe, judgeBy, judge}
+use Rattle.model.specs.View.{sessionOf}
 use Rattle.line.proofs.Laws.{cond-ind}
 use Rattle.state.specs.Layout.{lists, events, firstOdt, odtCount, entryCount, entryMost, uploadMost, downloadMost, addressable, listOf}
 use Rattle.state.specs.Bytes.{u16At, u32At}
@@ -15,7 +17,6 @@ use Rattle.state.specs.Memory.{pick, insideOf}
 use Rattle.state.specs.State.{generatorOf, unlockedOf, seedOf, mtaOf, pointerOf}
 use Rattle.lists.specs.Lists.{fitOf, runsOf, allFit}
 use Rattle.words.specs.Command.{commandOf, fewest, needsOf}
-use Rattle.model.specs.Judge.{extensionFrom, connectDeed, seedDeed, getSeedDeed, unlockBy, setMtaDeed, uploadDeed, shortUploadDeed, checksumDeed, downloadTo, downloadDeed, clearDeed, pointerDeed, writeBlock, writeDeed, modeDeed, startDeed, startStopDeed, synchDeed, lockedBy, judgeThe, judgeBy, judge}
 use Rattle.words.specs.declared.Command.{Command}
 use Rattle.words.specs.declared.Command.the-variants as command
 use Rattle.words.specs.declared.Resource.{Resource}
@@ -30,7 +31,7 @@ use Rattle.words.specs.declared.Pointer.{Pointer}
 use Rattle.words.specs.declared.Pointer.the-variants.{Unset as NoEntry, At as Entry}
 use Rattle.model.specs.declared.Deed.{Deed}
 use Rattle.model.specs.Seen.{numbersOf}
-use Rattle.session.specs.Look.{pointedRuns, seenOf, judgeOf}
+use Rattle.session.specs.Look.{judgeOf}
 use Rattle.model.specs.declared.Deed.the-variants.{Refuse, RefuseSize, WrongKey, Connect, Disconnect, Status, Synch, NoSeed, GiveSeed, Unlock, SetMta, Upload, ShortUpload, Checksum, Download, ClearList, SetPointer, ClearEntry, WriteEntry, SetMode, Stop, Start, KeepRunning, Select, StopAll, StartSelected, StopSelected, ProcessorInfo, ResolutionInfo}
 use Rattle.demands.specs.Heard.{bringsKey, keyMatches, wrongKeyBy, wrongKey}
 use Rattle.demands.proofs.Coded.{Coded, coded}
@@ -187,7 +188,7 @@ module _ (p s : List ℕ) where
       cond-ind Has (eqb n 0) (λ _. still) (λ _.
       cond-ind Has (insideOf a n len) (λ _. still) (λ _. tt))
 
-  write-found : (at : Pointer) (bit n ext a nc nm : ℕ) → Has (writeDeed at (pointedRuns at s) bit n ext a nc nm)
+  write-found : (at : Pointer) (bit n ext a nc nm : ℕ) → Has (writeDeed at (pointedIn at (sessionOf s)) bit n ext a nc nm)
   unfolding writeDeed
   write-found NoEntry bit n ext a nc nm = tt
   write-found (Entry k e) bit n ext a nc nm =
@@ -230,10 +231,10 @@ module _ (p s : List ℕ) where
       cond-ind Has ready (λ _. tt) (λ _. tt)) (λ _. tt)))
 
   -- DOWNLOAD that is not locked
-  open-found : lockedBy (needsOf command.Download) (seenOf (u16At p 2) s) ≡ false → unlockedOf s Calibration ≡ true
+  open-found : lockedBy (needsOf command.Download) (seenIn (u16At p 2) (sessionOf s)) ≡ false → unlockedOf s Calibration ≡ true
   open-found e = not-false (unlockedOf s Calibration) e
 
-  the-found : (c : Command) → Coded (getD p 0 0) c → lockedBy (needsOf c) (seenOf (u16At p 2) s) ≡ false → (nc nm : ℕ) → Has (judgeThe c (numbersOf p) (seenOf (u16At p 2) s) nc nm)
+  the-found : (c : Command) → Coded (getD p 0 0) c → lockedBy (needsOf c) (seenIn (u16At p 2) (sessionOf s)) ≡ false → (nc nm : ℕ) → Has (judgeThe c (numbersOf p) (seenIn (u16At p 2) (sessionOf s)) nc nm)
   unfolding judgeThe
   the-found command.Unknown code free nc nm = tt
   the-found command.Connect code free nc nm = connect-found (getD p 1 0)
@@ -256,12 +257,12 @@ module _ (p s : List ℕ) where
   the-found command.GetDaqProcessorInfo code free nc nm = tt
   the-found command.GetDaqResolutionInfo code free nc nm = tt
 
-  by-found : (c : Command) → Coded (getD p 0 0) c → (nc nm : ℕ) → Has (judgeBy c (numbersOf p) (seenOf (u16At p 2) s) nc nm)
+  by-found : (c : Command) → Coded (getD p 0 0) c → (nc nm : ℕ) → Has (judgeBy c (numbersOf p) (seenIn (u16At p 2) (sessionOf s)) nc nm)
   unfolding judgeBy
   by-found c code nc nm =
       cond-ind Has (ltb (length p) (fewest c)) (λ _. tt) (λ _.
-      cond-ind Has (lockedBy (needsOf c) (seenOf (u16At p 2) s)) (λ _. tt) (λ free. the-found c code free nc nm))
+      cond-ind Has (lockedBy (needsOf c) (seenIn (u16At p 2) (sessionOf s))) (λ _. tt) (λ free. the-found c code free nc nm))
 
 pub judged : (p s : List ℕ) (nc nm : ℕ) → Found (judgeOf p s nc nm) p s
-unfolding judgeOf judge
+unfolding judgeIn sessionOf judge
 judged p s nc nm = by-found p s (commandOf (getD p 0 0)) (coded (getD p 0 0)) nc nm

@@ -12,13 +12,15 @@ use lib.Dec.{lit≤, lit<}
 use lib.ListN.{length, getD, set, take, length-take}
 use lib.Pow.{low, shr-lt}
 use lib.Seq.{getD-take}
+use Rattle.model.specs.Judge.{judgeIn, getSeedDeed, judgeThe, judgeBy, judge}
+use Rattle.model.specs.Answers.{replyIn}
+use Rattle.model.specs.View.{sessionOf}
 use Rattle.line.specs.Message.{room}
 use Rattle.state.specs.Layout.{size, generatorAt, ctrAt, placeAt, servedAt, lastAt, answerAt, sessionAt, openAt, mtaAt, sampleAt, listOf}
 use Rattle.state.specs.Bytes.{u32At, put32, bytes32}
 use Rattle.state.specs.Generator.{addend, rotatedLeft8, keyOf, nextOf}
 use Rattle.state.specs.State.{consistent, bitOf, generatorOf, setGenerator, openOf, unlockedOf, seedOf, setSeed, answered}
 use Rattle.words.specs.Command.{commandOf}
-use Rattle.model.specs.Judge.{getSeedDeed, judgeThe, judgeBy, judge}
 use Rattle.session.specs.Look.{judgeOf}
 use Rattle.session.specs.Perform.{effect, reply, after}
 use Rattle.session.specs.Receive.{obeyed, receiveOf}
@@ -121,14 +123,14 @@ begins-long p l n e h = let k = sym (length-take n p) ∙ ap length e ∙ h in o
 
 -- ---- GET_SEED
 give-judged : (p s : List ℕ) (r : Resource) (nc nm : ℕ) → take 3 p ≡ 0xF8 ∷ 0x00 ∷ bitOf r ∷ [] → unlockedOf s r ≡ false → judgeOf p s nc nm ≡ GiveSeed r
-unfolding judgeOf judge judgeBy judgeThe commandOf getSeedDeed
+unfolding judgeIn sessionOf judge judgeBy judgeThe commandOf getSeedDeed
 give-judged p s Calibration nc nm e locked =
     simp (begins-at p _ 3 0 e (lit< tt), le-ltb (length p) 3 (begins-long p _ 3 e refl), begins-at p _ 3 1 e (lit< tt), begins-at p _ 3 2 e (lit< tt), locked)
 give-judged p s Lists nc nm e locked =
     simp (begins-at p _ 3 0 e (lit< tt), le-ltb (length p) 3 (begins-long p _ 3 e refl), begins-at p _ 3 1 e (lit< tt), begins-at p _ 3 2 e (lit< tt), locked)
 
 seed-says : (r : Resource) (s cal meas : List ℕ) → reply (GiveSeed r) s cal meas ≡ 0xFF ∷ 0x04 ∷ bytes32 (nextOf (generatorOf s))
-unfolding reply
+unfolding replyIn sessionOf
 seed-says r s cal meas = refl
 
 -- what GET_SEED leaves

@@ -13,11 +13,11 @@ use lib.Seq.{sets}
 use Rattle.state.specs.Layout.{size}
 use Rattle.state.specs.Bytes.{block}
 use Rattle.state.specs.State.{consistent, ctrOf, answerOf}
-use Rattle.model.specs.Answers.{written}
+use Rattle.model.specs.Answers.{written, writes}
 use Rattle.session.specs.PowerUp.{powered}
 use Rattle.session.specs.Receive.{Step}
 use Rattle.model.specs.declared.Deed.{Deed}
-use Rattle.model.specs.declared.Deed.the-variants.{Refuse, RefuseSize, WrongKey, Connect, Disconnect, Status, Synch, NoSeed, GiveSeed, Unlock, SetMta, Upload, ShortUpload, Checksum, Download, ClearList, SetPointer, ClearEntry, WriteEntry, SetMode, Stop, Start, KeepRunning, Select, StopAll, StartSelected, StopSelected, ProcessorInfo, ResolutionInfo}
+use Rattle.model.specs.declared.Deed.the-variants.{Download}
 use Rattle.state.proofs.Consistent.{consistent-size}
 use Rattle.fields.proofs.Frames.{Only, only-sets}
 use Rattle.fields.proofs.Readers.{Same, before, behind, same-block}
@@ -26,6 +26,7 @@ use Rattle.demands.specs.Slave.{ours}
 use Rattle.demands.specs.Runs.{SendingSlot, sends}
 use Rattle.demands.specs.Life.{Device, Moment, PowerOn, Hears, Samples, Serves, passed, lived, sentIn, OfByte, OfBytes}
 use Rattle.demands.specs.Demand2.{Downloads, Uploads, dueAt, dueIn, WhileShut, Spares}
+use Rattle.fields.proofs.Writes.{by-write}
 use Rattle.demands.proofs.Received.{Reads, rests, acts, received}
 use Rattle.demands.proofs.Locks.{locked-keeps}
 use Rattle.demands.proofs.Downloads.{uploaded, Wrote, downloaded}
@@ -76,36 +77,10 @@ module _ (a n : ℕ) where
         few = rw length-take (omega arith)
 
   deed-leaves : (d : Deed) (p cal : List ℕ) → Beside a n (some d) → Leaves a n cal (written d p cal)
-  unfolding written
-  deed-leaves (Refuse r) p cal u = leaves-all
-  deed-leaves RefuseSize p cal u = leaves-all
-  deed-leaves WrongKey p cal u = leaves-all
-  deed-leaves Connect p cal u = leaves-all
-  deed-leaves Disconnect p cal u = leaves-all
-  deed-leaves Status p cal u = leaves-all
-  deed-leaves Synch p cal u = leaves-all
-  deed-leaves NoSeed p cal u = leaves-all
-  deed-leaves (GiveSeed r) p cal u = leaves-all
-  deed-leaves (Unlock r) p cal u = leaves-all
-  deed-leaves (SetMta e x) p cal u = leaves-all
-  deed-leaves (Upload e x m) p cal u = leaves-all
-  deed-leaves (ShortUpload e x m) p cal u = leaves-all
-  deed-leaves (Checksum e x m) p cal u = leaves-all
-  deed-leaves (Download x m) p cal u = download-leaves x m p cal (u x m refl)
-  deed-leaves (ClearList l) p cal u = leaves-all
-  deed-leaves (SetPointer k e) p cal u = leaves-all
-  deed-leaves (ClearEntry k e) p cal u = leaves-all
-  deed-leaves (WriteEntry k e m y x) p cal u = leaves-all
-  deed-leaves (SetMode l event) p cal u = leaves-all
-  deed-leaves (Stop l) p cal u = leaves-all
-  deed-leaves (Start l) p cal u = leaves-all
-  deed-leaves (KeepRunning l) p cal u = leaves-all
-  deed-leaves (Select l) p cal u = leaves-all
-  deed-leaves StopAll p cal u = leaves-all
-  deed-leaves StartSelected p cal u = leaves-all
-  deed-leaves StopSelected p cal u = leaves-all
-  deed-leaves ProcessorInfo p cal u = leaves-all
-  deed-leaves ResolutionInfo p cal u = leaves-all
+  unfolding writes
+  deed-leaves d p cal =
+      by-write (λ (e : Deed). Beside a n (some e) → Leaves a n cal (written e p cal))
+      (λ e w u. rw w leaves-all) (λ x m u. download-leaves x m p cal (u x m refl)) d
 
   byte-leaves : {s cal meas : List ℕ} {b : ℕ} {o : Step} {x : Option Deed} → Reads s cal meas b o x → Beside a n x → Leaves a n cal (o .cal)
   byte-leaves (rests r x f) u = leaves-all

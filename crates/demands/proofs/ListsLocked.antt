@@ -21,15 +21,15 @@ use Rattle.words.specs.declared.Received.{Received}
 use Rattle.words.specs.declared.Resource.the-variants.{Lists}
 use Rattle.model.specs.declared.Deed.{Deed}
 use Rattle.model.specs.declared.Deed.the-variants.{Connect}
-use Rattle.model.specs.Answers.{written}
+use Rattle.model.specs.Answers.{written, replyIn, doneBy}
 use Rattle.session.specs.Perform.{after}
-use Rattle.session.specs.Receive.{Step, only, obeyed, goodConnect, receiveOf}
+use Rattle.session.specs.Receive.{Step, only, obeyed, receiveOf}
+use Rattle.model.specs.Heed.{goodConnect}
 use Rattle.fields.proofs.Readers.{before, same-part}
 use Rattle.fields.proofs.Captures.{only-event}
 use Rattle.fields.proofs.Served.{answerSent-session, packetSent-rest}
 use Rattle.model.specs.Model.{byte, Bytes, Session}
 use Rattle.model.specs.Step.{stepIn}
-use Rattle.model.specs.Answers.{replyIn, doneBy}
 use Rattle.model.specs.View.{sessionOf, shown}
 use Rattle.views.specs.Commands.{Fresh}
 use Rattle.views.specs.Locked.{SettingsKept, endsSession, Shields}

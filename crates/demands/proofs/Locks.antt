@@ -13,13 +13,13 @@ use Rattle.state.specs.Bytes.{u32At}
 use Rattle.state.specs.Generator.{keyOf}
 use Rattle.state.specs.State.{consistent, openOf, unlockedOf, seedOf, lockAt, answered}
 use Rattle.session.specs.Perform.{effect, reply, after}
-use Rattle.model.specs.Answers.{written}
+use Rattle.model.specs.Answers.{written, writes}
 use Rattle.session.specs.Receive.{Step, obeyed, receiveOf}
 use Rattle.words.specs.declared.Resource.{Resource}
 use Rattle.words.specs.declared.Resource.the-variants.{Calibration, Lists}
 use Rattle.words.specs.declared.Seed.the-variants.{None, For}
 use Rattle.model.specs.declared.Deed.{Deed}
-use Rattle.model.specs.declared.Deed.the-variants.{Refuse, RefuseSize, WrongKey, Connect, Disconnect, Status, Synch, NoSeed, GiveSeed, Unlock, SetMta, Upload, ShortUpload, Checksum, Download, ClearList, SetPointer, ClearEntry, WriteEntry, SetMode, Stop, Start, KeepRunning, Select, StopAll, StartSelected, StopSelected, ProcessorInfo, ResolutionInfo}
+use Rattle.model.specs.declared.Deed.the-variants.{Connect, Unlock}
 use Rattle.fields.proofs.Effects.{answering}
 use Rattle.fields.proofs.Fields.{other, lock-same, lock-other}
 use Rattle.fields.proofs.Frames.{only-seed}
@@ -27,6 +27,7 @@ use Rattle.fields.proofs.Readers.{Same, apart, same-part, lock-reads, answered-
 use Rattle.demands.specs.Slave.{ours}
 use Rattle.demands.specs.Heard.{readBy, Commands, deedOf, bringsKey, keyMatches}
 use Rattle.demands.specs.Demand2.{shut, otherLock}
+use Rattle.fields.proofs.Writes.{by-write}
 use Rattle.demands.proofs.Judged.{Found}
 use Rattle.demands.proofs.ReadBy.{read-length, read-lock, read-seed, read-generator}
 use Rattle.demands.proofs.Received.{Reads, rests, acts, received, commanded}
@@ -35,39 +36,12 @@ use Rattle.demands.proofs.Refusals.{key-judged}
 -- ---- locked
 -- a deed that is done while calibration is locked writes nothing
 locked-written : (d : Deed) (p s cal : List ℕ) → Found d p s → unlockedOf s Calibration ≡ false → written d p cal ≡ cal
-unfolding written
-locked-written (Refuse r) p s cal f n = refl
-locked-written RefuseSize p s cal f n = refl
-locked-written WrongKey p s cal f n = refl
-locked-written Connect p s cal f n = refl
-locked-written Disconnect p s cal f n = refl
-locked-written Status p s cal f n = refl
-locked-written Synch p s cal f n = refl
-locked-written NoSeed p s cal f n = refl
-locked-written (GiveSeed r) p s cal f n = refl
-locked-written (Unlock r) p s cal f n = refl
-locked-written (SetMta e a) p s cal f n = refl
-locked-written (Upload e a m) p s cal f n = refl
-locked-written (ShortUpload e a m) p s cal f n = refl
-locked-written (Checksum e a m) p s cal f n = refl
-locked-written (Download a m) p s cal f n = absurd (false-true (sym n ∙ f .unlocked))
-locked-written (ClearList l) p s cal f n = refl
-locked-written (SetPointer k e) p s cal f n = refl
-locked-written (ClearEntry k e) p s cal f n = refl
-locked-written (WriteEntry k e m x a) p s cal f n = refl
-locked-written (SetMode l event) p s cal f n = refl
-locked-written (Stop l) p s cal f n = refl
-locked-written (Start l) p s cal f n = refl
-locked-written (KeepRunning l) p s cal f n = refl
-locked-written (Select l) p s cal f n = refl
-locked-written StopAll p s cal f n = refl
-locked-written StartSelected p s cal f n = refl
-locked-written StopSelected p s cal f n = refl
-locked-written ProcessorInfo p s cal f n = refl
-locked-written ResolutionInfo p s cal f n = refl
+locked-written d p s cal =
+    by-write (λ (e : Deed). Found e p s → unlockedOf s Calibration ≡ false → written e p cal ≡ cal)
+    (λ e w f n. rw w) (λ a m f n. absurd (false-true (sym n ∙ f .unlocked))) d
 
 connect-written : (d : Deed) (p cal : List ℕ) → d ≡ Connect → written d p cal ≡ cal
-unfolding written
+unfolding writes
 connect-written d p cal e = rw e
 
 shut-by : {s cal meas : List ℕ} {b : ℕ} {o : Step} {x : Option Deed} → consistent s ≡ true → shut s ≡ true → Reads s cal meas b o x → o .cal ≡ cal

@@ -1,13 +1,14 @@
 -- How a received byte is read: either the reader's place alone changes, or one deed is done. Assumes nothing.
 use Prim.{tt}
 use Prim.Native.Nat.{ℕ, _≤_}
-use mathlib.Core.Path.{_≡_, refl, sym, ap, _∙_}
+use mathlib.Core.Path.{_≡_, refl, sym, ap, _∙_, subst}
 use mathlib.Core.Logic.{_≢_}
 use mathlib.Core.Bool.{Bool, true, false, cond}
 use mathlib.Core.Option.{Option, none, some}
 use mathlib.Core.List.{List}
 use native.Mathlib.Omega.{arith}
 use lib.ListN.{length}
+use Rattle.session.proofs.Heeding.{heeded-is}
 use Rattle.line.specs.declared.Outcome.{Outcome}
 use Rattle.line.specs.declared.Outcome.the-variants as line
 use Rattle.line.proofs.Laws.{cond-ind}
@@ -16,7 +17,8 @@ use Rattle.state.specs.Bytes.{block}
 use Rattle.state.specs.State.{consistent, openOf, waits, answerOf}
 use Rattle.session.specs.Perform.{reply}
 use Rattle.judge.specs.Doable.{Doable}
-use Rattle.session.specs.Receive.{Step, only, obeyed, goodConnect, heeded, meant, fedOf, receivedBy, receiveOf}
+use Rattle.session.specs.Receive.{Step, only, obeyed, heeded, meant, fedOf, receivedBy, receiveOf}
+use Rattle.model.specs.Heed.{goodConnect}
 use Rattle.words.specs.Number.{receivedNumber}
 use Rattle.model.specs.declared.Deed.{Deed}
 use Rattle.model.specs.declared.Deed.the-variants.{Connect}
@@ -44,9 +46,10 @@ pub data Reads (s cal meas : List ℕ) (b : ℕ) : Step → Option Deed → Type
 module _ (s cal meas : List ℕ) (b : ℕ) (c : consistent s ≡ true) where
   -- a packet that came whole
   heeded-reads : (p : List ℕ) → packetEnded s b ≡ some p → Reads s cal meas b (heeded p (readBy s b) cal meas) (heeds (some p) (readBy s b) cal meas)
-  unfolding heeded heeds
+  unfolding heeds
   heeded-reads p e =
-      go (waits (readBy s b)) (openOf (readBy s b)) (goodConnect p) (sym (read-waits s b c)) (sym (read-open s b c)) refl where
+      subst (λ (o : Step). Reads s cal meas b o (heeds (some p) (readBy s b) cal meas)) (sym (heeded-is p (readBy s b) cal meas))
+      (go (waits (readBy s b)) (openOf (readBy s b)) (goodConnect p) (sym (read-waits s b c)) (sym (read-open s b c)) refl) where
         t : List ℕ
         t = readBy s b
 
@@ -144,8 +147,7 @@ heeds-right s cal meas b p c e = received-by s cal meas b c ∙ heeded-whole s c
 -- a command is judged, and what it leads to is done
 pub commanded : (s cal meas : List ℕ) (b : ℕ) (p : List ℕ) → consistent s ≡ true → Commands s b p
     → receiveOf s cal meas b ≡ obeyed (deedOf p (readBy s b) cal meas) p (readBy s b) cal meas
-unfolding heeded
-commanded s cal meas b p c w = heeds-right s cal meas b p c (w .ends) ∙ simp (read-waits s b c ∙ w .free, read-open s b c ∙ w .opened)
+commanded s cal meas b p c w = heeds-right s cal meas b p c (w .ends) ∙ heeded-is p (readBy s b) cal meas ∙ simp (read-waits s b c ∙ w .free, read-open s b c ∙ w .opened)
 
 -- its answer reads as it was given
 pub command-answer : (s cal meas : List ℕ) (b : ℕ) (p : List ℕ) → consistent s ≡ true → Commands s b p

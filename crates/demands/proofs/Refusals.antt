@@ -8,14 +8,15 @@ use native.Mathlib.Omega.{arith}
 use borrow.Author.Tests.{eqb-true, ltb-false, le-ltb, not-true}
 use lib.Dec.{eqb, ltb}
 use lib.ListN.{length, getD}
+use Rattle.model.specs.Judge.{judgeIn, unlockBy, judgeThe, judgeBy, judge}
+use Rattle.model.specs.Answers.{replyIn, written, writes}
+use Rattle.model.specs.View.{sessionOf}
 use Rattle.line.proofs.Laws.{cond-ind}
 use Rattle.line.proofs.Stuffed.{false-true}
 use Rattle.state.specs.State.{seedOf}
 use Rattle.words.specs.Command.{commandOf}
-use Rattle.model.specs.Judge.{unlockBy, judgeThe, judgeBy, judge}
 use Rattle.session.specs.Look.{judgeOf}
 use Rattle.session.specs.Perform.{effect, reply}
-use Rattle.model.specs.Answers.{written}
 use Rattle.words.specs.declared.Resource.{Resource}
 use Rattle.words.specs.declared.Seed.{Seed}
 use Rattle.words.specs.declared.Seed.the-variants.{None, For}
@@ -34,7 +35,7 @@ ff-fe e = omega arith
 
 -- apart from a wrong key, nothing changes
 pub refusal : (d : Deed) (p s cal meas : List ℕ) → d ≢ WrongKey → getD (reply d s cal meas) 0 0 ≡ 0xFE → Idles d p s cal
-unfolding effect reply written
+unfolding effect replyIn sessionOf writes
 refusal (Refuse r) p s cal meas n e = record { state = refl; memory = refl }
 refusal RefuseSize p s cal meas n e = record { state = refl; memory = refl }
 refusal WrongKey p s cal meas n e = absurd (n refl)
@@ -84,7 +85,7 @@ keyed p =
 
 -- with a key for the seed that is out, whether it matches is all that is left
 pub key-judged : (p s : List ℕ) (r : Resource) (nc nm : ℕ) → bringsKey p ≡ true → seedOf s ≡ For r → judgeOf p s nc nm ≡ cond (keyMatches p r s) (Unlock r) WrongKey
-unfolding judgeOf judge judgeBy judgeThe commandOf unlockBy
+unfolding judgeIn sessionOf judge judgeBy judgeThe commandOf unlockBy
 key-judged p s r nc nm k e =
     let w : Keyed p = keyed p k in
     let long : 6 ≤ length p = w .long in
@@ -112,7 +113,7 @@ wrong-judged p s nc nm e =
 
 -- ---- DISCONNECT
 pub disconnect-judged : (q s : List ℕ) (nc nm : ℕ) → getD q 0 0 ≡ 0xFE → judgeOf q s nc nm ≡ Disconnect
-unfolding judgeOf judge judgeBy judgeThe commandOf
+unfolding judgeIn sessionOf judge judgeBy judgeThe commandOf
 disconnect-judged [] s nc nm e = absurd (let z : _≡_ {A = ℕ} 0 0xFE = e in omega arith)
 disconnect-judged (x ∷ q) s nc nm e =
     let h : x ≡ 0xFE = e in

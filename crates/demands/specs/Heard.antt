@@ -14,7 +14,8 @@ use Rattle.state.specs.Generator.{keyOf}
 use Rattle.state.specs.State.{flagOf, openOf, generatorOf, seedOf, waits}
 use Rattle.session.specs.Look.{judgeOf}
 use Rattle.session.specs.Perform.{reply}
-use Rattle.session.specs.Receive.{goodConnect, fedOf, readOn}
+use Rattle.session.specs.Receive.{fedOf, readOn}
+use Rattle.model.specs.Heed.{goodConnect}
 use Rattle.words.specs.declared.Resource.{Resource}
 use Rattle.words.specs.declared.Seed.{Seed}
 use Rattle.words.specs.declared.Seed.the-variants.{None, For}

@@ -6,6 +6,8 @@ use mathlib.Core.List.{List, _∷_}
 use native.Mathlib.Omega.{arith}
 use lib.Dec.{T, leb, lit≤}
 use lib.ListN.{length, getD, set, length-take}
+use Rattle.model.specs.Answers.{replyIn}
+use Rattle.model.specs.View.{sessionOf}
 use Rattle.line.proofs.Laws.{cond-ind}
 use Rattle.state.specs.Layout.{size, generatorAt, ctrAt, sessionAt, seedAt, mtaAt, modeAt, selectedAt, runningAt, entriesAt, entryAt, sampleAt, firstOdt, odtCount, listOf, lists, entryCount, allOdts, packetMost, uploadMost, listSize, entrySize, odtSize}
 use Rattle.state.specs.Bytes.{block, cleared}
@@ -172,7 +174,7 @@ uploaded mem a n h = record { some = omega arith; few = omega (arith, shorter); 
   shorter = rw length-take (omega arith)
 
 pub answering : (d : Deed) (s cal meas : List ℕ) (n : ℕ) → Doable d n (length cal) (length meas) → Answering (reply d s cal meas)
-unfolding reply
+unfolding replyIn sessionOf
 answering (Refuse r) s cal meas n h = short tt tt tt
 answering RefuseSize s cal meas n h = short tt tt tt
 answering WrongKey s cal meas n h = short tt tt tt

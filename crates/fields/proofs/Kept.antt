@@ -8,6 +8,8 @@ use borrow.Author.Tests.{eq-eqb}
 use lib.Dec.{ltb, leb, lit<, lit≤}
 use lib.ListN.{length, getD, set, take, replicate, length-set}
 use lib.Seq.{sets, length-sets, getD-take, take-set-le}
+use Rattle.model.specs.Heed.{Heeding, Dropped, Obeyed, Ignored, heedingIn}
+use Rattle.model.specs.View.{sessionOf}
 use Rattle.line.specs.Message.{longest, room}
 use Rattle.line.specs.Unstuffing.{Fed}
 use Rattle.line.specs.declared.Outcome.{Outcome}
@@ -17,12 +19,11 @@ use Rattle.line.proofs.After.{take-length}
 use Rattle.state.specs.Layout.{mark, markAt, size, generatorAt, ctrAt, servedAt, lastAt, messageAt, answerAt, answerBytesAt, lists, modeAt, selectedAt, runningAt, entriesAt, entryAt, sampleAt, firstOdt, odtCount, listOf, events, listSize, entrySize, odtSize, lastList}
 use Rattle.state.specs.Bytes.{u32At, put16, put32, block, cleared}
 use Rattle.state.specs.Generator.{startOf, nextOf}
-use Rattle.state.specs.State.{consistent, flagOf, openOf, generatorOf, setGenerator, lockAt, setSeed, setMta, setPointer, placeOf, messageOf, waits, answerKind, answered}
+use Rattle.state.specs.State.{consistent, flagOf, generatorOf, setGenerator, lockAt, setSeed, setMta, setPointer, placeOf, messageOf, waits, answerKind, answered}
 use Rattle.lists.specs.Lists.{runsOf, dropped, switched, listCleared, modeSet, tagOf, entryCleared, entrySet, stopEach, startOne, startSelected, stopSelected}
-use Rattle.session.specs.Look.{judgeOf}
 use Rattle.model.specs.Step.{nextEntry}
 use Rattle.session.specs.Perform.{effect, reply, after}
-use Rattle.session.specs.Receive.{Step, goodConnect, heeded, meant, readOn, fedOf, receiveOf}
+use Rattle.session.specs.Receive.{Step, heededBy, heeded, meant, readOn, fedOf, receiveOf}
 use Rattle.lists.specs.Event.{stored, capturedOdts, captured, samplingOf, sampledState, tally, Happened, eventOf}
 use Rattle.lists.specs.Slot.{Slot, turnOf, nextCtr, answerSent, packetSent, sentBy, slotOf}
 use Rattle.session.specs.PowerUp.{powered, powerUpOf}
@@ -217,14 +218,14 @@ pub marked-after : (d : Deed) (s cal meas : List ℕ) → Marked s (after d s ca
 marked-after d s cal meas = marked-then (marked-effect d s) (marked-answered (effect d s) (reply d s cal meas))
 
 -- ---- a received byte
+marked-heeding : (h : Heeding) (p s cal meas : List ℕ) → Marked s (heededBy h p s cal meas .state)
+marked-heeding Dropped p s cal meas = marked-none
+marked-heeding (Obeyed d) p s cal meas = marked-after d s cal meas
+marked-heeding Ignored p s cal meas = marked-none
+
 marked-heeded : (p s cal meas : List ℕ) → Marked s (heeded p s cal meas .state)
 unfolding heeded
-marked-heeded p s cal meas =
-    let Good : Step → Type 0 = λ (o : Step). Marked s (o .state) in
-    cond-ind Good (waits s) (λ _. marked-none)
-    (λ _. cond-ind Good (openOf s) (λ _. marked-after (judgeOf p s (length cal) (length meas)) s cal meas)
-    (λ _. cond-ind Good (goodConnect p) (λ _. marked-after Connect s cal meas)
-    (λ _. marked-none)))
+marked-heeded p s cal meas = marked-heeding (heedingIn (waits s) p (sessionOf s) (length cal) (length meas)) p s cal meas
 
 marked-meant : (o : Outcome) (m s cal meas : List ℕ) → Marked s (meant o m s cal meas .state)
 unfolding meant

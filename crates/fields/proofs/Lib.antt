@@ -7,3 +7,4 @@ pub mod Effects
 pub mod Captures
 pub mod Served
 pub mod Kept
+pub mod Writes

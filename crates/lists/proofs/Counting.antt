@@ -1,11 +1,11 @@
 -- A test over the first n lists, or over n ODTs, once decided, stays so. Assumes nothing.
 use mathlib.Core.Path.{_≡_, refl, subst}
 use mathlib.Core.Bool.{Bool, true, false, cond}
-use mathlib.Core.List.{List}
 use Prim.Native.Nat.{ℕ, zero, suc, _+_, _-_, _≤_}
 use native.Mathlib.Nat.{add-zero, add-suc}
 use native.Mathlib.Omega.{arith}
-use Rattle.lists.specs.Lists.{anyRuns, allFit, odtsFit, someStored}
+use Rattle.model.specs.Model.{DaqList, Session, eachFits, someRuns, somePacket}
+use Rattle.model.specs.Judge.{allStartable}
 
 stays : (f : ℕ → Bool) (b : Bool) → ((n : ℕ) → f n ≡ b → f (suc n) ≡ b) → (l n : ℕ) → l ≤ n → f l ≡ b → f n ≡ b
 stays f b h l n le e =
@@ -16,33 +16,33 @@ stays f b h l n le e =
     go zero = rw add-zero e
     go (suc k) = rw add-suc (h (l + k) (go k))
 
-any-next : (s : List ℕ) (k : ℕ) → anyRuns s k ≡ true → anyRuns s (suc k) ≡ true
-unfolding anyRuns
-any-next s k e = rw e
+any-next : (c : Session) (k : ℕ) → someRuns c k ≡ true → someRuns c (suc k) ≡ true
+unfolding someRuns
+any-next c k e = rw e
 
-pub any-stays : (s : List ℕ) (l n : ℕ) → l ≤ n → anyRuns s l ≡ true → anyRuns s n ≡ true
-any-stays s = stays (anyRuns s) true (any-next s)
+pub any-stays : (c : Session) (l n : ℕ) → l ≤ n → someRuns c l ≡ true → someRuns c n ≡ true
+any-stays c = stays (someRuns c) true (any-next c)
 
-all-next : (s : List ℕ) (k : ℕ) → allFit s k ≡ false → allFit s (suc k) ≡ false
-unfolding allFit
-all-next s k e = rw e
+all-next : (c : Session) (k : ℕ) → allStartable c k ≡ false → allStartable c (suc k) ≡ false
+unfolding allStartable
+all-next c k e = rw e
 
-pub all-stays : (s : List ℕ) (l n : ℕ) → l ≤ n → allFit s l ≡ false → allFit s n ≡ false
-all-stays s = stays (allFit s) false (all-next s)
+pub all-stays : (c : Session) (l n : ℕ) → l ≤ n → allStartable c l ≡ false → allStartable c n ≡ false
+all-stays c = stays (allStartable c) false (all-next c)
 
-fit-next : (s : List ℕ) (k n : ℕ) → odtsFit s k n ≡ false → odtsFit s k (suc n) ≡ false
-unfolding odtsFit
-fit-next s k n e = rw e
+fit-next : (l : ℕ) (x : DaqList) (n : ℕ) → eachFits l x n ≡ false → eachFits l x (suc n) ≡ false
+unfolding eachFits
+fit-next l x n e = rw e
 
-pub fit-stays : (s : List ℕ) (k j n : ℕ) → j ≤ n → odtsFit s k j ≡ false → odtsFit s k n ≡ false
-fit-stays s k = stays (odtsFit s k) false (fit-next s k)
+pub fit-stays : (l : ℕ) (x : DaqList) (j n : ℕ) → j ≤ n → eachFits l x j ≡ false → eachFits l x n ≡ false
+fit-stays l x = stays (eachFits l x) false (fit-next l x)
 
-some-next : (s : List ℕ) (k n : ℕ) → someStored s k n ≡ true → someStored s k (suc n) ≡ true
-unfolding someStored
-some-next s k n e = rw e
+some-next : (x : DaqList) (n : ℕ) → somePacket x n ≡ true → somePacket x (suc n) ≡ true
+unfolding somePacket
+some-next x n e = rw e
 
-pub some-stays : (s : List ℕ) (k j n : ℕ) → j ≤ n → someStored s k j ≡ true → someStored s k n ≡ true
-some-stays s k = stays (someStored s k) true (some-next s k)
+pub some-stays : (x : DaqList) (j n : ℕ) → j ≤ n → somePacket x j ≡ true → somePacket x n ≡ true
+some-stays x = stays (somePacket x) true (some-next x)
 
 -- no, whatever is asked before
 pub both-no : (b c : Bool) → c ≡ false → cond b false c ≡ false

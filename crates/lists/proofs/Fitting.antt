@@ -8,11 +8,13 @@ use native.Mathlib.Omega.{arith}
 use borrow.Author.Tests.{leb-true}
 use lib.Dec.{eqb, leb}
 use Rattle.line.proofs.Laws.{cond-ind}
-use Rattle.state.specs.State.{flagOf, openOf}
-use Rattle.state.specs.Layout.{runningAt, firstOdt, odtCount, odtMost}
-use Rattle.lists.specs.Lists.{odtBytes, bytesOfOdts, odtsFit, fitOf, runsOf, unsent}
-use Rattle.state.specs.Lists.{modeOf}
+use Rattle.state.specs.Layout.{lists, firstOdt, odtCount, odtMost}
+use Rattle.lists.specs.Lists.{odtBytes, runsOf}
 use Rattle.lists.specs.Event.{samplingOf}
+use Rattle.model.specs.Model.{Odt, DaqList, bytesIn, allBytes, eachFits, fits, runs, unsent}
+use Rattle.model.specs.Calls.{samplingIn}
+use Rattle.model.specs.View.{sessionOf}
+use Rattle.model.proofs.Shown.{odt-at}
 use Rattle.model.specs.declared.Sampling.{Sampling}
 use Rattle.model.specs.declared.Sampling.the-variants.{Idle, Sampled, Missed}
 use Rattle.lists.proofs.Counting.{fit-stays}
@@ -30,34 +32,37 @@ second : (a b : Bool) → cond a false b ≡ true → b ≡ true
 second true b e = absurd (off e)
 second false b e = e
 
-pub runs-fit : (s : List ℕ) (l : ℕ) → runsOf s l ≡ true → odtsFit s (firstOdt l) (odtCount l) ≡ true
-unfolding runsOf fitOf
+pub runs-fit : (s : List ℕ) (l : ℕ) → runsOf s l ≡ true → eachFits l (sessionOf s .list l) (odtCount l) ≡ true
+unfolding runs fits
 runs-fit s l e =
-    let fit = both (flagOf s (runningAt l)) (fitOf s l) (both (openOf s) (cond (flagOf s (runningAt l)) (fitOf s l) false) e) in
-    second (eqb (bytesOfOdts s (firstOdt l) (odtCount l)) 0) (odtsFit s (firstOdt l) (odtCount l))
-    (second (eqb (modeOf s l) 0) (cond (eqb (bytesOfOdts s (firstOdt l) (odtCount l)) 0) false (odtsFit s (firstOdt l) (odtCount l))) fit)
+    let x : DaqList = sessionOf s .list l in
+    let fit = both (x .started) (fits l x) (both (sessionOf s .opened) (cond (x .started) (fits l x) false) e) in
+    second (eqb (allBytes l x (odtCount l)) 0) (eachFits l x (odtCount l)) (second (eqb (x .mode) 0) (cond (eqb (allBytes l x (odtCount l)) 0) false (eachFits l x (odtCount l))) fit)
 
 -- what an event leans on that samples list l
 abbrev pub Fitting : List ℕ → ℕ → Sampling → Type 0
 Fitting s l Idle = Unit
-Fitting s l Sampled = odtsFit s (firstOdt l) (odtCount l) ≡ true
+Fitting s l Sampled = eachFits l (sessionOf s .list l) (odtCount l) ≡ true
 Fitting s l Missed = Unit
 
 pub sampling-fits : (s : List ℕ) (l event : ℕ) → Fitting s l (samplingOf s l event)
-unfolding samplingOf
+unfolding samplingIn
 sampling-fits s l event =
-    cond-ind (Fitting s l) (eqb (modeOf s l) (event + 1))
-    (λ _. cond-ind (Fitting s l) (runsOf s l) (λ runs. cond-ind (Fitting s l) (unsent s l) (λ _. tt) (λ _. runs-fit s l runs)) (λ _. tt))
+    cond-ind (Fitting s l) (eqb (sessionOf s .list l .mode) (event + 1))
+    (λ _. cond-ind (Fitting s l) (runsOf s l) (λ runs. cond-ind (Fitting s l) (unsent l (sessionOf s .list l)) (λ _. tt) (λ _. runs-fit s l runs)) (λ _. tt))
     (λ _. tt)
 
-next-unfit : (s : List ℕ) (k j : ℕ) → leb (odtBytes s (k + j)) (odtMost (k + j)) ≡ false → odtsFit s k (suc j) ≡ false
-unfolding odtsFit
-next-unfit s k j e = rw e (cond-ind (λ (b : Bool). b ≡ false) (odtsFit s k j) (λ _. refl) (λ _. refl))
+next-unfit : (l : ℕ) (x : DaqList) (j : ℕ) → leb (bytesIn (firstOdt l + j) (x .odt j)) (odtMost (firstOdt l + j)) ≡ false → eachFits l x (suc j) ≡ false
+unfolding eachFits
+next-unfit l x j e = rw e (cond-ind (λ (b : Bool). b ≡ false) (eachFits l x j) (λ _. refl) (λ _. refl))
 
 -- each ODT of a list that fits
-pub fit-each : (s : List ℕ) (k n j : ℕ) → odtsFit s k n ≡ true → j < n → odtBytes s (k + j) ≤ odtMost (k + j)
-fit-each s k n j e h = by (leb (odtBytes s (k + j)) (odtMost (k + j))) refl
+fit-one : (l : ℕ) (x : DaqList) (n j : ℕ) → eachFits l x n ≡ true → j < n → bytesIn (firstOdt l + j) (x .odt j) ≤ odtMost (firstOdt l + j)
+fit-one l x n j e h = by (leb (bytesIn (firstOdt l + j) (x .odt j)) (odtMost (firstOdt l + j))) refl
   where
-    by : (b : Bool) → leb (odtBytes s (k + j)) (odtMost (k + j)) ≡ b → odtBytes s (k + j) ≤ odtMost (k + j)
-    by true f = leb-true (odtBytes s (k + j)) (odtMost (k + j)) f
-    by false f = absurd (off (sym (fit-stays s k (suc j) n (omega arith) (next-unfit s k j f)) ∙ e))
+    by : (b : Bool) → leb (bytesIn (firstOdt l + j) (x .odt j)) (odtMost (firstOdt l + j)) ≡ b → bytesIn (firstOdt l + j) (x .odt j) ≤ odtMost (firstOdt l + j)
+    by true f = leb-true (bytesIn (firstOdt l + j) (x .odt j)) (odtMost (firstOdt l + j)) f
+    by false f = absurd (off (sym (fit-stays l x (suc j) n (omega arith) (next-unfit l x j f)) ∙ e))
+
+pub fit-each : (s : List ℕ) (l j : ℕ) → l < lists → eachFits l (sessionOf s .list l) (odtCount l) ≡ true → j < odtCount l → odtBytes s (firstOdt l + j) ≤ odtMost (firstOdt l + j)
+fit-each s l j there e h = subst (λ (y : Odt). bytesIn (firstOdt l + j) y ≤ odtMost (firstOdt l + j)) (odt-at s l there j h) (fit-one l (sessionOf s .list l) (odtCount l) j e h)

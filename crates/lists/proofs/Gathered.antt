@@ -10,13 +10,16 @@ use lib.ListN.{length, set, length-append}
 use lib.Seq.{sets, set-comm}
 use Rattle.line.proofs.Laws.{sets-append}
 use Rattle.state.specs.Bytes.{put16}
-use Rattle.state.specs.Layout.{entries, isFirst, odtMost, sampleAt, allOdts, entryMost, clockSize, storedMost}
+use Rattle.state.specs.Layout.{entries, isFirst, odtMost, sampleAt, allOdts, clockSize, storedMost}
 use Rattle.state.specs.Memory.{pick, byteOf, bytesOf}
 use Rattle.state.specs.Lists.{sizeOf, extensionOf, addressOf}
-use Rattle.lists.specs.Lists.{bytesOfFirst, odtBytes}
-use Rattle.lists.specs.Event.{entryBytes, gathered, contentsOf, stored, capturedOdts}
-use Rattle.model.specs.Calls.{leadOf}
-use Rattle.lists.proofs.Entries.{Alike, sets-alike, size-most, entry-alike, gathered-alike, bytes-alike}
+use Rattle.lists.specs.Lists.{odtBytes}
+use Rattle.lists.specs.Event.{contentsOf, stored, capturedOdts}
+use Rattle.model.specs.Model.{sizesOf}
+use Rattle.model.specs.Calls.{blockIn, blocksIn, leadOf, contentsIn}
+use Rattle.model.specs.View.{entryOf, odtOf}
+use Rattle.model.proofs.Shown.{sizes-next, blocks-next}
+use Rattle.lists.proofs.Entries.{Alike, sets-alike, block-alike, blocks-alike, bytes-alike}
 
 pub bytes-next : (mem : List ℕ) (a n : ℕ) → bytesOf mem a (suc n) ≡ bytesOf mem a n ++ byteOf mem (a + n) ∷ []
 unfolding bytesOf
@@ -39,37 +42,37 @@ under [] l i j a h = refl
 under (x ∷ xs) l i j a h = under xs (set l i x) (suc i) j a (omega arith) ∙ ap (λ (m : List ℕ). sets m (suc i) xs) (set-comm l i j x a (λ e. omega arith))
 
 module _ (s : List ℕ) (k : ℕ) (cal meas : List ℕ) where
-  entry-length : (e : ℕ) → length (entryBytes s k e cal meas) ≡ sizeOf s k e
-  unfolding entryBytes
-  entry-length e = bytes-length (pick (extensionOf s k e) cal meas) (addressOf s k e) (sizeOf s k e)
+  abbrev gathered : ℕ → List ℕ
+  gathered n = blocksIn (odtOf s k) cal meas n
 
-  pub gathered-length : (n : ℕ) → length (gathered s k cal meas (suc n)) ≡ length (gathered s k cal meas n) + sizeOf s k n
-  unfolding gathered
-  gathered-length n = length-append (gathered s k cal meas n) (entryBytes s k n cal meas) ∙ ap (λ (m : ℕ). length (gathered s k cal meas n) + m) (entry-length n)
+  pub gathered-length : (n : ℕ) → n < entries → length (gathered (suc n)) ≡ length (gathered n) + sizeOf s k n
+  gathered-length n h =
+      ap length (blocks-next s k cal meas n h) ∙ length-append (gathered n) (blockIn (entryOf s k n) cal meas)
+      ∙ ap (λ (m : ℕ). length (gathered n) + m) (bytes-length (pick (extensionOf s k n) cal meas) (addressOf s k n) (sizeOf s k n))
 
-  pub gathered-most : (n : ℕ) → length (gathered s k cal meas n) ≤ entryMost * n
-  unfolding gathered
-  gathered-most zero = omega arith
-  gathered-most (suc n) = omega (arith, gathered-length n, gathered-most n, size-most s k n)
+  gathered-none : length (gathered 0) ≡ sizesOf (odtOf s k) 0
+  unfolding blocksIn sizesOf
+  gathered-none = refl
 
-  pub gathered-first : (n : ℕ) → length (gathered s k cal meas n) ≡ bytesOfFirst s k n
-  unfolding gathered bytesOfFirst
-  gathered-first zero = refl
-  gathered-first (suc n) = gathered-length n ∙ ap (λ (m : ℕ). m + sizeOf s k n) (gathered-first n)
+  pub gathered-first : (n : ℕ) → n ≤ entries → length (gathered n) ≡ sizesOf (odtOf s k) n
+  gathered-first zero h = gathered-none
+  gathered-first (suc n) h = gathered-length n (omega arith) ∙ ap (λ (m : ℕ). m + sizeOf s k n) (gathered-first n (omega arith)) ∙ sym (sizes-next s k n (omega arith))
 
-  pub gathered-odt : length (gathered s k cal meas entries) ≡ odtBytes s k
-  gathered-odt = gathered-first entries
+  pub gathered-odt : length (gathered entries) ≡ odtBytes s k
+  gathered-odt = gathered-first entries (omega arith)
 
   -- entries are read as they were, with bytes stored past them already
   module _ (odt : k < allOdts) (at : ℕ) (past : sampleAt 0 ≤ at) where
-    pub gathered-next : (n : ℕ) → n < entries → sets (sets s at (gathered s k cal meas n)) (at + length (gathered s k cal meas n)) (entryBytes (sets s at (gathered s k cal meas n)) k n cal meas) ≡ sets s at (gathered s k cal meas (suc n))
-    unfolding gathered
+    pub gathered-next : (n : ℕ) → n < entries → sets (sets s at (gathered n)) (at + length (gathered n)) (blockIn (entryOf (sets s at (gathered n)) k n) cal meas) ≡ sets s at (gathered (suc n))
     gathered-next n h =
-        let same : Alike (sets s at (gathered s k cal meas n)) s = sets-alike (gathered s k cal meas n) s at past in
-        rw (entry-alike (sets s at (gathered s k cal meas n)) s same k odt cal meas n h) (sets-append (gathered s k cal meas n) (entryBytes s k n cal meas) s at)
+        let same : Alike (sets s at (gathered n)) s = sets-alike (gathered n) s at past in
+        ap (λ (bs : List ℕ). sets (sets s at (gathered n)) (at + length (gathered n)) bs) (block-alike (sets s at (gathered n)) s same k odt cal meas n h)
+        ∙ sets-append (gathered n) (blockIn (entryOf s k n) cal meas) s at ∙ ap (λ (bs : List ℕ). sets s at bs) (sym (blocks-next s k cal meas n h))
 
-    pub gathered-after : (xs : List ℕ) → sets (sets s at xs) (at + length xs) (gathered (sets s at xs) k cal meas entries) ≡ sets s at (xs ++ gathered s k cal meas entries)
-    gathered-after xs = rw (gathered-alike (sets s at xs) s (sets-alike xs s at past) k odt cal meas entries (omega arith)) (sets-append xs (gathered s k cal meas entries) s at)
+    pub gathered-after : (xs : List ℕ) → sets (sets s at xs) (at + length xs) (blocksIn (odtOf (sets s at xs) k) cal meas entries) ≡ sets s at (xs ++ gathered entries)
+    gathered-after xs =
+        ap (λ (bs : List ℕ). sets (sets s at xs) (at + length xs) bs) (blocks-alike (sets s at xs) s (sets-alike xs s at past) k odt cal meas entries (omega arith))
+        ∙ sets-append xs (gathered entries) s at
 
 -- an ODT's packet: its bytes, and then its length before them
 pub lead-most : (k clock : ℕ) → length (leadOf k clock) + odtMost k ≤ storedMost
@@ -84,12 +87,12 @@ module _ (s : List ℕ) (k clock : ℕ) (cal meas : List ℕ) (odt : k < allOdts
   lead-bytes t e = rw e (bytes-alike (sets s (at + 1) (leadOf k clock)) s (sets-alike (leadOf k clock) s (at + 1) (omega arith)) k odt)
 
   pub stored-whole : (n : ℕ) → n ≡ length (leadOf k clock) + odtBytes s k
-      → set (sets (sets s (at + 1) (leadOf k clock)) (at + 1 + length (leadOf k clock)) (gathered (sets s (at + 1) (leadOf k clock)) k cal meas entries)) at n
+      → set (sets (sets s (at + 1) (leadOf k clock)) (at + 1 + length (leadOf k clock)) (blocksIn (odtOf (sets s (at + 1) (leadOf k clock)) k) cal meas entries)) at n
       ≡ stored s k (contentsOf s k clock cal meas)
-  unfolding stored contentsOf
+  unfolding stored contentsIn
   stored-whole n e =
-      let bs : List ℕ = leadOf k clock ++ gathered s k cal meas entries in
-      let m : length bs ≡ n = length-append (leadOf k clock) (gathered s k cal meas entries) ∙ ap (λ (j : ℕ). length (leadOf k clock) + j) (gathered-odt s k cal meas) ∙ sym e in
+      let bs : List ℕ = leadOf k clock ++ blocksIn (odtOf s k) cal meas entries in
+      let m : length bs ≡ n = length-append (leadOf k clock) (blocksIn (odtOf s k) cal meas entries) ∙ ap (λ (j : ℕ). length (leadOf k clock) + j) (gathered-odt s k cal meas) ∙ sym e in
       ap (λ (t : List ℕ). set t at n) (gathered-after s k cal meas odt (at + 1) (omega arith) (leadOf k clock))
       ∙ under bs s (at + 1) at n (omega arith)
       ∙ rw (add-one, m, place)
@@ -109,5 +112,5 @@ contents-by true clock n bs e h = omega (arith, e, h)
 contents-by false clock n bs e h = omega (arith, e, h)
 
 pub contents-most : (s : List ℕ) (k clock : ℕ) (cal meas : List ℕ) → odtBytes s k ≤ odtMost k → length (contentsOf s k clock cal meas) ≤ storedMost
-unfolding contentsOf
-contents-most s k clock cal meas h = contents-by (isFirst k) clock (odtBytes s k) (gathered s k cal meas entries) (gathered-odt s k cal meas) h
+unfolding contentsIn
+contents-most s k clock cal meas h = contents-by (isFirst k) clock (odtBytes s k) (blocksIn (odtOf s k) cal meas entries) (gathered-odt s k cal meas) h

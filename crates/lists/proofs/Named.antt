@@ -1,9 +1,10 @@
 -- A list that a packet names: where there is such a list.
-use Prim.Native.Nat.{ℕ, _<_}
-use mathlib.Core.Path.{_≡_}
-use mathlib.Core.Bool.{Bool, true}
+use Prim.Native.Nat.{ℕ, _≤_, _<_}
+use mathlib.Core.Path.{_≡_, refl}
+use mathlib.Core.Bool.{Bool, true, false, cond}
 use mathlib.Core.List.{List}
-use borrow.Author.Tests.{eqb-true, eq-eqb, ltb-true, lt-ltb}
+use borrow.Author.Tests.{eqb-true, ltb-true, ltb-false}
+use lib.Dec.{ltb}
 use lib.ListN.{length}
 use Rattle.line.proofs.Laws.{false-true, cond-ind}
 use Rattle.state.specs.Layout.{lists, size}
@@ -15,5 +16,9 @@ list-there s l =
     (λ e h. (eqb-true (length s) size e, ltb-true l lists h))
     (λ _ f. absurd (false-true f))
 
-pub there-list : (s : List ℕ) (l : ℕ) → length s ≡ size → l < lists → isList s l ≡ true
-there-list s l e h = rw (eq-eqb (length s) size e) (lt-ltb l lists h)
+-- where there is no such list, what is so of none is so
+pub nothing-named : (s : List ℕ) (l : ℕ) (b : Bool) → isList s l ≡ false → (lists ≤ l → b ≡ false) → cond (isState s) b false ≡ false
+nothing-named s l b = by (isState s) where
+  by : (t : Bool) → cond t (ltb l lists) false ≡ false → (lists ≤ l → b ≡ false) → cond t b false ≡ false
+  by true h none = none (ltb-false l lists h)
+  by false h none = refl

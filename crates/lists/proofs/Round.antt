@@ -1,17 +1,13 @@
 -- The round, list by list, over any number of lists and whatever each has. Assumes nothing.
-use mathlib.Core.Path.{_≡_, refl, sym}
+use mathlib.Core.Path.{_≡_, refl, sym, ap, _∙_}
 use mathlib.Core.Bool.{Bool, true, false, not, cond}
-use mathlib.Core.List.{List}
 use Prim.Native.Nat.{ℕ, zero, suc, _+_, _-_, _%_, _<_}
 use native.Mathlib.Nat.{mod-lt}
 use native.Mathlib.Omega.{arith}
-use lib.Dec.{ltb}
 use Rattle.line.proofs.Laws.{cond-ind}
-use Rattle.state.specs.Layout.{firstOdt, odtCount, runningAt}
-use Rattle.state.specs.State.{flagOf, openOf}
-use Rattle.lists.specs.Lists.{runsOf}
-use Rattle.state.specs.Lists.{storedLength}
-use Rattle.lists.specs.Slot.{firstStored, packetIn, orElse, roundFrom}
+use Rattle.state.specs.Layout.{firstOdt, odtCount}
+use Rattle.model.specs.Model.{DaqList, Session, fits, runs, runsIn, hasPacket}
+use Rattle.model.specs.Calls.{firstPacket, packetIn, orElse, roundFrom}
 use Rattle.model.specs.declared.Turn.{Turn}
 use Rattle.model.specs.declared.Turn.the-variants.{Nobody, Answer, Packet}
 
@@ -37,23 +33,23 @@ round-holds P L next h p each l (suc n) =
     or-holds P (next (l % L)) (roundFrom L next (l + 1) n) (each (l % L) (mod-lt l h)) (round-holds P L next h p each (l + 1) n)
 
 -- an ODT more, from the front
-pub first-step : (s : List ℕ) (k n : ℕ) → 0 < n → firstStored s k n ≡ cond (ltb 0 (storedLength s k)) (Packet k) (firstStored s (k + 1) (n - 1))
-unfolding firstStored
-first-step s k zero h = absurd (none h)
+pub first-step : (l : ℕ) (x : DaqList) (o n : ℕ) → 0 < n → firstPacket l x o n ≡ cond (hasPacket (x .odt o)) (Packet (firstOdt l + o)) (firstPacket l x (o + 1) (n - 1))
+unfolding firstPacket
+first-step l x o zero h = absurd (none h)
   where
     none : 0 < 0 → ⊥
     none p = omega arith
-first-step s k (suc n) h = let e : suc n - 1 ≡ n = omega arith in rw e
+first-step l x o (suc n) h = let e : suc n - 1 ≡ n = omega arith in rw e
 
--- a list with nothing in store has no next packet, whether it runs or not
-pub nobody-in : (s : List ℕ) (l : ℕ) → firstStored s (firstOdt l) (odtCount l) ≡ Nobody → packetIn s l ≡ Nobody
+-- a list of which nothing waits has no next packet, whether it runs or not
+pub nobody-in : (c : Session) (l : ℕ) → firstPacket l (c .list l) 0 (odtCount l) ≡ Nobody → packetIn c l ≡ Nobody
 unfolding packetIn
-nobody-in s l e = rw e (cond-ind (λ (t : Turn). t ≡ Nobody) (runsOf s l) (λ _. refl) (λ _. refl))
+nobody-in c l e = rw e (cond-ind (λ (t : Turn). t ≡ Nobody) (runsIn c l) (λ _. refl) (λ _. refl))
 
 -- nor has one that was not started
-pub never-started : (s : List ℕ) (l : ℕ) → flagOf s (runningAt l) ≡ false → packetIn s l ≡ Nobody
-unfolding packetIn runsOf
-never-started s l e = rw e (cond-ind (λ (r : Bool). cond r (firstStored s (firstOdt l) (odtCount l)) Nobody ≡ Nobody) (openOf s) (λ _. refl) (λ _. refl))
+pub never-started : (c : Session) (l : ℕ) → c .list l .started ≡ false → packetIn c l ≡ Nobody
+unfolding packetIn runs
+never-started c l e = ap (λ (b : Bool). cond (cond (c .opened) (cond b (fits l (c .list l)) false) false) (firstPacket l (c .list l) 0 (odtCount l)) Nobody) e ∙ (cond-ind (λ (r : Bool). cond r (firstPacket l (c .list l) 0 (odtCount l)) Nobody ≡ Nobody) (c .opened) (λ _. refl) (λ _. refl))
 
 -- whose turn it is, with the round once: an answer goes before it or behind it
 or-nobody : (t : Turn) → orElse t Nobody ≡ t

@@ -5,15 +5,13 @@ use Prim.Native.Nat.{ℕ, zero, suc, _+_, _≤_, _<_}
 use native.Mathlib.Numerals.{add-one}
 use native.Mathlib.Omega.{arith}
 use lib.Dec.{ltb, lit<}
-use lib.ListN.{length, getD, set, take, drop, length-set}
+use lib.ListN.{length, set, take, drop, length-set}
 use lib.Seq.{drop-cons, getD-set-same, drop-set-lt}
 use Rattle.line.proofs.Laws.{cond-ind}
-use Rattle.state.specs.Layout.{lists, servedAt, lastAt, firstOdt, odtCount, allOdts}
+use Rattle.state.specs.Layout.{lists, firstOdt, odtCount, allOdts}
 use Rattle.state.specs.Bytes.{block}
-use Rattle.state.specs.State.{flagOf, answerLength}
-use Rattle.lists.specs.Lists.{runsOf}
-use Rattle.state.specs.Lists.{storedLength}
-use Rattle.lists.specs.Slot.{firstStored, packetIn, roundFrom, turnOf}
+use Rattle.model.specs.Model.{DaqList, Session, Slave, runsIn, hasPacket}
+use Rattle.model.specs.Calls.{firstPacket, packetIn, roundIn, turnIn}
 use Rattle.model.specs.declared.Turn.{Turn}
 use Rattle.model.specs.declared.Turn.the-variants.{Nobody, Answer, Packet}
 use Rattle.lists.proofs.Round.{or-holds, round-holds}
@@ -30,20 +28,19 @@ Within Nobody = Unit
 Within Answer = Unit
 Within (Packet k) = k < allOdts
 
-first-within : (s : List ℕ) (k n : ℕ) → k + n ≤ allOdts → Within (firstStored s k n)
-unfolding firstStored
-first-within s k zero h = tt
-first-within s k (suc n) h =
-    cond-ind Within (ltb 0 (storedLength s k)) (λ _. omega arith) (λ _. first-within s (k + 1) n (omega arith))
+first-within : (l : ℕ) (x : DaqList) (o n : ℕ) → firstOdt l + o + n ≤ allOdts → Within (firstPacket l x o n)
+unfolding firstPacket
+first-within l x o zero h = tt
+first-within l x o (suc n) h = cond-ind Within (hasPacket (x .odt o)) (λ _. omega arith) (λ _. first-within l x (o + 1) n (omega arith))
 
-packet-within : (s : List ℕ) (l : ℕ) → l < lists → Within (packetIn s l)
+packet-within : (c : Session) (l : ℕ) → l < lists → Within (packetIn c l)
 unfolding packetIn
-packet-within s l h = cond-ind Within (runsOf s l) (λ _. first-within s (firstOdt l) (odtCount l) (omega arith)) (λ _. tt)
+packet-within c l h = cond-ind Within (runsIn c l) (λ _. first-within l (c .list l) 0 (odtCount l) (omega arith)) (λ _. tt)
 
-pub turn-within : (s : List ℕ) → Within (turnOf s)
-unfolding turnOf
-turn-within s =
-    let round = round-holds Within lists (packetIn s) (lit< tt) tt (packet-within s) (getD s servedAt 0 + 1) lists in
-    cond-ind Within (ltb 0 (answerLength s))
-    (λ _. cond-ind Within (flagOf s lastAt) (λ _. or-holds Within (roundFrom lists (packetIn s) (getD s servedAt 0 + 1) lists) Answer round tt) (λ _. tt))
+pub turn-within : (v : Slave) → Within (turnIn v)
+unfolding turnIn
+turn-within v =
+    let round = round-holds Within lists (packetIn (v .session)) (lit< tt) tt (packet-within (v .session)) (v .served + 1) lists in
+    cond-ind Within (ltb 0 (length (v .answer)))
+    (λ _. cond-ind Within (v .lastAnswer) (λ _. or-holds Within (roundIn (v .session) (v .served)) Answer round tt) (λ _. tt))
     (λ _. round)

@@ -2,37 +2,26 @@
 use Prim.Native.Nat.{ℕ, zero, suc, _+_}
 use mathlib.Core.Path.{_≡_}
 use mathlib.Core.Bool.{cond}
-use mathlib.Core.List.{List, [], _∷_, _++_}
-use lib.Dec.{eqb, leb}
+use mathlib.Core.List.{List, _∷_}
+use lib.Dec.{leb}
 use lib.ListN.{length}
 use lib.Seq.{sets}
-use Rattle.state.specs.Layout.{lists, events, sampleAt, firstOdt, odtCount, entryCount}
-use Rattle.state.specs.Memory.{pick, bytesOf}
+use Rattle.state.specs.Layout.{lists, events, sampleAt, firstOdt, odtCount}
 use Rattle.state.specs.State.{consistent}
-use Rattle.model.specs.Calls.{leadOf}
-use Rattle.state.specs.Lists.{sizeOf, extensionOf, addressOf, modeOf}
-use Rattle.lists.specs.Lists.{runsOf, unsent}
+use Rattle.model.specs.Calls.{samplingIn, contentsIn}
+use Rattle.model.specs.View.{odtOf, sessionOf}
 use Rattle.model.specs.declared.Sampling.{Sampling}
 use Rattle.model.specs.declared.Sampling.the-variants.{Idle, Sampled, Missed}
 use Rattle.words.specs.declared.Evented.{Evented}
 use Rattle.words.specs.declared.Evented.the-variants.{Done, BadEvent, NoState}
 
 -- what an event is to list l
-unfoldable pub samplingOf : List ℕ → ℕ → ℕ → Sampling
-samplingOf s l event = cond (eqb (modeOf s l) (event + 1)) (cond (runsOf s l) (cond (unsent s l) Missed Sampled) Idle) Idle
+abbrev pub samplingOf : List ℕ → ℕ → ℕ → Sampling
+samplingOf s l event = samplingIn (sessionOf s) l event
 
--- the bytes of entry e of ODT k, as the memories hold them now
-unfoldable pub entryBytes : List ℕ → ℕ → ℕ → List ℕ → List ℕ → List ℕ
-entryBytes s k e cal meas = bytesOf (pick (extensionOf s k e) cal meas) (addressOf s k e) (sizeOf s k e)
-
--- those of ODT k's first n entries, in entry order
-unfoldable pub gathered : List ℕ → ℕ → List ℕ → List ℕ → ℕ → List ℕ
-gathered s k cal meas zero = []
-gathered s k cal meas (suc n) = gathered s k cal meas n ++ entryBytes s k n cal meas
-
--- the packet of ODT k, without its number: in a list's first ODT the clock, then the bytes
-unfoldable pub contentsOf : List ℕ → ℕ → ℕ → List ℕ → List ℕ → List ℕ
-contentsOf s k clock cal meas = leadOf k clock ++ gathered s k cal meas (entryCount k)
+-- the packet of ODT k, without its number, as the memories are now
+abbrev pub contentsOf : List ℕ → ℕ → ℕ → List ℕ → List ℕ → List ℕ
+contentsOf s k clock cal meas = contentsIn k clock cal meas (odtOf s k)
 
 -- it is stored after its length
 unfoldable pub stored : List ℕ → ℕ → List ℕ → List ℕ

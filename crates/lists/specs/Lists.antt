@@ -1,58 +1,29 @@
--- How the lists read: their modes, entries and waiting packets; and the lists changed.
+-- What the bytes show of the lists, and the lists changed.
 use Prim.Native.Nat.{ℕ, zero, suc, _+_, _*_, _%_}
-use mathlib.Core.Bool.{Bool, true, false, cond}
+use mathlib.Core.Bool.{Bool, false, cond}
 use mathlib.Core.List.{List}
-use lib.Dec.{eqb, leb, ltb}
+use lib.Dec.{eqb, ltb}
 use lib.ListN.{length, set}
-use Rattle.state.specs.Layout.{lists, size, listSize, modeAt, selectedAt, runningAt, entrySize, odtSize, entriesAt, entryAt, sampleAt, firstOdt, odtCount, odtMost, entryCount}
+use Rattle.state.specs.Layout.{lists, size, listSize, modeAt, selectedAt, runningAt, entrySize, odtSize, entriesAt, entryAt, sampleAt, firstOdt, odtCount}
 use Rattle.state.specs.Bytes.{put16, cleared}
-use Rattle.state.specs.State.{flagOf, openOf}
-use Rattle.state.specs.Lists.{sizeOf, modeOf, selectedOf, storedLength}
+use Rattle.state.specs.Lists.{selectedOf}
 use Rattle.words.specs.declared.Extension.{Extension}
 use Rattle.words.specs.declared.Extension.the-variants.{Calibration, Measured}
+use Rattle.model.specs.Model.{bytesIn, fits, runsIn, someRuns}
+use Rattle.model.specs.Judge.{allStartable}
+use Rattle.model.specs.View.{odtOf, sessionOf}
 
--- the bytes of an ODT: of its first n entries, and of all
-unfoldable pub bytesOfFirst : List ℕ → ℕ → ℕ → ℕ
-bytesOfFirst s k zero = 0
-bytesOfFirst s k (suc n) = bytesOfFirst s k n + sizeOf s k n
-
+-- ---- what the bytes show of the lists
+-- the bytes of ODT k
 abbrev pub odtBytes : List ℕ → ℕ → ℕ
-odtBytes s k = bytesOfFirst s k (entryCount k)
+odtBytes s k = bytesIn k (odtOf s k)
 
--- ---- lists
--- of the n ODTs from k on: their bytes, and whether each fits into a packet
-unfoldable pub bytesOfOdts : List ℕ → ℕ → ℕ → ℕ
-bytesOfOdts s k zero = 0
-bytesOfOdts s k (suc n) = bytesOfOdts s k n + odtBytes s (k + n)
+-- whether list l can be started, and whether it runs
+abbrev pub fitOf : List ℕ → ℕ → Bool
+fitOf s l = fits l (sessionOf s .list l)
 
-unfoldable pub odtsFit : List ℕ → ℕ → ℕ → Bool
-odtsFit s k zero = true
-odtsFit s k (suc n) = cond (odtsFit s k n) (leb (odtBytes s (k + n)) (odtMost (k + n))) false
-
--- whether a list can be started: its mode was set, some entry is above size 0, no ODT has too many bytes
-unfoldable pub fitOf : List ℕ → ℕ → Bool
-fitOf s l =
-    cond (eqb (modeOf s l) 0) false
-    (cond (eqb (bytesOfOdts s (firstOdt l) (odtCount l)) 0) false
-    (odtsFit s (firstOdt l) (odtCount l)))
-
--- a list runs if a session is open, its flag says so and it could be started
-unfoldable pub runsOf : List ℕ → ℕ → Bool
-runsOf s l = cond (openOf s) (cond (flagOf s (runningAt l)) (fitOf s l) false) false
-
--- some of the first n lists runs
-unfoldable pub anyRuns : List ℕ → ℕ → Bool
-anyRuns s zero = false
-anyRuns s (suc n) = cond (anyRuns s n) true (runsOf s n)
-
--- list l, if it is selected, can be started
-unfoldable pub mayStart : List ℕ → ℕ → Bool
-mayStart s l = cond (selectedOf s l) (fitOf s l) true
-
--- every selected one of the first n lists can be started
-unfoldable pub allFit : List ℕ → ℕ → Bool
-allFit s zero = true
-allFit s (suc n) = cond (allFit s n) (mayStart s n) false
+abbrev pub runsOf : List ℕ → ℕ → Bool
+runsOf s l = runsIn (sessionOf s) l
 
 -- ---- what a command asks of the lists: in a state of another size there is none, and a list that there is not does nothing
 abbrev pub isState : List ℕ → Bool
@@ -62,26 +33,16 @@ abbrev pub isList : List ℕ → ℕ → Bool
 isList s l = cond (isState s) (ltb l lists) false
 
 abbrev pub runsNamed : List ℕ → ℕ → Bool
-runsNamed s l = cond (isList s l) (runsOf s l) false
+runsNamed s l = cond (isState s) (runsOf s l) false
 
 abbrev pub fitsNamed : List ℕ → ℕ → Bool
-fitsNamed s l = cond (isList s l) (fitOf s l) false
+fitsNamed s l = cond (isState s) (fitOf s l) false
 
-abbrev pub someRuns : List ℕ → Bool
-someRuns s = cond (isState s) (anyRuns s lists) false
+abbrev pub anyRuns : List ℕ → Bool
+anyRuns s = cond (isState s) (someRuns (sessionOf s) lists) false
 
 abbrev pub ready : List ℕ → Bool
-ready s = cond (isState s) (allFit s lists) false
-
--- ---- packets
--- some of the n ODTs from k on has a packet in store
-unfoldable pub someStored : List ℕ → ℕ → ℕ → Bool
-someStored s k zero = false
-someStored s k (suc n) = cond (someStored s k n) true (ltb 0 (storedLength s (k + n)))
-
--- list l still has an unsent packet
-abbrev pub unsent : List ℕ → ℕ → Bool
-unsent s l = someStored s (firstOdt l) (odtCount l)
+ready s = cond (isState s) (allStartable (sessionOf s) lists) false
 
 -- ---- changes
 -- the packets of the n ODTs from k on dropped

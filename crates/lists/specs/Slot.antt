@@ -1,55 +1,30 @@
--- A sending slot: whose turn it is, and one frame.
-use Prim.Native.Nat.{ℕ, zero, suc, _+_, _%_, _≤_}
+-- A sending slot: one frame, of whose turn it is.
+use Prim.Native.Nat.{ℕ, _+_, _%_, _≤_}
 use mathlib.Core.Path.{_≡_}
 use mathlib.Core.Bool.{cond}
 use mathlib.Core.List.{List, _∷_}
 use lib.Dec.{ltb}
-use lib.ListN.{length, getD, set}
+use lib.ListN.{length, set}
 use Rattle.line.specs.Message.{room}
 use Rattle.line.specs.Writer.{Sent, writeOf}
 use Rattle.line.specs.declared.Written.{Written}
 use Rattle.line.specs.declared.Written.the-variants.{Frame, BadLength, NoRoom}
-use Rattle.state.specs.Layout.{lists, ctrAt, servedAt, lastAt, sampleAt, answerAt, answerBytesAt, firstOdt, odtCount, listOf}
-use Rattle.state.specs.Bytes.{block}
-use Rattle.state.specs.State.{consistent, flagOf, ctrOf, waits, answerKind, answerOf}
-use Rattle.lists.specs.Lists.{runsOf}
-use Rattle.state.specs.Lists.{storedLength}
+use Rattle.state.specs.Layout.{ctrAt, servedAt, lastAt, sampleAt, answerAt, answerBytesAt, listOf}
+use Rattle.state.specs.State.{consistent, ctrOf, answerKind, answerOf}
+use Rattle.model.specs.Calls.{turnIn}
+use Rattle.model.specs.View.{odtOf, viewOf}
 use Rattle.model.specs.declared.Turn.{Turn}
 use Rattle.model.specs.declared.Turn.the-variants.{Nobody, Answer, Packet}
 use Rattle.words.specs.declared.Slotted.{Slotted}
 use Rattle.words.specs.declared.Slotted.the-variants.{Idle, Sent as Slotted·Sent, NoRoom as Slotted·NoRoom, NoState}
 
--- the first packet in store of the n ODTs from k on
-unfoldable pub firstStored : List ℕ → ℕ → ℕ → Turn
-firstStored s k zero = Nobody
-firstStored s k (suc n) = cond (ltb 0 (storedLength s k)) (Packet k) (firstStored s (k + 1) n)
-
--- list l's next packet: that of its first ODT before those of later ones
-unfoldable pub packetIn : List ℕ → ℕ → Turn
-packetIn s l = cond (runsOf s l) (firstStored s (firstOdt l) (odtCount l)) Nobody
-
-abbrev pub orElse : Turn → Turn → Turn
-orElse Nobody t = t
-orElse Answer t = Answer
-orElse (Packet k) t = Packet k
-
--- the round over L lists, of which `next l` is list l's next packet: the next n of them from l on
-unfoldable pub roundFrom : ℕ → (ℕ → Turn) → ℕ → ℕ → Turn
-roundFrom L next l zero = Nobody
-roundFrom L next l (suc n) = orElse (next (l % L)) (roundFrom L next (l + 1) n)
-
--- an answer goes if one waits and the last frame was not an answer; else the next list after the last one served; else an answer
-unfoldable pub turnOf : List ℕ → Turn
-turnOf s =
-    cond (waits s)
-    (cond (flagOf s lastAt)
-    (orElse (roundFrom lists (packetIn s) (getD s servedAt 0 + 1) lists) Answer)
-    Answer)
-    (roundFrom lists (packetIn s) (getD s servedAt 0 + 1) lists)
+-- whose turn it is
+abbrev pub turnOf : List ℕ → Turn
+turnOf s = turnIn (viewOf s)
 
 -- the packet of ODT k: its number, and what was captured
 unfoldable pub packetOf : List ℕ → ℕ → List ℕ
-packetOf s k = k ∷ block s (sampleAt k + 1) (storedLength s k)
+packetOf s k = k ∷ odtOf s k .store
 
 -- what the call answers, and the state and the lent bytes after it
 pub record Slot : Type 0 where

@@ -1,6 +1,6 @@
 // What a command asks of the lists, for any bytes: in a state of another size there is none, and a list that there is not does nothing.
 ghost use mathlib.Core.Path.{_≡_};
-ghost use Rattle.lists.specs.Lists.{isList, runsNamed, fitsNamed, someRuns, ready};
+ghost use Rattle.lists.specs.Lists.{isList, runsNamed, fitsNamed, anyRuns, ready};
 use crate::list;
 use state::layout;
 
@@ -32,7 +32,7 @@ pub fn fits(s: &[u8], l: u16) -> bool
 }
 
 pub fn any_runs(s: &[u8]) -> bool
-    ensures { λ r. ⌜ r ≡ someRuns (now (s .entry)) ⌝ }
+    ensures { λ r. ⌜ r ≡ anyRuns (now (s .entry)) ⌝ }
 {
     if s.len() == layout::STATE {
         return list::any_runs(s);

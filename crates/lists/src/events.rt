@@ -4,12 +4,14 @@ ghost use mathlib.Core.Bool.{true};
 ghost use Prim.Native.Nat.{_+_, _≤_, _<_};
 ghost use lib.ListN.{length};
 ghost use lib.Seq.{sets};
-ghost use Rattle.state.specs.Layout.{lists, odts, entries, allOdts, events, odtMost, entryMost, size, sampleAt, firstOdt};
+ghost use Rattle.state.specs.Layout.{lists, odts, entries, allOdts, events, odtMost, entryMost, size, sampleAt};
 ghost use Rattle.state.specs.Memory.{bytesOf};
 ghost use Rattle.state.specs.Lists.{sizeOf};
-ghost use Rattle.lists.specs.Lists.{odtBytes, odtsFit};
-ghost use Rattle.lists.specs.Event.{samplingOf, entryBytes, gathered, contentsOf, stored, capturedOdts, captured, sampledState, sampledBy, missedBy, Counts, tally, Happens, eventOf};
-ghost use Rattle.model.specs.Calls.{leadOf};
+ghost use Rattle.lists.specs.Lists.{odtBytes};
+ghost use Rattle.lists.specs.Event.{samplingOf, contentsOf, stored, capturedOdts, captured, sampledState, sampledBy, missedBy, Counts, tally, Happens, eventOf};
+ghost use Rattle.model.specs.Model.{eachFits};
+ghost use Rattle.model.specs.Calls.{blockIn, blocksIn, leadOf};
+ghost use Rattle.model.specs.View.{entryOf, odtOf, sessionOf};
 use crate::Counted;
 use crate::list;
 use model::Sampling;
@@ -52,7 +54,7 @@ fn take_block(s: &mut [u8], to: usize, mem: &[u8], address: usize, n: usize)
 // The n bytes of one entry.
 fn take_entry(s: &mut [u8], to: usize, cal: &[u8], meas: &[u8], k: u16, e: u8, n: usize)
     requires { ⌜ (length (now s) ≡ size) × (k < allOdts) × (e < entries) × (n ≡ sizeOf (now s) k e) × (n ≤ entryMost) × (to + n ≤ length (now s)) ⌝ }
-    ensures { λ _. ⌜ now (s .exit) ≡ sets (now (s .entry)) to (entryBytes (now (s .entry)) k e (now (cal .entry)) (now (meas .entry))) ⌝ }
+    ensures { λ _. ⌜ now (s .exit) ≡ sets (now (s .entry)) to (blockIn (entryOf (now (s .entry)) k e) (now (cal .entry)) (now (meas .entry))) ⌝ }
 {
     if n == 0 {
         return;
@@ -68,7 +70,7 @@ fn take_entry(s: &mut [u8], to: usize, cal: &[u8], meas: &[u8], k: u16, e: u8, n
 // The bytes of an ODT's entries, in entry order; says where they end. They go past all entries.
 fn gather(s: &mut [u8], from: usize, cal: &[u8], meas: &[u8], k: u16) -> usize
     requires { ⌜ (length (now s) ≡ size) × (k < allOdts) × (sampleAt 0 ≤ from) × (from + odtBytes (now s) k ≤ size) ⌝ }
-    ensures { λ r. ⌜ (now (s .exit) ≡ sets (now (s .entry)) from (gathered (now (s .entry)) k (now (cal .entry)) (now (meas .entry)) entries)) × (r ≡ from + odtBytes (now (s .entry)) k) ⌝ }
+    ensures { λ r. ⌜ (now (s .exit) ≡ sets (now (s .entry)) from (blocksIn (odtOf (now (s .entry)) k) (now (cal .entry)) (now (meas .entry)) entries)) × (r ≡ from + odtBytes (now (s .entry)) k) ⌝ }
 {
     let mut to = from;
     let mut e: u8 = 0;
@@ -106,7 +108,7 @@ fn capture_odt(s: &mut [u8], cal: &[u8], meas: &[u8], k: u16, clock: u16)
 
 // All ODTs at once: nothing is read when they are sent.
 fn capture(s: &mut [u8], cal: &[u8], meas: &[u8], l: u8, clock: u16)
-    requires { ⌜ (length (now s) ≡ size) × (l < lists) × (odtsFit (now s) (firstOdt l) odts ≡ true) ⌝ }
+    requires { ⌜ (length (now s) ≡ size) × (l < lists) × (eachFits l (sessionOf (now s) .list l) odts ≡ true) ⌝ }
     ensures { λ _. ⌜ now (s .exit) ≡ captured (now (s .entry)) l clock (now (cal .entry)) (now (meas .entry)) ⌝ }
 {
     let k = layout::first_odt(l);

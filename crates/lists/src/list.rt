@@ -4,10 +4,13 @@ ghost use mathlib.Core.Bool.{cond, false};
 ghost use Prim.Native.Nat.{_*_, _≤_, _<_};
 ghost use lib.Dec.{eqb};
 ghost use lib.ListN.{length};
-ghost use Rattle.state.specs.Layout.{lists, odts, allOdts, firstOdt, entries, events, storedMost, entryMost, size};
+ghost use Rattle.state.specs.Layout.{lists, odts, allOdts, entries, events, storedMost, entryMost, size};
 ghost use Rattle.state.specs.State.{flagOf};
 ghost use Rattle.state.specs.Lists.{sizeOf, extensionOf, addressOf, modeOf, selectedOf, leastOf, storedLength};
-ghost use Rattle.lists.specs.Lists.{odtBytes, bytesOfOdts, odtsFit, fitOf, runsOf, anyRuns, mayStart, allFit, unsent};
+ghost use Rattle.model.specs.Model.{allBytes, eachFits, unsent, someRuns};
+ghost use Rattle.model.specs.Judge.{startable, allStartable};
+ghost use Rattle.model.specs.View.{sessionOf};
+ghost use Rattle.lists.specs.Lists.{odtBytes, fitOf, runsOf};
 use state::bytes::wide;
 use state::layout;
 use words::Extension;
@@ -91,7 +94,7 @@ pub fn selected(s: &[u8], l: u8) -> bool
 // Whether a list's ODTs have some byte, and none has too many.
 fn odts_fit(s: &[u8], l: u8) -> bool
     requires { ⌜ (length (now s) ≡ size) × (l < lists) ⌝ }
-    ensures { λ r. ⌜ r ≡ cond (eqb (bytesOfOdts (now (s .entry)) (firstOdt l) odts) 0) false (odtsFit (now (s .entry)) (firstOdt l) odts) ⌝ }
+    ensures { λ r. ⌜ r ≡ cond (eqb (allBytes l (sessionOf (now (s .entry)) .list l) odts) 0) false (eachFits l (sessionOf (now (s .entry)) .list l) odts) ⌝ }
 {
     let k = layout::first_odt(l);
     let mut n: u16 = 0;
@@ -136,7 +139,7 @@ pub fn runs(s: &[u8], l: u8) -> bool
 
 pub fn any_runs(s: &[u8]) -> bool
     requires { ⌜ length (now s) ≡ size ⌝ }
-    ensures { λ r. ⌜ r ≡ anyRuns (now (s .entry)) lists ⌝ }
+    ensures { λ r. ⌜ r ≡ someRuns (sessionOf (now (s .entry))) lists ⌝ }
 {
     let mut l = 0;
     while l < layout::LISTS {
@@ -151,7 +154,7 @@ pub fn any_runs(s: &[u8]) -> bool
 // Whether a list that is selected can be started.
 fn may_start(s: &[u8], l: u8) -> bool
     requires { ⌜ (length (now s) ≡ size) × (l < lists) ⌝ }
-    ensures { λ r. ⌜ r ≡ mayStart (now (s .entry)) l ⌝ }
+    ensures { λ r. ⌜ r ≡ startable (sessionOf (now (s .entry))) l ⌝ }
 {
     if selected(s, l) {
         return fit(s, l);
@@ -162,7 +165,7 @@ fn may_start(s: &[u8], l: u8) -> bool
 // Whether every selected list can be started.
 pub fn all_fit(s: &[u8]) -> bool
     requires { ⌜ length (now s) ≡ size ⌝ }
-    ensures { λ r. ⌜ r ≡ allFit (now (s .entry)) lists ⌝ }
+    ensures { λ r. ⌜ r ≡ allStartable (sessionOf (now (s .entry))) lists ⌝ }
 {
     let mut l = 0;
     while l < layout::LISTS {
@@ -204,7 +207,7 @@ pub fn stored_length(s: &[u8], k: u16) -> u8
 // Whether a list still has an unsent packet.
 pub fn is_unsent(s: &[u8], l: u8) -> bool
     requires { ⌜ (length (now s) ≡ size) × (l < lists) ⌝ }
-    ensures { λ r. ⌜ r ≡ unsent (now (s .entry)) l ⌝ }
+    ensures { λ r. ⌜ r ≡ unsent l (sessionOf (now (s .entry)) .list l) ⌝ }
 {
     let k = layout::first_odt(l);
     let mut j: u8 = 0;

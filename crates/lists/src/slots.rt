@@ -3,9 +3,11 @@ ghost use mathlib.Core.Path.{_≡_};
 ghost use mathlib.Core.Bool.{cond, not, false};
 ghost use Prim.Native.Nat.{_+_, _<_};
 ghost use lib.ListN.{length, getD};
-ghost use Rattle.state.specs.Layout.{lists, odts, firstOdt, allOdts, servedAt, lastAt, size};
+ghost use Rattle.state.specs.Layout.{lists, odts, allOdts, servedAt, lastAt, size};
 ghost use Rattle.state.specs.State.{waits, flagOf};
-ghost use Rattle.lists.specs.Slot.{firstStored, packetIn, orElse, roundFrom, turnOf, slottedAs, sentBy, Sends, slotOf};
+ghost use Rattle.model.specs.Calls.{firstPacket, packetIn, orElse, roundIn};
+ghost use Rattle.model.specs.View.{sessionOf};
+ghost use Rattle.lists.specs.Slot.{turnOf, slottedAs, sentBy, Sends, slotOf};
 use crate::list;
 use line::Written;
 use model::Turn;
@@ -16,7 +18,7 @@ use words::Slotted;
 // A list's first packet in store.
 fn first_stored(s: &[u8], l: u8) -> Turn
     requires { ⌜ (length (now s) ≡ size) × (l < lists) ⌝ }
-    ensures { λ r. ⌜ r ≡ firstStored (now (s .entry)) (firstOdt l) odts ⌝ }
+    ensures { λ r. ⌜ r ≡ firstPacket l (sessionOf (now (s .entry)) .list l) 0 odts ⌝ }
 {
     let mut k = layout::first_odt(l);
     let mut n = layout::ODTS;
@@ -33,7 +35,7 @@ fn first_stored(s: &[u8], l: u8) -> Turn
 // A list's next packet. Whether the list runs is asked in full only where it has one: that takes longer.
 fn packet_in(s: &[u8], l: u8) -> Turn
     requires { ⌜ (length (now s) ≡ size) × (l < lists) ⌝ }
-    ensures { λ r. ⌜ r ≡ packetIn (now (s .entry)) l ⌝ }
+    ensures { λ r. ⌜ r ≡ packetIn (sessionOf (now (s .entry))) l ⌝ }
 {
     if !list::on(s, layout::running_at(l as u16)) {
         return Turn::Nobody;
@@ -51,7 +53,7 @@ fn packet_in(s: &[u8], l: u8) -> Turn
 // The next list after the last one served that has a packet.
 fn round(s: &[u8]) -> Turn
     requires { ⌜ length (now s) ≡ size ⌝ }
-    ensures { λ r. ⌜ r ≡ roundFrom lists (packetIn (now (s .entry))) (getD (now (s .entry)) servedAt 0 + 1) lists ⌝ }
+    ensures { λ r. ⌜ r ≡ roundIn (sessionOf (now (s .entry))) (getD (now (s .entry)) servedAt 0) ⌝ }
 {
     let mut l = s[layout::SERVED] as u16 + 1;
     let mut n = layout::LISTS;

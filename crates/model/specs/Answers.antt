@@ -1,6 +1,7 @@
 -- What each deed answers, and what it leaves of the calibration memory.
 use Prim.Native.Nat.{ℕ, _+_}
 use mathlib.Core.Bool.{Bool, cond}
+use mathlib.Core.Option.{Option, none, some}
 use mathlib.Core.List.{List, [], _∷_}
 use lib.ListN.{length}
 use lib.Seq.{sets}
@@ -55,37 +56,49 @@ replyIn StopSelected c cal meas = 0xFF ∷ []
 replyIn ProcessorInfo c cal meas = 0xFF ∷ 0x10 ∷ lists ∷ 0x00 ∷ events ∷ 0x00 ∷ 0x00 ∷ 0x00 ∷ []
 replyIn ResolutionInfo c cal meas = 0xFF ∷ 0x01 ∷ entryMost ∷ 0x00 ∷ 0x00 ∷ 0x6A ∷ 0x01 ∷ 0x00 ∷ []
 
--- ---- the calibration memory after a deed whose packet is p: DOWNLOAD alone writes there
-unfoldable pub written : Deed → List ℕ → List ℕ → List ℕ
-written (Refuse r) p cal = cal
-written RefuseSize p cal = cal
-written WrongKey p cal = cal
-written Connect p cal = cal
-written Disconnect p cal = cal
-written Status p cal = cal
-written Synch p cal = cal
-written NoSeed p cal = cal
-written (GiveSeed r) p cal = cal
-written (Unlock r) p cal = cal
-written (SetMta e a) p cal = cal
-written (Upload e a n) p cal = cal
-written (ShortUpload e a n) p cal = cal
-written (Checksum e a n) p cal = cal
-written (Download a n) p cal = sets cal a (block p 2 n)
-written (ClearList l) p cal = cal
-written (SetPointer k e) p cal = cal
-written (ClearEntry k e) p cal = cal
-written (WriteEntry k e n ext a) p cal = cal
-written (SetMode l event) p cal = cal
-written (Stop l) p cal = cal
-written (Start l) p cal = cal
-written (KeepRunning l) p cal = cal
-written (Select l) p cal = cal
-written StopAll p cal = cal
-written StartSelected p cal = cal
-written StopSelected p cal = cal
-written ProcessorInfo p cal = cal
-written ResolutionInfo p cal = cal
+-- ---- what a deed writes into the calibration memory: DOWNLOAD alone does, as many bytes of its packet from there on
+pub record Write : Type 0 where
+  pub address : ℕ
+  pub count : ℕ
+
+unfoldable pub writes : Deed → Option Write
+writes (Refuse r) = none
+writes RefuseSize = none
+writes WrongKey = none
+writes Connect = none
+writes Disconnect = none
+writes Status = none
+writes Synch = none
+writes NoSeed = none
+writes (GiveSeed r) = none
+writes (Unlock r) = none
+writes (SetMta e a) = none
+writes (Upload e a n) = none
+writes (ShortUpload e a n) = none
+writes (Checksum e a n) = none
+writes (Download a n) = some (record { address = a; count = n })
+writes (ClearList l) = none
+writes (SetPointer k e) = none
+writes (ClearEntry k e) = none
+writes (WriteEntry k e n ext a) = none
+writes (SetMode l event) = none
+writes (Stop l) = none
+writes (Start l) = none
+writes (KeepRunning l) = none
+writes (Select l) = none
+writes StopAll = none
+writes StartSelected = none
+writes StopSelected = none
+writes ProcessorInfo = none
+writes ResolutionInfo = none
+
+abbrev pub memoryAfter : Option Write → List ℕ → List ℕ → List ℕ
+memoryAfter none p cal = cal
+memoryAfter (some w) p cal = sets cal (w .address) (block p 2 (w .count))
+
+-- the calibration memory after a deed whose packet is p
+abbrev pub written : Deed → List ℕ → List ℕ → List ℕ
+written d p cal = memoryAfter (writes d) p cal
 
 -- ---- a command in all: the session and the calibration memory after it, and its answer
 pub record Done : Type 0 where

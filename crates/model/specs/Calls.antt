@@ -1,16 +1,20 @@
--- What else a call makes of the slave: an answer put to wait, a byte read, an answer or a packet sent, a list sampled, power-up.
+-- What else a call makes of the slave: an answer put to wait, a byte read, an answer or a packet sent, a list sampled, power-up. Whose turn it is.
 use Prim.Native.Nat.{ℕ, zero, suc, _+_, _%_, _/_}
 use mathlib.Core.Bool.{true, false, cond}
 use mathlib.Core.List.{List, [], _∷_, _++_}
-use lib.Dec.{ltb}
-use lib.ListN.{replicate}
+use lib.Dec.{eqb, ltb}
+use lib.ListN.{length, replicate}
 use Rattle.line.specs.Message.{longest}
 use Rattle.line.specs.declared.Place.{Place}
 use Rattle.line.specs.declared.Place.the-variants.{Outside}
-use Rattle.state.specs.Layout.{lastList, firstOdt, odtCount, listOf, isFirst, entryCount}
+use Rattle.state.specs.Layout.{lists, lastList, firstOdt, odtCount, listOf, isFirst, entryCount}
 use Rattle.state.specs.Generator.{startOf}
 use Rattle.state.specs.Memory.{pick, bytesOf}
-use Rattle.model.specs.Model.{put, Entry, Odt, DaqList, Slave, blank}
+use Rattle.model.specs.declared.Sampling.{Sampling}
+use Rattle.model.specs.declared.Sampling.the-variants.{Idle, Sampled, Missed}
+use Rattle.model.specs.declared.Turn.{Turn}
+use Rattle.model.specs.declared.Turn.the-variants.{Nobody, Answer, Packet}
+use Rattle.model.specs.Model.{put, Entry, Odt, DaqList, Session, Slave, blank, runsIn, hasPacket, unsent}
 use Rattle.model.specs.Step.{emptied, odtIn, at}
 
 abbrev pub withAnswer : Slave → List ℕ → Slave
@@ -19,6 +23,39 @@ withAnswer v bs = record { session = v .session; place = v .place; message = v .
 -- the reader where the line left it
 abbrev pub withReader : Slave → Place → List ℕ → Slave
 withReader v p m = record { session = v .session; place = p; message = m; answer = v .answer; ctr = v .ctr; served = v .served; lastAnswer = v .lastAnswer }
+
+-- ---- a slot: whose turn it is
+-- the first packet that waits of the n ODTs of list l from o on
+unfoldable pub firstPacket : ℕ → DaqList → ℕ → ℕ → Turn
+firstPacket l x o zero = Nobody
+firstPacket l x o (suc n) = cond (hasPacket (x .odt o)) (Packet (firstOdt l + o)) (firstPacket l x (o + 1) n)
+
+-- list l's next packet: that of its first ODT before those of later ones
+unfoldable pub packetIn : Session → ℕ → Turn
+packetIn c l = cond (runsIn c l) (firstPacket l (c .list l) 0 (odtCount l)) Nobody
+
+abbrev pub orElse : Turn → Turn → Turn
+orElse Nobody t = t
+orElse Answer t = Answer
+orElse (Packet k) t = Packet k
+
+-- the round over L lists, of which `next l` is list l's next packet: the next n of them from l on
+unfoldable pub roundFrom : ℕ → (ℕ → Turn) → ℕ → ℕ → Turn
+roundFrom L next l zero = Nobody
+roundFrom L next l (suc n) = orElse (next (l % L)) (roundFrom L next (l + 1) n)
+
+-- the next list after the last one served that has a packet
+abbrev pub roundIn : Session → ℕ → Turn
+roundIn c served = roundFrom lists (packetIn c) (served + 1) lists
+
+-- an answer goes if one waits and the last frame was not an answer; else the next list after the last one served; else an answer
+unfoldable pub turnIn : Slave → Turn
+turnIn v =
+    cond (ltb 0 (length (v .answer)))
+    (cond (v .lastAnswer)
+    (orElse (roundIn (v .session) (v .served)) Answer)
+    Answer)
+    (roundIn (v .session) (v .served))
 
 -- ---- a frame is sent: the CTR grows by one, 255 to 0
 -- the answer no longer waits
@@ -40,7 +77,11 @@ packetGone k v = record {
   lastAnswer = false;
 }
 
--- ---- an event: the bytes of an ODT's first n entries, in entry order, each as the memories hold it now
+-- ---- an event: what it is to list l
+unfoldable pub samplingIn : Session → ℕ → ℕ → Sampling
+samplingIn c l event = cond (eqb (c .list l .mode) (event + 1)) (cond (runsIn c l) (cond (unsent l (c .list l)) Missed Sampled) Idle) Idle
+
+-- the bytes of an ODT's first n entries, in entry order, each as the memories hold it now
 abbrev pub blockIn : Entry → List ℕ → List ℕ → List ℕ
 blockIn x cal meas = bytesOf (pick (x .extension) cal meas) (x .address) (x .size)
 

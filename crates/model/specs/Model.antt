@@ -122,9 +122,21 @@ unfoldable pub someRuns : Session → ℕ → Bool
 someRuns c zero = false
 someRuns c (suc n) = cond (someRuns c n) true (runsIn c n)
 
+-- ---- packets: of an ODT one waits, of some of a list's first n ODTs, of some of all
+abbrev pub hasPacket : Odt → Bool
+hasPacket y = ltb 0 (length (y .store))
+
+unfoldable pub somePacket : DaqList → ℕ → Bool
+somePacket x zero = false
+somePacket x (suc n) = cond (somePacket x n) true (hasPacket (x .odt n))
+
+-- list l still has an unsent packet
+abbrev pub unsent : ℕ → DaqList → Bool
+unsent l x = somePacket x (odtCount l)
+
 -- ---- what waits of list l, in the order in which it leaves: each ODT's number and what was captured, if something was
 abbrev pub inStore : ℕ → Odt → List (List ℕ)
-inStore k y = cond (ltb 0 (length (y .store))) ((k ∷ y .store) ∷ []) []
+inStore k y = cond (hasPacket y) ((k ∷ y .store) ∷ []) []
 
 -- of the n ODTs from o on
 unfoldable pub inStores : ℕ → DaqList → ℕ → ℕ → List (List ℕ)

@@ -2,4 +2,6 @@
 pub mod Data
 pub mod Packet
 pub mod Looked
+pub mod Masks
+pub mod Heeding
 pub mod Feeding

@@ -6,12 +6,13 @@ use lib.ListN.{getD}
 use Rattle.state.specs.Layout.{lists, packetAt, listOf}
 use Rattle.state.specs.Bytes.{u16At, u32At}
 use Rattle.state.specs.State.{generatorOf, unlockedOf, seedOf, mtaOf, pointerOf}
-use Rattle.lists.specs.Lists.{fitOf, runsOf, allFit, runsNamed, fitsNamed, ready}
+use Rattle.lists.specs.Lists.{runsNamed, fitsNamed, ready}
 use Rattle.words.specs.declared.Resource.the-variants.{Calibration, Lists}
 use Rattle.words.specs.declared.Pointer.{Pointer}
 use Rattle.words.specs.declared.Pointer.the-variants.{Unset as NoEntry, At as Entry}
-use Rattle.model.specs.Judge.{judge}
-use Rattle.model.specs.Seen.{Packet, numbersOf, Seen}
+use Rattle.model.specs.Judge.{judgeIn}
+use Rattle.model.specs.View.{sessionOf}
+use Rattle.model.specs.Seen.{Packet, Seen}
 use Rattle.model.specs.declared.Deed.{Deed}
 
 -- the numbers in a packet of n bytes, read where it lies in the message buffer; what is behind its end is no number of it
@@ -32,38 +33,26 @@ numbersAt s m = record {
   d4 = u32At s (packetAt + 4);
 }
 
--- the state, and of the lists what is given
-abbrev pub seeing : List ℕ → Bool → Bool → Bool → Bool → Seen
-seeing s runs′ fits′ pointed′ ready′ = record {
+-- the pointer's list runs
+abbrev pub pointedNamed : Pointer → List ℕ → Bool
+pointedNamed NoEntry s = false
+pointedNamed (Entry k e) s = runsNamed s (listOf k)
+
+-- what is seen of a state with such a message
+abbrev pub lookedAt : List ℕ → Seen
+lookedAt s = record {
   calibration = unlockedOf s Calibration;
   lists = unlockedOf s Lists;
   seed = seedOf s;
   generator = generatorOf s;
   mta = mtaOf s;
   pointer = pointerOf s;
-  runs = runs′;
-  fits = fits′;
-  pointed = pointed′;
-  ready = ready′;
+  runs = runsNamed s (u16At s (packetAt + 2));
+  fits = fitsNamed s (u16At s (packetAt + 2));
+  pointed = pointedNamed (pointerOf s) s;
+  ready = ready s;
 }
 
--- the pointer's list runs
-abbrev pub pointedRuns : Pointer → List ℕ → Bool
-pointedRuns NoEntry s = false
-pointedRuns (Entry k e) s = runsOf s (listOf k)
-
--- all that the checks of a command look at that names list l
-abbrev pub seenOf : ℕ → List ℕ → Seen
-seenOf l s = seeing s (runsOf s l) (fitOf s l) (pointedRuns (pointerOf s) s) (allFit s lists)
-
--- what the command in packet p leads to
-unfoldable pub judgeOf : List ℕ → List ℕ → ℕ → ℕ → Deed
-judgeOf p s nc nm = judge (numbersOf p) (seenOf (u16At p 2) s) nc nm
-
--- ---- the same of a state with such a message: a list that there is not is not looked at
-abbrev pub pointedNamed : Pointer → List ℕ → Bool
-pointedNamed NoEntry s = false
-pointedNamed (Entry k e) s = runsNamed s (listOf k)
-
-abbrev pub lookedAt : List ℕ → Seen
-lookedAt s = seeing s (runsNamed s (u16At s (packetAt + 2))) (fitsNamed s (u16At s (packetAt + 2))) (pointedNamed (pointerOf s) s) (ready s)
+-- what the command in packet p leads to, by what the state shows
+abbrev pub judgeOf : List ℕ → List ℕ → ℕ → ℕ → Deed
+judgeOf p s nc nm = judgeIn p (sessionOf s) nc nm

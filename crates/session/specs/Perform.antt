@@ -1,16 +1,12 @@
--- What is done: of each deed the answer, the state after it, and the calibration memory after it. No check is left.
+-- What is done: of each deed the state after it, in bytes; its answer and the calibration memory after it are the model's. No check is left.
 use Prim.Native.Nat.{ℕ, _+_}
 use mathlib.Core.Path.{_≡_}
-use mathlib.Core.Bool.{cond}
-use mathlib.Core.List.{List, [], _∷_}
+use mathlib.Core.List.{List}
 use lib.ListN.{set}
-use Rattle.state.specs.Layout.{lists, events, packetMost, entryMost, addressable, selectedAt, firstOdt, listOf}
-use Rattle.state.specs.Bytes.{block, bytes32}
+use Rattle.state.specs.Layout.{lists, selectedAt, listOf}
 use Rattle.state.specs.Generator.{nextOf}
-use Rattle.state.specs.Memory.{pick, blockSum}
-use Rattle.state.specs.State.{generatorOf, setGenerator, maskOf, lockAt, setSeed, setMta, setPointer, closed, fresh, answered}
-use Rattle.lists.specs.Lists.{anyRuns, stopped, started, listCleared, modeSet, entryCleared, entrySet, stopEach, startSelected, stopSelected}
-use Rattle.words.specs.Command.{codeOf}
+use Rattle.state.specs.State.{generatorOf, setGenerator, lockAt, setSeed, setMta, setPointer, closed, fresh, answered}
+use Rattle.lists.specs.Lists.{stopped, started, listCleared, modeSet, entryCleared, entrySet, stopEach, startSelected, stopSelected}
 use Rattle.words.specs.declared.Extension.the-variants.{Calibration}
 use Rattle.words.specs.declared.Seed.the-variants.{None, For}
 use Rattle.words.specs.declared.Mta.the-variants.{At}
@@ -19,7 +15,8 @@ use Rattle.words.specs.declared.Reason.the-variants as reason
 use Rattle.model.specs.declared.Deed.{Deed}
 use Rattle.model.specs.declared.Deed.the-variants.{Refuse, RefuseSize, WrongKey, Connect, Disconnect, Status, Synch, NoSeed, GiveSeed, Unlock, SetMta, Upload, ShortUpload, Checksum, Download, ClearList, SetPointer, ClearEntry, WriteEntry, SetMode, Stop, Start, KeepRunning, Select, StopAll, StartSelected, StopSelected, ProcessorInfo, ResolutionInfo}
 use Rattle.model.specs.Step.{nextEntry}
-use Rattle.model.specs.Answers.{written}
+use Rattle.model.specs.Answers.{replyIn, written}
+use Rattle.model.specs.View.{sessionOf}
 
 -- ---- the state after a deed, but for its answer
 unfoldable pub effect : Deed → List ℕ → List ℕ
@@ -53,37 +50,9 @@ effect StopSelected s = stopSelected s lists
 effect ProcessorInfo s = s
 effect ResolutionInfo s = s
 
--- ---- the answer, by the state and the memories before the deed
-unfoldable pub reply : Deed → List ℕ → List ℕ → List ℕ → List ℕ
-reply (Refuse r) s cal meas = 0xFE ∷ codeOf r ∷ []
-reply RefuseSize s cal meas = 0xFE ∷ codeOf reason.OutOfRange ∷ 0x00 ∷ 0x00 ∷ bytes32 addressable
-reply WrongKey s cal meas = 0xFE ∷ codeOf reason.WrongKey ∷ []
-reply Connect s cal meas = 0xFF ∷ 0x05 ∷ 0x00 ∷ packetMost ∷ packetMost ∷ 0x00 ∷ 0x01 ∷ 0x01 ∷ []
-reply Disconnect s cal meas = 0xFF ∷ []
-reply Status s cal meas = 0xFF ∷ cond (anyRuns s lists) 0x40 0x00 ∷ maskOf s ∷ 0x00 ∷ 0x00 ∷ 0x00 ∷ []
-reply Synch s cal meas = 0xFE ∷ 0x00 ∷ []
-reply NoSeed s cal meas = 0xFF ∷ 0x00 ∷ []
-reply (GiveSeed r) s cal meas = 0xFF ∷ 0x04 ∷ bytes32 (nextOf (generatorOf s))
-reply (Unlock r) s cal meas = 0xFF ∷ maskOf (effect (Unlock r) s) ∷ []
-reply (SetMta e a) s cal meas = 0xFF ∷ []
-reply (Upload e a n) s cal meas = 0xFF ∷ block (pick e cal meas) a n
-reply (ShortUpload e a n) s cal meas = 0xFF ∷ block (pick e cal meas) a n
-reply (Checksum e a n) s cal meas = 0xFF ∷ 0x02 ∷ 0x00 ∷ 0x00 ∷ bytes32 (blockSum (pick e cal meas) a n)
-reply (Download a n) s cal meas = 0xFF ∷ []
-reply (ClearList l) s cal meas = 0xFF ∷ []
-reply (SetPointer k e) s cal meas = 0xFF ∷ []
-reply (ClearEntry k e) s cal meas = 0xFF ∷ []
-reply (WriteEntry k e n ext a) s cal meas = 0xFF ∷ []
-reply (SetMode l event) s cal meas = 0xFF ∷ []
-reply (Stop l) s cal meas = 0xFF ∷ firstOdt l ∷ []
-reply (Start l) s cal meas = 0xFF ∷ firstOdt l ∷ []
-reply (KeepRunning l) s cal meas = 0xFF ∷ firstOdt l ∷ []
-reply (Select l) s cal meas = 0xFF ∷ firstOdt l ∷ []
-reply StopAll s cal meas = 0xFF ∷ []
-reply StartSelected s cal meas = 0xFF ∷ []
-reply StopSelected s cal meas = 0xFF ∷ []
-reply ProcessorInfo s cal meas = 0xFF ∷ 0x10 ∷ lists ∷ 0x00 ∷ events ∷ 0x00 ∷ 0x00 ∷ 0x00 ∷ []
-reply ResolutionInfo s cal meas = 0xFF ∷ 0x01 ∷ entryMost ∷ 0x00 ∷ 0x00 ∷ 0x6A ∷ 0x01 ∷ 0x00 ∷ []
+-- the answer, by what the state shows before the deed
+abbrev pub reply : Deed → List ℕ → List ℕ → List ℕ → List ℕ
+reply d s cal meas = replyIn d (sessionOf s) cal meas
 
 -- the state with the deed done and its answer waiting
 abbrev pub after : Deed → List ℕ → List ℕ → List ℕ → List ℕ

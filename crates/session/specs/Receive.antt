@@ -1,21 +1,20 @@
 -- A received byte.
 use Prim.Native.Nat.{ℕ}
 use mathlib.Core.Path.{_≡_}
-use mathlib.Core.Bool.{Bool, false, cond}
+use mathlib.Core.Bool.{cond}
 use mathlib.Core.List.{List}
-use lib.Dec.{eqb, ltb}
-use lib.ListN.{length, getD}
+use lib.ListN.{length}
 use Rattle.line.specs.Unstuffing.{Fed}
 use Rattle.line.specs.Reader.{takeOf}
 use Rattle.line.specs.declared.Outcome.{Outcome}
 use Rattle.line.specs.declared.Outcome.the-variants as line
 use Rattle.state.specs.Bytes.{block}
-use Rattle.state.specs.State.{consistent, openOf, placeOf, setPlace, messageOf, setMessage, waits}
-use Rattle.session.specs.Look.{judgeOf}
+use Rattle.state.specs.State.{consistent, placeOf, setPlace, messageOf, setMessage, waits}
+use Rattle.model.specs.Heed.{Heeding, Dropped, Obeyed, Ignored, heedingIn}
+use Rattle.model.specs.View.{sessionOf}
 use Rattle.session.specs.Perform.{after}
 use Rattle.model.specs.Answers.{written}
 use Rattle.model.specs.declared.Deed.{Deed}
-use Rattle.model.specs.declared.Deed.the-variants.{Connect}
 use Rattle.words.specs.declared.Received.{Received}
 use Rattle.words.specs.declared.Received.the-variants.{Nothing, Answered, Silent, BadLength, BadEscape, BadChecksum, Unread, CutOff, NoState}
 
@@ -32,17 +31,14 @@ only r s cal = record { received = r; state = s; cal = cal }
 abbrev pub obeyed : Deed → List ℕ → List ℕ → List ℕ → List ℕ → Step
 obeyed d p s cal meas = record { received = Answered; state = after d s cal meas; cal = written d p cal }
 
--- CONNECT with its two bytes, and mode 0
-unfoldable pub goodConnect : List ℕ → Bool
-goodConnect p = cond (eqb (getD p 0 0) 0xFF) (cond (ltb (length p) 2) false (eqb (getD p 1 0) 0)) false
+-- a good message with packet p, by what it is to the slave
+abbrev pub heededBy : Heeding → List ℕ → List ℕ → List ℕ → List ℕ → Step
+heededBy Dropped p s cal meas = only Unread s cal
+heededBy (Obeyed d) p s cal meas = obeyed d p s cal meas
+heededBy Ignored p s cal meas = only Silent s cal
 
--- a good message with packet p
 unfoldable pub heeded : List ℕ → List ℕ → List ℕ → List ℕ → Step
-heeded p s cal meas =
-    cond (waits s) (only Unread s cal)
-    (cond (openOf s) (obeyed (judgeOf p s (length cal) (length meas)) p s cal meas)
-    (cond (goodConnect p) (obeyed Connect p s cal meas)
-    (only Silent s cal)))
+heeded p s cal meas = heededBy (heedingIn (waits s) p (sessionOf s) (length cal) (length meas)) p s cal meas
 
 -- what the line's outcome means, with the message buffer m
 unfoldable pub meant : Outcome → List ℕ → List ℕ → List ℕ → List ℕ → Step

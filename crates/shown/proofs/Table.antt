@@ -6,6 +6,7 @@ use mathlib.Core.Option.{Option, some}
 use mathlib.Core.List.{List, [], _∷_}
 use lib.ListN.{length}
 use lib.Seq.{sets}
+use Rattle.session.proofs.Heeding.{heeded-is}
 use Rattle.state.specs.Layout.{addressable}
 use Rattle.state.specs.State.{consistent, openOf, waits, answerOf}
 use Rattle.session.specs.Look.{judgeOf}
@@ -97,8 +98,7 @@ bench-sheet = (connect-frame, (connect-answer, (synch-frame, (synch-answer, (esc
 -- ---- case 8 with whatever memory of 4,096 bytes, of every slave that meets demand 2
 -- a command that is heeded in an open session
 obeys : (p s cal meas : List ℕ) → waits s ≡ false → openOf s ≡ true → heeded p s cal meas ≡ obeyed (deedOf p s cal meas) p s cal meas
-unfolding heeded
-obeys p s cal meas w o = simp (w, o)
+obeys p s cal meas w o = heeded-is p s cal meas ∙ simp (w, o)
 
 -- how DOWNLOAD of 6 stands at its last byte b
 record Standing : Type 0 where

@@ -12,7 +12,8 @@ use Rattle.line.specs.Number.{outcomeNumber}
 use Rattle.state.specs.Layout.{calibrationAt, listsAt, firstOdt, entryCount}
 use Rattle.state.specs.State.{consistent, ctrOf, openOf, maskOf, mtaOf, setMta, waits, answered}
 use Rattle.state.specs.Lists.{storedLength}
-use Rattle.session.specs.Receive.{Step, only, obeyed, goodConnect, heeded, fedOf, receiveOf}
+use Rattle.session.specs.Receive.{Step, only, obeyed, heeded, fedOf, receiveOf}
+use Rattle.model.specs.Heed.{goodConnect}
 use Rattle.lists.specs.Event.{Happened, gathered, stored, eventOf}
 use Rattle.lists.specs.Slot.{Slot, turnOf, slotOf}
 use Rattle.words.specs.Number.{slottedValue}

@@ -8,6 +8,8 @@ use mathlib.Core.List.{List}
 use native.Mathlib.Omega.{arith}
 use borrow.Author.Tests.{ltb-false}
 use lib.Dec.{eqb, ltb, leb}
+use Rattle.model.specs.Judge.{seenIn, judgeIn, extensionFrom, connectDeed, seedDeed, getSeedDeed, unlockBy, setMtaDeed, uploadDeed, shortUploadDeed, checksumDeed, downloadTo, downloadDeed, clearDeed, pointerDeed, writeBlock, writeDeed, modeDeed, startDeed, startStopDeed, synchDeed, lockedBy, judgeThe, judgeBy, judge}
+use Rattle.model.specs.View.{sessionOf}
 use Rattle.line.proofs.Laws.{cond-ind}
 use Rattle.state.specs.Layout.{lists, odtCount, firstOdt, entryCount, events, entryMost, uploadMost, downloadMost, addressable, generatorAt}
 use Rattle.state.specs.Bytes.{u16At, u32At}
@@ -30,10 +32,9 @@ use Rattle.words.specs.declared.Mta.the-variants.{Unset, At}
 use Rattle.words.specs.declared.Pointer.{Pointer}
 use Rattle.words.specs.declared.Pointer.the-variants.{Unset as NoEntry, At as Points}
 use Rattle.model.specs.Seen.{Packet, Seen, numbersOf}
-use Rattle.model.specs.Judge.{extensionFrom, connectDeed, seedDeed, getSeedDeed, unlockBy, setMtaDeed, uploadDeed, shortUploadDeed, checksumDeed, downloadTo, downloadDeed, clearDeed, pointerDeed, writeBlock, writeDeed, modeDeed, startDeed, startStopDeed, synchDeed, lockedBy, judgeThe, judgeBy, judge}
 use Rattle.model.specs.declared.Deed.{Deed}
 use Rattle.model.specs.declared.Deed.the-variants.{Refuse, RefuseSize, WrongKey, Connect, Disconnect, Status, Synch, NoSeed, GiveSeed, Unlock, SetMta, Upload, ShortUpload, Checksum, Download, ClearList, SetPointer, ClearEntry, WriteEntry, SetMode, Stop, Start, KeepRunning, Select, StopAll, StartSelected, StopSelected, ProcessorInfo, ResolutionInfo}
-use Rattle.session.specs.Look.{seenOf, judgeOf}
+use Rattle.session.specs.Look.{judgeOf}
 use Rattle.model.specs.Model.{Bytes}
 
 -- a seed, an address and an entry fit in the bytes that they are stored in; g is the generator
@@ -236,5 +237,5 @@ judge-fits p v nc nm a h n =
 
 -- of a packet of bytes
 pub judged-fits : (p s : List ℕ) (nc nm : ℕ) → Bytes p → generatorOf s < 2 ^ 32 → Fit (judgeOf p s nc nm) (generatorOf s)
-unfolding judgeOf
-judged-fits p s nc nm w h = judge-fits (numbersOf p) (seenOf (u16At p 2) s) nc nm (number-fits p 4 w) h (generator-some s)
+unfolding judgeIn sessionOf
+judged-fits p s nc nm w h = judge-fits (numbersOf p) (seenIn (u16At p 2) (sessionOf s)) nc nm (number-fits p 4 w) h (generator-some s)

@@ -23,7 +23,7 @@ use Rattle.model.specs.Judge.{extensionFrom, clearDeed, pointerDeed, writeBlock
 use Rattle.model.specs.declared.Deed.{Deed}
 use Rattle.model.specs.declared.Deed.the-variants.{ClearEntry, WriteEntry, Stop, Start, KeepRunning, Select, StopAll, StartSelected, StopSelected}
 use Rattle.model.specs.Step.{nextEntry, withPointer, withLists, withEntry, setEntry, odtIn, clear, setMode, switch, select, stopIt, startIfSelected, stopIfSelected, stepIn}
-use Rattle.model.specs.Answers.{written, replyIn, doneBy}
+use Rattle.model.specs.Answers.{written, replyIn, doneBy, writes}
 use Rattle.model.specs.Model.{byte, put, Entry, noEntry, Odt, DaqList, Session, fits, runsIn}
 use Rattle.views.specs.Commands.{two, four, extensionNumber, TheGenerator, Whether-open, TheLocks, TheSeed, TheMta, ThePointer, TheLists, AllBut, AllButBoth, CLEAR-DAQ-LIST, SET-DAQ-PTR, WRITE-DAQ, SET-DAQ-LIST-MODE, Switched, Unswitched, START-STOP-DAQ-LIST, START-STOP-SYNCH}
 use Rattle.views.proofs.Taken.{four-is, named-by, fe-ff, Taken, unless, provided, branch, judged, Leads}
@@ -156,7 +156,7 @@ module _ (p : List ℕ) (c : Session) (cal meas : List ℕ) where
 
   write-block : (k e len : ℕ) → c .pointer ≡ Points k e → ltb 1 (byte p 3) ≡ false
       → Taken p c cal meas (writeBlock k e (byte p 2) (extensionFrom (byte p 3)) (u32At p 4) len) → Leads WRITE-DAQ p c cal meas (writeBlock k e (byte p 2) (extensionFrom (byte p 3)) (u32At p 4) len)
-  unfolding writeBlock stepIn written replyIn
+  unfolding writeBlock stepIn writes replyIn
   write-block k e len at few =
       let ext : Extension = extensionFrom (byte p 3) in
       branch p c cal meas (Leads WRITE-DAQ p c cal meas) (eqb (byte p 2) 0)
@@ -184,7 +184,7 @@ module _ (p : List ℕ) (c : Session) (cal meas : List ℕ) where
 
   -- ---- E2 SET_DAQ_PTR
   pub set-daq-ptr : byte p 0 ≡ 0xE2 → Taken p c cal meas (judgeIn p c (length cal) (length meas)) → Leads SET-DAQ-PTR p c cal meas (judgeIn p c (length cal) (length meas))
-  unfolding judgeThe commandOf pointerDeed u16At stepIn written replyIn
+  unfolding judgeThe commandOf pointerDeed u16At stepIn writes replyIn
   set-daq-ptr code =
       let P : Deed → Type 0 = Leads SET-DAQ-PTR p c cal meas in
       let l : ℕ = two p 2 in
@@ -196,7 +196,7 @@ module _ (p : List ℕ) (c : Session) (cal meas : List ℕ) where
 
   -- ---- E3 CLEAR_DAQ_LIST
   pub clear-daq-list : byte p 0 ≡ 0xE3 → Taken p c cal meas (judgeIn p c (length cal) (length meas)) → Leads CLEAR-DAQ-LIST p c cal meas (judgeIn p c (length cal) (length meas))
-  unfolding judgeThe commandOf clearDeed u16At stepIn written replyIn
+  unfolding judgeThe commandOf clearDeed u16At stepIn writes replyIn
   clear-daq-list code =
       let P : Deed → Type 0 = Leads CLEAR-DAQ-LIST p c cal meas in
       let l : ℕ = two p 2 in
@@ -218,7 +218,7 @@ module _ (p : List ℕ) (c : Session) (cal meas : List ℕ) where
 
   -- ---- E0 SET_DAQ_LIST_MODE
   pub set-daq-list-mode : byte p 0 ≡ 0xE0 → Taken p c cal meas (judgeIn p c (length cal) (length meas)) → Leads SET-DAQ-LIST-MODE p c cal meas (judgeIn p c (length cal) (length meas))
-  unfolding judgeThe commandOf modeDeed u16At stepIn written replyIn
+  unfolding judgeThe commandOf modeDeed u16At stepIn writes replyIn
   set-daq-list-mode code =
       let P : Deed → Type 0 = Leads SET-DAQ-LIST-MODE p c cal meas in
       let l : ℕ = two p 2 in
@@ -255,7 +255,7 @@ module _ (p : List ℕ) (c : Session) (cal meas : List ℕ) where
   Switches = Leads START-STOP-DAQ-LIST p c cal meas
 
   stops-list : byte p 1 ≡ 0 → Switches (Stop list)
-  unfolding stepIn written replyIn
+  unfolding stepIn writes replyIn
   stops-list m =
       let is : put list (switch false (c .list list)) (c .list) list ≡ switch false (c .list list) = put-here list (switch false (c .list list)) (c .list) in
       record {
@@ -272,7 +272,7 @@ module _ (p : List ℕ) (c : Session) (cal meas : List ℕ) where
       }
 
   starts-list : byte p 1 ≡ 1 → runsIn c list ≡ false → Switches (Start list)
-  unfolding stepIn written replyIn
+  unfolding stepIn writes replyIn
   starts-list m idle =
       let is : put list (switch true (c .list list)) (c .list) list ≡ switch true (c .list list) = put-here list (switch true (c .list list)) (c .list) in
       record {
@@ -289,7 +289,7 @@ module _ (p : List ℕ) (c : Session) (cal meas : List ℕ) where
       }
 
   keeps-list : byte p 1 ≡ 1 → runsIn c list ≡ true → Switches (KeepRunning list)
-  unfolding stepIn written replyIn
+  unfolding stepIn writes replyIn
   keeps-list m runs′ =
       record {
         stops = λ e. absurd (omega arith);
@@ -305,7 +305,7 @@ module _ (p : List ℕ) (c : Session) (cal meas : List ℕ) where
       }
 
   selects-list : byte p 1 ≢ 0 → byte p 1 ≢ 1 → ltb 2 (byte p 1) ≡ false → Switches (Select list)
-  unfolding stepIn written replyIn
+  unfolding stepIn writes replyIn
   selects-list n m few =
       let is : put list (select true (c .list list)) (c .list) list ≡ select true (c .list list) = put-here list (select true (c .list list)) (c .list) in
       record {
@@ -363,7 +363,7 @@ module _ (p : List ℕ) (c : Session) (cal meas : List ℕ) where
   Synchs = Leads START-STOP-SYNCH p c cal meas
 
   all-stop : byte p 1 ≡ 0 → Synchs StopAll
-  unfolding stepIn written replyIn
+  unfolding stepIn writes replyIn
   all-stop m = record {
     stopsAll = λ _ l. record { mode = refl; started = refl; entries = λ k e. refl; dropped = λ k. refl };
     starts = λ e. absurd (omega arith);
@@ -377,7 +377,7 @@ module _ (p : List ℕ) (c : Session) (cal meas : List ℕ) where
   }
 
   selected-start : byte p 1 ≡ 1 → Synchs StartSelected
-  unfolding stepIn written replyIn
+  unfolding stepIn writes replyIn
   selected-start m = record {
     stopsAll = λ e. absurd (omega arith);
     starts = λ _ l s r. started-if (c .list l) (c .list l .selected) (runsIn c l) s r;
@@ -391,7 +391,7 @@ module _ (p : List ℕ) (c : Session) (cal meas : List ℕ) where
   }
 
   selected-stop : byte p 1 ≢ 0 → byte p 1 ≢ 1 → Synchs StopSelected
-  unfolding stepIn written replyIn
+  unfolding stepIn writes replyIn
   selected-stop n m = record {
     stopsAll = λ e. absurd (n e);
     starts = λ e. absurd (m e);

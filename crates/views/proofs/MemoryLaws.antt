@@ -27,7 +27,7 @@ use Rattle.words.specs.declared.Reason.the-variants.{OutOfRange, DataMissing, N
 use Rattle.model.specs.Judge.{extensionFrom, setMtaDeed, uploadDeed, shortUploadDeed, checksumDeed, downloadTo, downloadDeed, judgeThe, judgeIn}
 use Rattle.model.specs.declared.Deed.{Deed}
 use Rattle.model.specs.declared.Deed.the-variants.{Upload, ShortUpload, Checksum, Download}
-use Rattle.model.specs.Answers.{written, replyIn, Done, doneBy}
+use Rattle.model.specs.Answers.{replyIn, Done, doneBy, writes}
 use Rattle.fields.proofs.Stores.{sets-in, put32-same}
 use Rattle.fields.proofs.Frames.{only-sets}
 use Rattle.model.specs.Model.{byte, Session}
@@ -65,7 +65,7 @@ inside-memory e a n cal meas i = inside-le a n (length (pick e cal meas)) (rw (l
 module _ (p : List ℕ) (c : Session) (cal meas : List ℕ) where
   -- ---- F6 SET_MTA
   pub set-mta : byte p 0 ≡ 0xF6 → Taken p c cal meas (judgeIn p c (length cal) (length meas)) → Leads SET-MTA p c cal meas (judgeIn p c (length cal) (length meas))
-  unfolding judgeThe commandOf setMtaDeed stepIn written replyIn
+  unfolding judgeThe commandOf setMtaDeed stepIn writes replyIn
   set-mta code =
       let P : Deed → Type 0 = Leads SET-MTA p c cal meas in
       let x : Extension = extensionFrom (byte p 3) in
@@ -85,7 +85,7 @@ module _ (p : List ℕ) (c : Session) (cal meas : List ℕ) where
       }
 
   upload-at : (m : Mta) → c .mta ≡ m → Taken p c cal meas (uploadDeed m (byte p 1) (length cal) (length meas)) → Leads UPLOAD p c cal meas (uploadDeed m (byte p 1) (length cal) (length meas))
-  unfolding uploadDeed stepIn written replyIn
+  unfolding uploadDeed stepIn writes replyIn
   upload-at Unset e = λ t. absurd (fe-ff t)
   upload-at (At x a) e =
       let P : Deed → Type 0 = Leads UPLOAD p c cal meas in
@@ -107,7 +107,7 @@ module _ (p : List ℕ) (c : Session) (cal meas : List ℕ) where
   upload code = judged p c cal meas (Leads UPLOAD p c cal meas) 0xF5 command.Upload refl code (upload-at (c .mta) refl)
 
   pub short-upload : byte p 0 ≡ 0xF4 → Taken p c cal meas (judgeIn p c (length cal) (length meas)) → Leads SHORT-UPLOAD p c cal meas (judgeIn p c (length cal) (length meas))
-  unfolding judgeThe commandOf shortUploadDeed stepIn written replyIn
+  unfolding judgeThe commandOf shortUploadDeed stepIn writes replyIn
   short-upload code =
       let P : Deed → Type 0 = Leads SHORT-UPLOAD p c cal meas in
       let n : ℕ = byte p 1 in
@@ -140,7 +140,7 @@ sum-from mem a (suc n) h = rw (drop-cons mem a 0 (omega arith), add-one a) (ap (
 
 module _ (p : List ℕ) (c : Session) (cal meas : List ℕ) where
   summed : (x : Extension) (a n : ℕ) → c .mta ≡ At x a → n ≡ four p 4 → insideOf a n (pick x (length cal) (length meas)) ≡ true → Leads BUILD-CHECKSUM p c cal meas (Checksum x a n)
-  unfolding stepIn written replyIn blockSum
+  unfolding stepIn writes replyIn blockSum
   summed x a n e number inside =
       let mem : List ℕ = pick x cal meas in
       let total : ℕ = sum (block mem a n) % 65536 in
@@ -177,7 +177,7 @@ module _ (p : List ℕ) (c : Session) (cal meas : List ℕ) where
 
   -- ---- F0 DOWNLOAD
   loaded : (a : ℕ) → c .mta ≡ At CalibrationMemory a → byte p 1 + 2 ≤ length p → insideOf a (byte p 1) (length cal) ≡ true → Leads DOWNLOAD p c cal meas (Download a (byte p 1))
-  unfolding stepIn written replyIn
+  unfolding stepIn writes replyIn
   loaded a e there inside =
       let n : ℕ = byte p 1 in
       let xs : List ℕ = block p 2 n in

@@ -24,7 +24,7 @@ use Rattle.words.specs.declared.Reason.the-variants.{OutOfRange, Sequence, Data
 use Rattle.model.specs.Judge.{connectDeed, seedDeed, getSeedDeed, unlockBy, judgeThe, judgeBy, judge, judgeIn}
 use Rattle.model.specs.declared.Deed.{Deed}
 use Rattle.model.specs.declared.Deed.the-variants.{Synch, GiveSeed, Unlock}
-use Rattle.model.specs.Answers.{written, replyIn, doneBy}
+use Rattle.model.specs.Answers.{replyIn, doneBy, writes}
 use Rattle.model.specs.Model.{byte, Session, blank, runsIn, someRuns}
 use Rattle.model.specs.Step.{unlock, withGenerator, withLock, withSeed, stepIn}
 use Rattle.views.specs.Commands.{resourceNumber, maskFor, TheGenerator, Whether-open, TheLocks, TheSeed, TheMta, ThePointer, TheLists, AllButBoth, Fresh, CONNECT, DISCONNECT, GET-STATUS, SYNCH, Seeds, GET-SEED, UNLOCK, GET-DAQ-PROCESSOR-INFO, GET-DAQ-RESOLUTION-INFO}
@@ -109,18 +109,18 @@ opens-alone Lists Lists f n = absurd (n refl)
 
 module _ (p : List ℕ) (c : Session) (cal meas : List ℕ) where
   pub connect : byte p 0 ≡ 0xFF → Taken p c cal meas (judgeIn p c (length cal) (length meas)) → Leads CONNECT p c cal meas (judgeIn p c (length cal) (length meas))
-  unfolding judgeThe commandOf connectDeed stepIn written replyIn
+  unfolding judgeThe commandOf connectDeed stepIn writes replyIn
   connect code =
       let P : Deed → Type 0 = Leads CONNECT p c cal meas in
       judged p c cal meas P 0xFF command.Connect refl code
       (provided p c cal meas P (eqb (byte p 1) 0) OutOfRange (λ _ _. record { opened = refl; fresh = blank-fresh c true; memory = refl; answer = refl }))
 
   pub disconnect : byte p 0 ≡ 0xFE → Taken p c cal meas (judgeIn p c (length cal) (length meas)) → Leads DISCONNECT p c cal meas (judgeIn p c (length cal) (length meas))
-  unfolding judgeThe commandOf stepIn written replyIn
+  unfolding judgeThe commandOf stepIn writes replyIn
   disconnect code = judged p c cal meas (Leads DISCONNECT p c cal meas) 0xFE command.Disconnect refl code (λ _. record { closed = refl; fresh = blank-fresh c false; memory = refl; answer = refl })
 
   pub get-status : byte p 0 ≡ 0xFD → Taken p c cal meas (judgeIn p c (length cal) (length meas)) → Leads GET-STATUS p c cal meas (judgeIn p c (length cal) (length meas))
-  unfolding judgeThe commandOf stepIn written replyIn
+  unfolding judgeThe commandOf stepIn writes replyIn
   get-status code =
       judged p c cal meas (Leads GET-STATUS p c cal meas) 0xFD command.GetStatus refl code
       (λ _. record {
@@ -139,12 +139,12 @@ module _ (p : List ℕ) (c : Session) (cal meas : List ℕ) where
   synch-judged nc nm code = simp (code, le-ltb (length p) 1 (there-is p code))
 
   pub synch : byte p 0 ≡ 0xFC → Leads SYNCH p c cal meas (judgeIn p c (length cal) (length meas))
-  unfolding stepIn written replyIn
+  unfolding stepIn writes replyIn
   synch code = subst (Leads SYNCH p c cal meas) (sym (synch-judged (length cal) (length meas) code)) (record { session = refl; memory = refl; answer = refl })
 
   -- ---- F8 GET_SEED
   given : (r : Resource) → Seeds r c cal (doneBy (GiveSeed r) p c cal meas)
-  unfolding stepIn written replyIn
+  unfolding stepIn writes replyIn
   given r =
       let x : ℕ = nextOf (c .generator) in
       record {
@@ -158,7 +158,7 @@ module _ (p : List ℕ) (c : Session) (cal meas : List ℕ) where
       }
 
   seed-for : (r : Resource) (u : Bool) → c .unlocked r ≡ u → byte p 2 ≡ resourceNumber r → Leads GET-SEED p c cal meas (seedDeed u r)
-  unfolding stepIn written replyIn
+  unfolding stepIn writes replyIn
   seed-for r true e n = record { resource = r; named = n; already = λ _. record { session = refl; memory = refl; answer = refl }; gives = λ f. absurd (false-true (sym f ∙ e)) }
   seed-for r false e n = record { resource = r; named = n; already = λ t. absurd (false-true (sym e ∙ t)); gives = λ _. given r }
 
@@ -174,7 +174,7 @@ module _ (p : List ℕ) (c : Session) (cal meas : List ℕ) where
 
   -- ---- F7 UNLOCK
   opened : (r : Resource) → c .seed ≡ For r → u32At p 2 ≡ keyOf r (c .generator) → Leads UNLOCK p c cal meas (Unlock r)
-  unfolding stepIn written replyIn
+  unfolding stepIn writes replyIn
   opened r e key = record {
     resource = r;
     seeded = e;
@@ -202,9 +202,9 @@ module _ (p : List ℕ) (c : Session) (cal meas : List ℕ) where
 
   -- ---- DA, D9
   pub processor-info : byte p 0 ≡ 0xDA → Taken p c cal meas (judgeIn p c (length cal) (length meas)) → Leads GET-DAQ-PROCESSOR-INFO p c cal meas (judgeIn p c (length cal) (length meas))
-  unfolding judgeThe commandOf stepIn written replyIn
+  unfolding judgeThe commandOf stepIn writes replyIn
   processor-info code = judged p c cal meas (Leads GET-DAQ-PROCESSOR-INFO p c cal meas) 0xDA command.GetDaqProcessorInfo refl code (λ _. record { session = refl; memory = refl; answer = refl })
 
   pub resolution-info : byte p 0 ≡ 0xD9 → Taken p c cal meas (judgeIn p c (length cal) (length meas)) → Leads GET-DAQ-RESOLUTION-INFO p c cal meas (judgeIn p c (length cal) (length meas))
-  unfolding judgeThe commandOf stepIn written replyIn
+  unfolding judgeThe commandOf stepIn writes replyIn
   resolution-info code = judged p c cal meas (Leads GET-DAQ-RESOLUTION-INFO p c cal meas) 0xD9 command.GetDaqResolutionInfo refl code (λ _. record { session = refl; memory = refl; answer = refl })

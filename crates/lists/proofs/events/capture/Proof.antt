@@ -35,7 +35,7 @@ add-capture-odt : tie.Need-add-capture-odt Inv-loop μ-loop
 add-capture-odt c = search needs
 
 capture-odt-requires : tie.Need-capture-odt-requires Inv-loop μ-loop
-capture-odt-requires c κs = let odt : firstOdt (c .before .before .before .before .before .before .before .args .l) + c .before .before .loop .j < allOdts = omega arith in (c .before .before .loop .inv .2 ∙ c .before .before .before .before .before .before .before .pre .0, omega (arith, c .before .before .before .first-odt .ensures), rw (c .before .before .before .first-odt .ensures, c .before .before .loop .inv .1, bytes-alike (capturedOdts (c .before .before .before .before .before .before .before .args .s .now) (firstOdt (c .before .before .before .before .before .before .before .args .l)) (c .before .before .before .before .before .before .before .args .clock) (c .before .before .before .before .before .before .before .args .cal .now) (c .before .before .before .before .before .before .before .args .meas .now) (c .before .before .loop .j)) (c .before .before .before .before .before .before .before .args .s .now) (captured-alike (c .before .before .before .before .before .before .before .args .s .now) (firstOdt (c .before .before .before .before .before .before .before .args .l)) (c .before .before .before .before .before .before .before .args .clock) (c .before .before .before .before .before .before .before .args .cal .now) (c .before .before .before .before .before .before .before .args .meas .now) (c .before .before .loop .j)) (firstOdt (c .before .before .before .before .before .before .before .args .l) + c .before .before .loop .j) odt) (fit-each (c .before .before .before .before .before .before .before .args .s .now) (firstOdt (c .before .before .before .before .before .before .before .args .l)) odts (c .before .before .loop .j) (c .before .before .before .before .before .before .before .pre .2) (omega arith)))
+capture-odt-requires c κs = let odt : firstOdt (c .before .before .before .before .before .before .before .args .l) + c .before .before .loop .j < allOdts = omega arith in (c .before .before .loop .inv .2 ∙ c .before .before .before .before .before .before .before .pre .0, omega (arith, c .before .before .before .first-odt .ensures), rw (c .before .before .before .first-odt .ensures, c .before .before .loop .inv .1, bytes-alike (capturedOdts (c .before .before .before .before .before .before .before .args .s .now) (firstOdt (c .before .before .before .before .before .before .before .args .l)) (c .before .before .before .before .before .before .before .args .clock) (c .before .before .before .before .before .before .before .args .cal .now) (c .before .before .before .before .before .before .before .args .meas .now) (c .before .before .loop .j)) (c .before .before .before .before .before .before .before .args .s .now) (captured-alike (c .before .before .before .before .before .before .before .args .s .now) (firstOdt (c .before .before .before .before .before .before .before .args .l)) (c .before .before .before .before .before .before .before .args .clock) (c .before .before .before .before .before .before .before .args .cal .now) (c .before .before .before .before .before .before .before .args .meas .now) (c .before .before .loop .j)) (firstOdt (c .before .before .before .before .before .before .before .args .l) + c .before .before .loop .j) odt) (fit-each (c .before .before .before .before .before .before .before .args .s .now) (c .before .before .before .before .before .before .before .args .l) (c .before .before .loop .j) (c .before .before .before .before .before .before .before .pre .1) (c .before .before .before .before .before .before .before .pre .2) (omega arith)))
 
 add-j : tie.Need-add-j Inv-loop μ-loop
 add-j c = search needs

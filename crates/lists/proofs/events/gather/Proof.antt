@@ -6,7 +6,8 @@ use lib.ListN.{length}
 use lib.Seq.{sets}
 use Rattle.state.specs.Layout.{entries}
 use Rattle.state.specs.Lists.{sizeOf}
-use Rattle.lists.specs.Event.{gathered}
+use Rattle.model.specs.Calls.{blocksIn}
+use Rattle.model.specs.View.{odtOf}
 use Rattle.lists.proofs.Entries.{sets-alike, size-alike, first-most}
 use Rattle.lists.proofs.Gathered.{gathered-length, gathered-first, gathered-odt, gathered-next}
 use borrow.Author.Needs.{needs}
@@ -14,13 +15,13 @@ use Rattle.lists.proofs.events.gather.Statement.{statement}
 use Rattle.lists.proofs.events.gather.Tie as tie
 
 abbrev Inv-loop : tie.InvT-loop
-Inv-loop s₀ from cal meas k to₀ e₀ s to e = (e ≤ entries) × (s ≡ sets s₀ from (gathered s₀ k cal meas e)) × (to ≡ from + length (gathered s₀ k cal meas e)) × (length s ≡ length s₀)
+Inv-loop s₀ from cal meas k to₀ e₀ s to e = (e ≤ entries) × (s ≡ sets s₀ from (blocksIn (odtOf s₀ k) cal meas e)) × (to ≡ from + length (blocksIn (odtOf s₀ k) cal meas e)) × (length s ≡ length s₀)
 
 abbrev μ-loop : tie.MeasureT-loop
 μ-loop s₀ from cal meas k to₀ e₀ s to e = entries - e
 
 loop-holds : tie.Need-loop-holds Inv-loop μ-loop
-unfolding gathered
+unfolding blocksIn
 loop-holds c = (omega arith, refl, omega arith, refl)
 
 entry-size-requires : tie.Need-entry-size-requires Inv-loop μ-loop
@@ -30,10 +31,10 @@ cast-n : tie.Need-cast-n Inv-loop μ-loop
 cast-n c = search needs
 
 take-entry-requires : tie.Need-take-entry-requires Inv-loop μ-loop
-take-entry-requires c κs = let n : c .before .entry-size .result ≡ sizeOf (c .before .before .before .before .before .before .before .before .args .s .now) (c .before .before .before .before .before .before .before .before .args .k) (c .before .before .before .before .loop .e) = c .before .entry-size .ensures .0 ∙ rw (c .before .before .before .before .loop .inv .1) (size-alike _ (c .before .before .before .before .before .before .before .before .args .s .now) (sets-alike (gathered (c .before .before .before .before .before .before .before .before .args .s .now) (c .before .before .before .before .before .before .before .before .args .k) (c .before .before .before .before .before .before .before .before .args .cal .now) (c .before .before .before .before .before .before .before .before .args .meas .now) (c .before .before .before .before .loop .e)) (c .before .before .before .before .before .before .before .before .args .s .now) (c .before .before .before .before .before .before .before .before .args .from) (omega arith)) (c .before .before .before .before .before .before .before .before .args .k) (omega arith) (c .before .before .before .before .loop .e) (omega arith)) in (omega (arith, c .before .before .before .before .loop .inv .0), omega arith, omega arith, c .before .entry-size .ensures .0, c .before .entry-size .ensures .1, omega (arith, n, c .before .before .before .before .loop .inv .2, c .before .before .before .before .loop .inv .3, gathered-first (c .before .before .before .before .before .before .before .before .args .s .now) (c .before .before .before .before .before .before .before .before .args .k) (c .before .before .before .before .before .before .before .before .args .cal .now) (c .before .before .before .before .before .before .before .before .args .meas .now) (c .before .before .before .before .loop .e), first-most (c .before .before .before .before .before .before .before .before .args .s .now) (c .before .before .before .before .before .before .before .before .args .k) (c .before .before .before .before .loop .e) (omega arith)))
+take-entry-requires c κs = let n : c .before .entry-size .result ≡ sizeOf (c .before .before .before .before .before .before .before .before .args .s .now) (c .before .before .before .before .before .before .before .before .args .k) (c .before .before .before .before .loop .e) = c .before .entry-size .ensures .0 ∙ rw (c .before .before .before .before .loop .inv .1) (size-alike _ (c .before .before .before .before .before .before .before .before .args .s .now) (sets-alike (blocksIn (odtOf (c .before .before .before .before .before .before .before .before .args .s .now) (c .before .before .before .before .before .before .before .before .args .k)) (c .before .before .before .before .before .before .before .before .args .cal .now) (c .before .before .before .before .before .before .before .before .args .meas .now) (c .before .before .before .before .loop .e)) (c .before .before .before .before .before .before .before .before .args .s .now) (c .before .before .before .before .before .before .before .before .args .from) (omega arith)) (c .before .before .before .before .before .before .before .before .args .k) (omega arith) (c .before .before .before .before .loop .e) (omega arith)) in (omega (arith, c .before .before .before .before .loop .inv .0), omega arith, omega arith, c .before .entry-size .ensures .0, c .before .entry-size .ensures .1, omega (arith, n, c .before .before .before .before .loop .inv .2, c .before .before .before .before .loop .inv .3, gathered-first (c .before .before .before .before .before .before .before .before .args .s .now) (c .before .before .before .before .before .before .before .before .args .k) (c .before .before .before .before .before .before .before .before .args .cal .now) (c .before .before .before .before .before .before .before .before .args .meas .now) (c .before .before .before .before .loop .e) (omega arith), first-most (c .before .before .before .before .before .before .before .before .args .s .now) (c .before .before .before .before .before .before .before .before .args .k) (c .before .before .before .before .loop .e) (omega arith)))
 
 add-to : tie.Need-add-to Inv-loop μ-loop
-add-to c = let n : c .before .before .before .before .entry-size .result ≡ sizeOf (c .before .before .before .before .before .before .before .before .before .before .before .args .s .now) (c .before .before .before .before .before .before .before .before .before .before .before .args .k) (c .before .before .before .before .before .before .before .loop .e) = c .before .before .before .before .entry-size .ensures .0 ∙ rw (c .before .before .before .before .before .before .before .loop .inv .1) (size-alike _ (c .before .before .before .before .before .before .before .before .before .before .before .args .s .now) (sets-alike (gathered (c .before .before .before .before .before .before .before .before .before .before .before .args .s .now) (c .before .before .before .before .before .before .before .before .before .before .before .args .k) (c .before .before .before .before .before .before .before .before .before .before .before .args .cal .now) (c .before .before .before .before .before .before .before .before .before .before .before .args .meas .now) (c .before .before .before .before .before .before .before .loop .e)) (c .before .before .before .before .before .before .before .before .before .before .before .args .s .now) (c .before .before .before .before .before .before .before .before .before .before .before .args .from) (omega arith)) (c .before .before .before .before .before .before .before .before .before .before .before .args .k) (omega arith) (c .before .before .before .before .before .before .before .loop .e) (omega arith)) in omega (arith, n, c .before .before .before .before .before .before .before .loop .inv .2, gathered-first (c .before .before .before .before .before .before .before .before .before .before .before .args .s .now) (c .before .before .before .before .before .before .before .before .before .before .before .args .k) (c .before .before .before .before .before .before .before .before .before .before .before .args .cal .now) (c .before .before .before .before .before .before .before .before .before .before .before .args .meas .now) (c .before .before .before .before .before .before .before .loop .e), first-most (c .before .before .before .before .before .before .before .before .before .before .before .args .s .now) (c .before .before .before .before .before .before .before .before .before .before .before .args .k) (c .before .before .before .before .before .before .before .loop .e) (omega arith))
+add-to c = let n : c .before .before .before .before .entry-size .result ≡ sizeOf (c .before .before .before .before .before .before .before .before .before .before .before .args .s .now) (c .before .before .before .before .before .before .before .before .before .before .before .args .k) (c .before .before .before .before .before .before .before .loop .e) = c .before .before .before .before .entry-size .ensures .0 ∙ rw (c .before .before .before .before .before .before .before .loop .inv .1) (size-alike _ (c .before .before .before .before .before .before .before .before .before .before .before .args .s .now) (sets-alike (blocksIn (odtOf (c .before .before .before .before .before .before .before .before .before .before .before .args .s .now) (c .before .before .before .before .before .before .before .before .before .before .before .args .k)) (c .before .before .before .before .before .before .before .before .before .before .before .args .cal .now) (c .before .before .before .before .before .before .before .before .before .before .before .args .meas .now) (c .before .before .before .before .before .before .before .loop .e)) (c .before .before .before .before .before .before .before .before .before .before .before .args .s .now) (c .before .before .before .before .before .before .before .before .before .before .before .args .from) (omega arith)) (c .before .before .before .before .before .before .before .before .before .before .before .args .k) (omega arith) (c .before .before .before .before .before .before .before .loop .e) (omega arith)) in omega (arith, n, c .before .before .before .before .before .before .before .loop .inv .2, gathered-first (c .before .before .before .before .before .before .before .before .before .before .before .args .s .now) (c .before .before .before .before .before .before .before .before .before .before .before .args .k) (c .before .before .before .before .before .before .before .before .before .before .before .args .cal .now) (c .before .before .before .before .before .before .before .before .before .before .before .args .meas .now) (c .before .before .before .before .before .before .before .loop .e) (omega arith), first-most (c .before .before .before .before .before .before .before .before .before .before .before .args .s .now) (c .before .before .before .before .before .before .before .before .before .before .before .args .k) (c .before .before .before .before .before .before .before .loop .e) (omega arith))
 
 add-e : tie.Need-add-e Inv-loop μ-loop
 add-e c = search needs
@@ -42,11 +43,11 @@ loop-less : tie.Need-loop-less Inv-loop μ-loop
 loop-less c = search needs
 
 loop-again : tie.Need-loop-again Inv-loop μ-loop
-loop-again c = rw add-one (
+loop-again c = rw (add-one (c .before .before .before .before .before .before .before .loop .e)) (
   omega arith,
   c .before .before .take-entry .ensures ∙ rw (c .before .before .before .before .before .before .before .loop .inv .2, c .before .before .before .before .before .before .before .loop .inv .1) (gathered-next (c .before .before .before .before .before .before .before .before .before .before .before .args .s .now) (c .before .before .before .before .before .before .before .before .before .before .before .args .k) (c .before .before .before .before .before .before .before .before .before .before .before .args .cal .now) (c .before .before .before .before .before .before .before .before .before .before .before .args .meas .now) (omega arith) (c .before .before .before .before .before .before .before .before .before .before .before .args .from) (omega arith) (c .before .before .before .before .before .before .before .loop .e) (omega arith)),
-  (let n : c .before .before .before .before .entry-size .result ≡ sizeOf (c .before .before .before .before .before .before .before .before .before .before .before .args .s .now) (c .before .before .before .before .before .before .before .before .before .before .before .args .k) (c .before .before .before .before .before .before .before .loop .e) = c .before .before .before .before .entry-size .ensures .0 ∙ rw (c .before .before .before .before .before .before .before .loop .inv .1) (size-alike _ (c .before .before .before .before .before .before .before .before .before .before .before .args .s .now) (sets-alike (gathered (c .before .before .before .before .before .before .before .before .before .before .before .args .s .now) (c .before .before .before .before .before .before .before .before .before .before .before .args .k) (c .before .before .before .before .before .before .before .before .before .before .before .args .cal .now) (c .before .before .before .before .before .before .before .before .before .before .before .args .meas .now) (c .before .before .before .before .before .before .before .loop .e)) (c .before .before .before .before .before .before .before .before .before .before .before .args .s .now) (c .before .before .before .before .before .before .before .before .before .before .before .args .from) (omega arith)) (c .before .before .before .before .before .before .before .before .before .before .before .args .k) (omega arith) (c .before .before .before .before .before .before .before .loop .e) (omega arith)) in
-      omega (arith, n, c .before .before .before .before .before .before .before .loop .inv .2, gathered-length (c .before .before .before .before .before .before .before .before .before .before .before .args .s .now) (c .before .before .before .before .before .before .before .before .before .before .before .args .k) (c .before .before .before .before .before .before .before .before .before .before .before .args .cal .now) (c .before .before .before .before .before .before .before .before .before .before .before .args .meas .now) (c .before .before .before .before .before .before .before .loop .e))),
+  (let n : c .before .before .before .before .entry-size .result ≡ sizeOf (c .before .before .before .before .before .before .before .before .before .before .before .args .s .now) (c .before .before .before .before .before .before .before .before .before .before .before .args .k) (c .before .before .before .before .before .before .before .loop .e) = c .before .before .before .before .entry-size .ensures .0 ∙ rw (c .before .before .before .before .before .before .before .loop .inv .1) (size-alike _ (c .before .before .before .before .before .before .before .before .before .before .before .args .s .now) (sets-alike (blocksIn (odtOf (c .before .before .before .before .before .before .before .before .before .before .before .args .s .now) (c .before .before .before .before .before .before .before .before .before .before .before .args .k)) (c .before .before .before .before .before .before .before .before .before .before .before .args .cal .now) (c .before .before .before .before .before .before .before .before .before .before .before .args .meas .now) (c .before .before .before .before .before .before .before .loop .e)) (c .before .before .before .before .before .before .before .before .before .before .before .args .s .now) (c .before .before .before .before .before .before .before .before .before .before .before .args .from) (omega arith)) (c .before .before .before .before .before .before .before .before .before .before .before .args .k) (omega arith) (c .before .before .before .before .before .before .before .loop .e) (omega arith)) in
+      omega (arith, n, c .before .before .before .before .before .before .before .loop .inv .2, gathered-length (c .before .before .before .before .before .before .before .before .before .before .before .args .s .now) (c .before .before .before .before .before .before .before .before .before .before .before .args .k) (c .before .before .before .before .before .before .before .before .before .before .before .args .cal .now) (c .before .before .before .before .before .before .before .before .before .before .before .args .meas .now) (c .before .before .before .before .before .before .before .loop .e) (omega arith))),
   c .before .before .take-entry .kept .0 ∙ c .before .before .before .before .before .before .before .loop .inv .3,
 )
 

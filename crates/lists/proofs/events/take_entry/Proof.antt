@@ -1,13 +1,12 @@
 use mathlib.Core.Path.{sym, _∙_}
 use native.Mathlib.Omega.{arith}
 use Rattle.state.specs.Memory.{bytesOf}
-use Rattle.lists.specs.Event.{entryBytes}
 use borrow.Author.Needs.{needs}
 use Rattle.lists.proofs.events.take_entry.Statement.{statement}
 use Rattle.lists.proofs.events.take_entry.Tie as tie
 
 returns : tie.Need-returns
-unfolding entryBytes bytesOf
+unfolding bytesOf
 returns c = rw (sym (c .before .before .before .before .pre .3) ∙ c .if1 .taken)
 
 entry-address-requires : tie.Need-entry-address-requires
@@ -35,14 +34,12 @@ same-length : tie.Need-same-length
 same-length c = search needs
 
 returns-2 : tie.Need-returns-2
-unfolding entryBytes
 returns-2 c = c .before .before .take-block .ensures ∙ simp (c .before .before .before .before .before .before .before .before .before .before .before .before .before .before .pre .3, c .before .before .before .before .before .before .before .before .entry-address .ensures, ← (c .before .before .before .before .before .before .entry-extension .ensures), c .before .before .before .before .enum-told .given .1)
 
 same-length-2 : tie.Need-same-length-2
 same-length-2 c = search needs
 
 returns-3 : tie.Need-returns-3
-unfolding entryBytes
 returns-3 c = c .before .before .take-block2 .ensures ∙ simp (c .before .before .before .before .before .before .before .before .before .before .before .before .before .before .pre .3, c .before .before .before .before .before .before .before .before .entry-address .ensures, ← (c .before .before .before .before .before .before .entry-extension .ensures), c .before .before .before .before .enum-told2 .given .1)
 
 pub take-entry-spec : {M : Type 1} → statement M

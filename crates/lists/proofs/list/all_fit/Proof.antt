@@ -5,28 +5,29 @@ use native.Mathlib.Numerals.{add-one}
 use native.Mathlib.Omega.{arith}
 use borrow.Author.Tests.{not-true, not-false}
 use Rattle.state.specs.Layout.{lists}
-use Rattle.lists.specs.Lists.{allFit}
+use Rattle.model.specs.Judge.{allStartable}
+use Rattle.model.specs.View.{sessionOf}
 use Rattle.lists.proofs.Counting.{all-stays}
 use borrow.Author.Needs.{needs}
 use Rattle.lists.proofs.list.all_fit.Statement.{statement}
 use Rattle.lists.proofs.list.all_fit.Tie as tie
 
 abbrev Inv-loop : tie.InvT-loop
-Inv-loop s l₀ l = (l ≤ lists) × (allFit s l ≡ true)
+Inv-loop s l₀ l = (l ≤ lists) × (allStartable (sessionOf s) l ≡ true)
 
 abbrev μ-loop : tie.MeasureT-loop
 μ-loop s l₀ l = lists - l
 
 loop-holds : tie.Need-loop-holds Inv-loop μ-loop
-unfolding allFit
+unfolding allStartable
 loop-holds c = (omega arith, refl)
 
 may-start-requires : tie.Need-may-start-requires Inv-loop μ-loop
 may-start-requires c κs = search needs
 
 returns : tie.Need-returns Inv-loop μ-loop
-unfolding allFit
-returns c = sym (all-stays (c .before .before .before .before .before .args .s .now) (suc (c .before .before .before .loop .l)) lists (omega arith) (simp (c .before .before .before .loop .inv .1, ← (c .before .may-start .ensures), not-true (c .before .may-start .result) (c .if1 .taken))))
+unfolding allStartable
+returns c = sym (all-stays (sessionOf (c .before .before .before .before .before .args .s .now)) (suc (c .before .before .before .loop .l)) lists (omega arith) (simp (c .before .before .before .loop .inv .1, ← (c .before .may-start .ensures), not-true (c .before .may-start .result) (c .if1 .taken))))
 
 add-l : tie.Need-add-l Inv-loop μ-loop
 add-l c = search needs
@@ -35,7 +36,7 @@ loop-less : tie.Need-loop-less Inv-loop μ-loop
 loop-less c = search needs
 
 loop-again : tie.Need-loop-again Inv-loop μ-loop
-unfolding allFit
+unfolding allStartable
 loop-again c = (omega arith, rw add-one (simp (c .before .before .before .loop .inv .1, ← (c .before .may-start .ensures), not-false (c .before .may-start .result) (c .if1 .left))))
 
 returns-2 : tie.Need-returns-2 Inv-loop μ-loop

@@ -4,28 +4,29 @@ use Prim.Native.Nat.{suc, _-_, _≤_}
 use native.Mathlib.Numerals.{add-one}
 use native.Mathlib.Omega.{arith}
 use Rattle.state.specs.Layout.{lists}
-use Rattle.lists.specs.Lists.{anyRuns}
+use Rattle.model.specs.Model.{someRuns}
+use Rattle.model.specs.View.{sessionOf}
 use Rattle.lists.proofs.Counting.{any-stays}
 use borrow.Author.Needs.{needs}
 use Rattle.lists.proofs.list.any_runs.Statement.{statement}
 use Rattle.lists.proofs.list.any_runs.Tie as tie
 
 abbrev Inv-loop : tie.InvT-loop
-Inv-loop s l₀ l = (l ≤ lists) × (anyRuns s l ≡ false)
+Inv-loop s l₀ l = (l ≤ lists) × (someRuns (sessionOf s) l ≡ false)
 
 abbrev μ-loop : tie.MeasureT-loop
 μ-loop s l₀ l = lists - l
 
 loop-holds : tie.Need-loop-holds Inv-loop μ-loop
-unfolding anyRuns
+unfolding someRuns
 loop-holds c = (omega arith, refl)
 
 runs-requires : tie.Need-runs-requires Inv-loop μ-loop
 runs-requires c κs = search needs
 
 returns : tie.Need-returns Inv-loop μ-loop
-unfolding anyRuns
-returns c = sym (any-stays (c .before .before .before .before .before .args .s .now) (suc (c .before .before .before .loop .l)) lists (omega arith) (simp (c .before .before .before .loop .inv .1, ← (c .before .runs .ensures), c .if1 .taken)))
+unfolding someRuns
+returns c = sym (any-stays (sessionOf (c .before .before .before .before .before .args .s .now)) (suc (c .before .before .before .loop .l)) lists (omega arith) (simp (c .before .before .before .loop .inv .1, ← (c .before .runs .ensures), c .if1 .taken)))
 
 add-l : tie.Need-add-l Inv-loop μ-loop
 add-l c = search needs
@@ -34,7 +35,7 @@ loop-less : tie.Need-loop-less Inv-loop μ-loop
 loop-less c = search needs
 
 loop-again : tie.Need-loop-again Inv-loop μ-loop
-unfolding anyRuns
+unfolding someRuns
 loop-again c = (omega arith, rw add-one (simp (c .before .before .before .loop .inv .1, ← (c .before .runs .ensures), c .if1 .left)))
 
 returns-2 : tie.Need-returns-2 Inv-loop μ-loop

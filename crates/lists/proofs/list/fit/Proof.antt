@@ -1,5 +1,5 @@
 use borrow.Author.Tests.{eq-eqb, ne-eqb}
-use Rattle.lists.specs.Lists.{fitOf}
+use Rattle.model.proofs.Shown.{fits-at}
 use borrow.Author.Needs.{needs}
 use Rattle.lists.proofs.list.fit.Statement.{statement}
 use Rattle.lists.proofs.list.fit.Tie as tie
@@ -8,15 +8,13 @@ mode-requires : tie.Need-mode-requires
 mode-requires c κs = search needs
 
 returns : tie.Need-returns
-unfolding fitOf
-returns c = simp (eq-eqb _ _ (c .if1 .taken), ← (c .before .mode .ensures .0))
+returns c = rw (fits-at (c .before .before .before .args .s .now) (c .before .before .before .args .l) (c .before .before .before .pre .1)) (simp (eq-eqb _ _ (c .if1 .taken), ← (c .before .mode .ensures .0)))
 
 odts-fit-requires : tie.Need-odts-fit-requires
 odts-fit-requires c κs = search needs
 
 returns-2 : tie.Need-returns-2
-unfolding fitOf
-returns-2 c = simp (ne-eqb _ _ (c .before .if1 .left), ← (c .before .before .mode .ensures .0)) (c .odts-fit .ensures)
+returns-2 c = rw (fits-at (c .before .before .before .before .args .s .now) (c .before .before .before .before .args .l) (c .before .before .before .before .pre .1)) (simp (ne-eqb _ _ (c .before .if1 .left), ← (c .before .before .mode .ensures .0)) (c .odts-fit .ensures))
 
 pub fit-spec : {M : Type 1} → statement M
 fit-spec = tie.close (tie.spec mode-requires returns odts-fit-requires returns-2)

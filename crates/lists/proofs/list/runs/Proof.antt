@@ -1,4 +1,4 @@
-use Rattle.lists.specs.Lists.{runsOf}
+use Rattle.model.proofs.Shown.{runs-at}
 use borrow.Author.Needs.{needs}
 use Rattle.lists.proofs.list.runs.Statement.{statement}
 use Rattle.lists.proofs.list.runs.Tie as tie
@@ -16,16 +16,13 @@ fit-requires : tie.Need-fit-requires
 fit-requires c κs = search needs
 
 returns : tie.Need-returns
-unfolding runsOf
-returns c = simp (c .before .if2 .taken, c .before .before .before .before .if1 .taken, ← (c .fit .ensures), ← (c .before .before .before .running-at .ensures), ← (c .before .before .on2 .ensures), ← (c .before .before .before .before .before .on .ensures))
+returns c = rw (runs-at (c .before .before .before .before .before .before .before .args .s .now) (c .before .before .before .before .before .before .before .args .l) (c .before .before .before .before .before .before .before .pre .1)) (simp (c .before .if2 .taken, c .before .before .before .before .if1 .taken, ← (c .fit .ensures), ← (c .before .before .before .running-at .ensures), ← (c .before .before .on2 .ensures), ← (c .before .before .before .before .before .on .ensures)))
 
 returns-2 : tie.Need-returns-2
-unfolding runsOf
-returns-2 c = simp (c .if2 .left, c .before .before .before .if1 .taken, ← (c .before .before .running-at .ensures), ← (c .before .on2 .ensures), ← (c .before .before .before .before .on .ensures))
+returns-2 c = rw (runs-at (c .before .before .before .before .before .before .args .s .now) (c .before .before .before .before .before .before .args .l) (c .before .before .before .before .before .before .pre .1)) (simp (c .if2 .left, c .before .before .before .if1 .taken, ← (c .before .before .running-at .ensures), ← (c .before .on2 .ensures), ← (c .before .before .before .before .on .ensures)))
 
 returns-3 : tie.Need-returns-3
-unfolding runsOf
-returns-3 c = simp (c .if1 .left, ← (c .before .on .ensures))
+returns-3 c = rw (runs-at (c .before .before .before .args .s .now) (c .before .before .before .args .l) (c .before .before .before .pre .1)) (simp (c .if1 .left, ← (c .before .on .ensures)))
 
 pub runs-spec : {M : Type 1} → statement M
 runs-spec =

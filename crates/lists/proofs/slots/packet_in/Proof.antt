@@ -1,6 +1,8 @@
 use borrow.Author.Tests.{not-true}
 use mathlib.Core.Path.{_≡_, sym, _∙_}
-use Rattle.lists.specs.Slot.{packetIn}
+use Rattle.model.specs.Calls.{packetIn}
+use Rattle.model.specs.View.{sessionOf}
+use Rattle.model.proofs.Shown.{started-at}
 use Rattle.lists.proofs.Round.{nobody-in, never-started}
 use borrow.Author.Needs.{needs}
 use Rattle.lists.proofs.slots.packet_in.Statement.{statement}
@@ -13,7 +15,7 @@ on-requires : tie.Need-on-requires
 on-requires c κs = search needs
 
 returns : tie.Need-returns
-returns c = sym (never-started (c .before .before .before .before .args .s .now) (c .before .before .before .before .args .l) (simp (← (c .before .before .running-at .ensures)) (sym (c .before .on .ensures) ∙ not-true (c .before .on .result) (c .if1 .taken))))
+returns c = sym (never-started (sessionOf (c .before .before .before .before .args .s .now)) (c .before .before .before .before .args .l) (started-at (c .before .before .before .before .args .s .now) (c .before .before .before .before .args .l) (c .before .before .before .before .pre .1) ∙ simp (← (c .before .before .running-at .ensures)) (sym (c .before .on .ensures) ∙ not-true (c .before .on .result) (c .if1 .taken))))
 
 first-stored-requires : tie.Need-first-stored-requires
 first-stored-requires c κs = search needs
@@ -23,7 +25,7 @@ enum-told c = search needs
 
 returns-2 : tie.Need-returns-2
 unfolding packetIn
-returns-2 c = sym (nobody-in (c .before .before .before .before .before .before .before .args .s .now) (c .before .before .before .before .before .before .before .args .l) (sym (c .before .before .first-stored .ensures) ∙ c .enum-told .given .1))
+returns-2 c = sym (nobody-in (sessionOf (c .before .before .before .before .before .before .before .args .s .now)) (c .before .before .before .before .before .before .before .args .l) (sym (c .before .before .first-stored .ensures) ∙ c .enum-told .given .1))
 
 runs-requires : tie.Need-runs-requires
 runs-requires c κs = search needs

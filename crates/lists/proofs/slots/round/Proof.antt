@@ -3,14 +3,15 @@ use Prim.Native.Nat.{_+_, _≤_}
 use native.Mathlib.Omega.{arith}
 use lib.ListN.{getD}
 use Rattle.state.specs.Layout.{lists, servedAt}
-use Rattle.lists.specs.Slot.{packetIn, roundFrom}
+use Rattle.model.specs.Calls.{packetIn, roundFrom, roundIn}
+use Rattle.model.specs.View.{sessionOf}
 use Rattle.lists.proofs.Round.{round-step}
 use borrow.Author.Needs.{needs}
 use Rattle.lists.proofs.slots.round.Statement.{statement}
 use Rattle.lists.proofs.slots.round.Tie as tie
 
 abbrev Inv-loop : tie.InvT-loop
-Inv-loop s l₀ n₀ l n = (roundFrom lists (packetIn s) l n ≡ roundFrom lists (packetIn s) (getD s servedAt 0 + 1) lists) × (n ≤ lists) × (l + n ≤ 256 + lists)
+Inv-loop s l₀ n₀ l n = (roundFrom lists (packetIn (sessionOf s)) l n ≡ roundIn (sessionOf s) (getD s servedAt 0)) × (n ≤ lists) × (l + n ≤ 256 + lists)
 
 abbrev μ-loop : tie.MeasureT-loop
 μ-loop s l₀ n₀ l n = n
@@ -46,19 +47,19 @@ loop-less : tie.Need-loop-less Inv-loop μ-loop
 loop-less c = search needs
 
 loop-again : tie.Need-loop-again Inv-loop μ-loop
-loop-again c = (sym (round-step lists (packetIn (c .before .before .before .before .before .before .before .args .s .now)) (c .before .before .before .before .loop .l) (c .before .before .before .before .loop .n) (c .before .before .before .loop-test .taken) ∙ rw (← (c .before .before .packet-in .ensures), c .enum-told .given .1)) ∙ c .before .before .before .before .loop .inv .0, omega arith, omega arith)
+loop-again c = (sym (round-step lists (packetIn (sessionOf (c .before .before .before .before .before .before .before .args .s .now))) (c .before .before .before .before .loop .l) (c .before .before .before .before .loop .n) (c .before .before .before .loop-test .taken) ∙ rw (← (c .before .before .packet-in .ensures), c .enum-told .given .1)) ∙ c .before .before .before .before .loop .inv .0, omega arith, omega arith)
 
 enum-told-2 : tie.Need-enum-told-2 Inv-loop μ-loop
 enum-told-2 c = search needs
 
 returns : tie.Need-returns Inv-loop μ-loop
-returns c = sym (sym (c .before .before .before .before .loop .inv .0) ∙ round-step lists (packetIn (c .before .before .before .before .before .before .before .args .s .now)) (c .before .before .before .before .loop .l) (c .before .before .before .before .loop .n) (c .before .before .before .loop-test .taken) ∙ rw (← (c .before .before .packet-in .ensures), c .enum-told2 .given .1))
+returns c = sym (sym (c .before .before .before .before .loop .inv .0) ∙ round-step lists (packetIn (sessionOf (c .before .before .before .before .before .before .before .args .s .now))) (c .before .before .before .before .loop .l) (c .before .before .before .before .loop .n) (c .before .before .before .loop-test .taken) ∙ rw (← (c .before .before .packet-in .ensures), c .enum-told2 .given .1))
 
 enum-known-turn : tie.Need-enum-known-turn Inv-loop μ-loop
 enum-known-turn c = search needs
 
 returns-2 : tie.Need-returns-2 Inv-loop μ-loop
-returns-2 c = sym (sym (c .before .before .before .before .before .loop .inv .0) ∙ round-step lists (packetIn (c .before .before .before .before .before .before .before .before .args .s .now)) (c .before .before .before .before .before .loop .l) (c .before .before .before .before .before .loop .n) (c .before .before .before .before .loop-test .taken) ∙ rw (← (c .before .before .before .packet-in .ensures), c .before .turn .given .1))
+returns-2 c = sym (sym (c .before .before .before .before .before .loop .inv .0) ∙ round-step lists (packetIn (sessionOf (c .before .before .before .before .before .before .before .before .args .s .now))) (c .before .before .before .before .before .loop .l) (c .before .before .before .before .before .loop .n) (c .before .before .before .before .loop-test .taken) ∙ rw (← (c .before .before .before .packet-in .ensures), c .before .turn .given .1))
 
 returns-3 : tie.Need-returns-3 Inv-loop μ-loop
 unfolding roundFrom

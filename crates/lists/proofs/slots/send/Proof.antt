@@ -1,4 +1,5 @@
 use mathlib.Core.Path.{refl, sym, subst, _∙_}
+use Rattle.model.specs.View.{viewOf}
 use Rattle.lists.specs.Slot.{sentBy}
 use Rattle.lists.proofs.Sending.{Within, turn-within}
 use borrow.Author.Needs.{needs}
@@ -21,7 +22,7 @@ enum-known-t : tie.Need-enum-known-t
 enum-known-t c = search needs
 
 send-packet-requires : tie.Need-send-packet-requires
-send-packet-requires c κs = (c .before .before .before .before .before .before .before .before .before .pre, subst Within (sym (c .before .before .before .before .before .turn .ensures) ∙ c .before .before .before .t .given .1) (turn-within (c .before .before .before .before .before .before .before .before .before .args .s .now)))
+send-packet-requires c κs = (c .before .before .before .before .before .before .before .before .before .pre, subst Within (sym (c .before .before .before .before .before .turn .ensures) ∙ c .before .before .before .t .given .1) (turn-within (viewOf (c .before .before .before .before .before .before .before .before .before .args .s .now))))
 
 same-length : tie.Need-same-length
 same-length c = search needs

@@ -1,7 +1,7 @@
 use mathlib.Core.Path.{sym, _∙_}
 use Rattle.state.specs.State.{waits, flagOf}
 use Rattle.state.specs.Layout.{lastAt}
-use Rattle.lists.specs.Slot.{turnOf}
+use Rattle.model.proofs.Shown.{turn-at}
 use Rattle.lists.proofs.Round.{turn-once}
 use borrow.Author.Needs.{needs}
 use Rattle.lists.proofs.slots.turn.Statement.{statement}
@@ -11,8 +11,7 @@ answer-first-requires : tie.Need-answer-first-requires
 answer-first-requires c κs = search needs
 
 returns : tie.Need-returns
-unfolding turnOf
-returns c = rw (turn-once (waits (c .before .before .before .args .s .now)) (flagOf (c .before .before .before .args .s .now) lastAt) _, sym (c .before .answer-first .ensures) ∙ c .if1 .taken)
+returns c = rw (turn-at (c .before .before .before .args .s .now) (c .before .before .before .pre), turn-once (waits (c .before .before .before .args .s .now)) (flagOf (c .before .before .before .args .s .now) lastAt) _, sym (c .before .answer-first .ensures) ∙ c .if1 .taken)
 
 round-requires : tie.Need-round-requires
 round-requires c κs = search needs
@@ -24,8 +23,7 @@ or-else-requires : tie.Need-or-else-requires
 or-else-requires c κs = search needs
 
 returns-2 : tie.Need-returns-2
-unfolding turnOf
-returns-2 c = rw (turn-once (waits (c .before .before .before .before .before .before .args .s .now)) (flagOf (c .before .before .before .before .before .before .args .s .now) lastAt) _, sym (c .before .before .before .before .answer-first .ensures) ∙ c .before .before .before .if1 .left) (c .or-else .ensures ∙ rw (c .before .before .round .ensures, c .before .answer-behind .ensures))
+returns-2 c = rw (turn-at (c .before .before .before .before .before .before .args .s .now) (c .before .before .before .before .before .before .pre), turn-once (waits (c .before .before .before .before .before .before .args .s .now)) (flagOf (c .before .before .before .before .before .before .args .s .now) lastAt) _, sym (c .before .before .before .before .answer-first .ensures) ∙ c .before .before .before .if1 .left) (c .or-else .ensures ∙ rw (c .before .before .round .ensures, c .before .answer-behind .ensures))
 
 pub turn-spec : {M : Type 1} → statement M
 turn-spec =

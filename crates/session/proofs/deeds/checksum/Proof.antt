@@ -3,7 +3,9 @@ use native.Mathlib.Omega.{arith}
 use lib.ListN.{length}
 use Rattle.state.proofs.Inside.{inside-le}
 use Rattle.state.specs.Memory.{pick}
-use Rattle.session.specs.Perform.{effect, reply}
+use Rattle.model.specs.Answers.{replyIn}
+use Rattle.model.specs.View.{sessionOf}
+use Rattle.session.specs.Perform.{effect}
 use borrow.Author.Needs.{needs}
 use Rattle.session.proofs.deeds.checksum.Statement.{statement}
 use Rattle.session.proofs.deeds.checksum.Tie as tie
@@ -24,7 +26,7 @@ same-length : tie.Need-same-length
 same-length c = search needs
 
 returns : tie.Need-returns
-unfolding effect reply
+unfolding effect replyIn sessionOf
 returns c = c .before .before .sum .ensures ∙ rw (c .before .before .before .before .before .before .set-mta .ensures, c .before .before .before .before .before .before .before .before .sum-of .ensures)
 
 pub checksum-spec : {M : Type 1} → statement M

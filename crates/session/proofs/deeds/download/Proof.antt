@@ -6,8 +6,9 @@ use Rattle.state.proofs.Inside.{inside-le}
 use Rattle.session.proofs.Data.{block-block}
 use Rattle.state.specs.Bytes.{copied}
 use Rattle.state.specs.Layout.{packetAt}
-use Rattle.session.specs.Perform.{effect, reply}
-use Rattle.model.specs.Answers.{written}
+use Rattle.model.specs.Answers.{replyIn, writes}
+use Rattle.model.specs.View.{sessionOf}
+use Rattle.session.specs.Perform.{effect}
 use borrow.Author.Needs.{needs}
 use Rattle.session.proofs.deeds.download.Statement.{statement}
 use Rattle.session.proofs.deeds.download.Tie as tie
@@ -31,7 +32,7 @@ same-length-2 : tie.Need-same-length-2
 same-length-2 c = search needs
 
 returns : tie.Need-returns
-unfolding effect reply written copied
+unfolding effect replyIn sessionOf writes copied
 returns c = (c .before .before .ok .ensures ∙ rw (c .before .before .before .before .before .before .set-mta .ensures), c .before .before .before .before .before .before .before .before .before .before .copy .ensures ∙ ap (sets (c .before .before .before .before .before .before .before .before .before .before .before .before .before .before .before .args .cal .now) (c .before .before .before .before .before .before .before .before .before .before .before .before .before .before .before .args .address)) (sym (block-block (c .before .before .before .before .before .before .before .before .before .before .before .before .before .before .before .args .s .now) packetAt (c .before .before .before .before .before .before .before .before .before .before .before .before .before .before .before .args .len) 2 (c .before .before .before .before .before .before .before .before .before .before .before .before .before .before .before .args .n) (omega (arith, c .before .before .before .before .before .before .before .before .before .before .before .before .before .before .before .pre .2)))))
 
 pub download-spec : {M : Type 1} → statement M

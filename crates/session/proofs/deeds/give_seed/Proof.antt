@@ -1,5 +1,7 @@
 use mathlib.Core.Path.{_∙_}
-use Rattle.session.specs.Perform.{effect, reply}
+use Rattle.model.specs.Answers.{replyIn}
+use Rattle.model.specs.View.{sessionOf}
+use Rattle.session.specs.Perform.{effect}
 use borrow.Author.Needs.{needs}
 use Rattle.session.proofs.deeds.give_seed.Statement.{statement}
 use Rattle.session.proofs.deeds.give_seed.Tie as tie
@@ -23,7 +25,7 @@ same-length : tie.Need-same-length
 same-length c = search needs
 
 returns : tie.Need-returns
-unfolding effect reply
+unfolding effect replyIn sessionOf
 returns c = c .before .before .seed .ensures ∙ rw (c .before .before .before .before .before .before .set-seed .ensures, c .before .before .before .before .before .before .before .before .before .before .set-generator .ensures, c .before .before .before .before .before .before .before .before .before .before .before .before .next .ensures, c .before .before .before .before .before .before .before .before .before .before .before .before .before .generator .ensures)
 
 pub give-seed-spec : {M : Type 1} → statement M

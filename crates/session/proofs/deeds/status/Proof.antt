@@ -1,6 +1,9 @@
 use mathlib.Core.Path.{_∙_}
 use borrow.Author.Tests.{eq-eqb}
-use Rattle.session.specs.Perform.{effect, reply}
+use Rattle.model.specs.Answers.{replyIn}
+use Rattle.model.specs.View.{sessionOf}
+use Rattle.session.specs.Perform.{effect}
+use Rattle.state.specs.State.{maskOf}
 use borrow.Author.Needs.{needs}
 use Rattle.session.proofs.deeds.status.Statement.{statement}
 use Rattle.session.proofs.deeds.status.Tie as tie
@@ -21,7 +24,7 @@ same-length : tie.Need-same-length
 same-length c = search needs
 
 returns : tie.Need-returns
-unfolding effect reply
+unfolding effect replyIn sessionOf maskOf
 returns c = c .before .before .six .ensures ∙ rw (c .before .before .before .before .before .before .running-bit .ensures, c .before .before .before .before .before .before .before .any-runs .ensures, eq-eqb _ _ (c .before .before .before .before .before .before .before .before .before .before .pre), c .before .before .before .before .mask .ensures)
 
 pub status-spec : {M : Type 1} → statement M

@@ -1,5 +1,8 @@
 use mathlib.Core.Path.{_∙_}
-use Rattle.session.specs.Perform.{effect, reply}
+use Rattle.model.specs.Answers.{replyIn}
+use Rattle.model.specs.View.{sessionOf}
+use Rattle.session.specs.Perform.{effect}
+use Rattle.session.proofs.Masks.{unlocked-mask}
 use borrow.Author.Needs.{needs}
 use Rattle.session.proofs.deeds.unlock.Statement.{statement}
 use Rattle.session.proofs.deeds.unlock.Tie as tie
@@ -20,8 +23,8 @@ same-length : tie.Need-same-length
 same-length c = search needs
 
 returns : tie.Need-returns
-unfolding effect reply
-returns c = c .before .before .two .ensures ∙ rw (c .before .before .before .before .mask .ensures, c .before .before .before .before .before .before .before .before .set-seed .ensures, c .before .before .before .before .before .before .before .before .before .before .before .before .unlock .ensures)
+unfolding effect replyIn sessionOf
+returns c = c .before .before .two .ensures ∙ rw (c .before .before .before .before .mask .ensures, c .before .before .before .before .before .before .before .before .set-seed .ensures, c .before .before .before .before .before .before .before .before .before .before .before .before .unlock .ensures, unlocked-mask (c .before .before .before .before .before .before .before .before .before .before .before .before .before .before .before .args .s .now) (c .before .before .before .before .before .before .before .before .before .before .before .before .before .before .before .args .resource) (c .before .before .before .before .before .before .before .before .before .before .before .before .before .before .before .pre))
 
 pub unlock-spec : {M : Type 1} → statement M
 unlock-spec =

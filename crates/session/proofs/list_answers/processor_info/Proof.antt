@@ -1,4 +1,6 @@
-use Rattle.session.specs.Perform.{effect, reply}
+use Rattle.model.specs.Answers.{replyIn}
+use Rattle.model.specs.View.{sessionOf}
+use Rattle.session.specs.Perform.{effect}
 use borrow.Author.Needs.{needs}
 use Rattle.session.proofs.list_answers.processor_info.Statement.{statement}
 use Rattle.session.proofs.list_answers.processor_info.Tie as tie
@@ -10,7 +12,7 @@ same-length : tie.Need-same-length
 same-length c = search needs
 
 returns : tie.Need-returns
-unfolding effect reply
+unfolding effect replyIn sessionOf
 returns c = c .before .before .eight .ensures
 
 pub processor-info-spec : {M : Type 1} → statement M

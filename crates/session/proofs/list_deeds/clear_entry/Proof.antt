@@ -1,5 +1,7 @@
 use mathlib.Core.Path.{_∙_}
-use Rattle.session.specs.Perform.{effect, reply}
+use Rattle.model.specs.Answers.{replyIn}
+use Rattle.model.specs.View.{sessionOf}
+use Rattle.session.specs.Perform.{effect}
 use borrow.Author.Needs.{needs}
 use Rattle.session.proofs.list_deeds.clear_entry.Statement.{statement}
 use Rattle.session.proofs.list_deeds.clear_entry.Tie as tie
@@ -20,7 +22,7 @@ same-length : tie.Need-same-length
 same-length c = search needs
 
 returns : tie.Need-returns
-unfolding effect reply
+unfolding effect replyIn sessionOf
 returns c = c .before .before .ok .ensures ∙ rw (c .before .before .before .before .before .before .set-pointer .ensures, c .before .before .before .before .before .before .before .before .before .before .before .clear-entry .ensures, c .before .before .before .before .before .before .before .next-entry .ensures .0)
 
 pub clear-entry-spec : {M : Type 1} → statement M

@@ -1,6 +1,7 @@
 use mathlib.Core.Path.{refl}
-use Rattle.session.specs.Perform.{effect, reply}
-use Rattle.model.specs.Answers.{written}
+use Rattle.model.specs.Answers.{replyIn, writes}
+use Rattle.model.specs.View.{sessionOf}
+use Rattle.session.specs.Perform.{effect}
 use borrow.Author.Needs.{needs}
 use Rattle.session.proofs.perform.perform.Statement.{statement}
 use Rattle.session.proofs.perform.perform.Tie as tie
@@ -183,77 +184,77 @@ same-length : tie.Need-same-length
 same-length c = search needs
 
 returns : tie.Need-returns
-unfolding effect reply written
+unfolding effect replyIn sessionOf writes
 returns c = rw (c .before .before .before .before .before .deed .given .1) (record { state = c .before .before .refusal .ensures; memory = refl })
 
 same-length-2 : tie.Need-same-length-2
 same-length-2 c = search needs
 
 returns-2 : tie.Need-returns-2
-unfolding effect reply written
+unfolding effect replyIn sessionOf writes
 returns-2 c = rw (c .before .before .before .before .enum-told .given .1) (record { state = c .before .before .refuse-size .ensures; memory = refl })
 
 same-length-3 : tie.Need-same-length-3
 same-length-3 c = search needs
 
 returns-3 : tie.Need-returns-3
-unfolding effect reply written
+unfolding effect replyIn sessionOf writes
 returns-3 c = rw (c .before .before .before .before .enum-told2 .given .1) (record { state = c .before .before .wrong-key .ensures; memory = refl })
 
 same-length-4 : tie.Need-same-length-4
 same-length-4 c = search needs
 
 returns-4 : tie.Need-returns-4
-unfolding effect reply written
+unfolding effect replyIn sessionOf writes
 returns-4 c = rw (c .before .before .before .before .enum-told3 .given .1) (record { state = c .before .before .connect .ensures; memory = refl })
 
 same-length-5 : tie.Need-same-length-5
 same-length-5 c = search needs
 
 returns-5 : tie.Need-returns-5
-unfolding effect reply written
+unfolding effect replyIn sessionOf writes
 returns-5 c = rw (c .before .before .before .before .enum-told4 .given .1) (record { state = c .before .before .disconnect .ensures; memory = refl })
 
 same-length-6 : tie.Need-same-length-6
 same-length-6 c = search needs
 
 returns-6 : tie.Need-returns-6
-unfolding effect reply written
+unfolding effect replyIn sessionOf writes
 returns-6 c = rw (c .before .before .before .before .enum-told5 .given .1) (record { state = c .before .before .status .ensures; memory = refl })
 
 same-length-7 : tie.Need-same-length-7
 same-length-7 c = search needs
 
 returns-7 : tie.Need-returns-7
-unfolding effect reply written
+unfolding effect replyIn sessionOf writes
 returns-7 c = rw (c .before .before .before .before .enum-told6 .given .1) (record { state = c .before .before .two .ensures; memory = refl })
 
 same-length-8 : tie.Need-same-length-8
 same-length-8 c = search needs
 
 returns-8 : tie.Need-returns-8
-unfolding effect reply written
+unfolding effect replyIn sessionOf writes
 returns-8 c = rw (c .before .before .before .before .enum-told7 .given .1) (record { state = c .before .before .two2 .ensures; memory = refl })
 
 same-length-9 : tie.Need-same-length-9
 same-length-9 c = search needs
 
 returns-9 : tie.Need-returns-9
-unfolding effect reply written
+unfolding effect replyIn sessionOf writes
 returns-9 c = rw (c .before .before .before .before .before .deed2 .given .1) (record { state = c .before .before .give-seed .ensures; memory = refl })
 
 same-length-10 : tie.Need-same-length-10
 same-length-10 c = search needs
 
 returns-10 : tie.Need-returns-10
-unfolding effect reply written
+unfolding effect replyIn sessionOf writes
 returns-10 c = rw (c .before .before .before .before .before .deed3 .given .1) (record { state = c .before .before .unlock .ensures; memory = refl })
 
 same-length-11 : tie.Need-same-length-11
 same-length-11 c = search needs
 
 returns-11 : tie.Need-returns-11
-unfolding effect reply written
+unfolding effect replyIn sessionOf writes
 returns-11 c = rw (c .before .before .before .before .before .deed4 .given .1) (record { state = c .before .before .set-mta .ensures; memory = refl })
 
 same-length-12 : tie.Need-same-length-12
@@ -263,7 +264,7 @@ same-length-13 : tie.Need-same-length-13
 same-length-13 c = search needs
 
 returns-12 : tie.Need-returns-12
-unfolding effect reply written
+unfolding effect replyIn sessionOf writes
 returns-12 c = rw (c .before .before .before .before .before .before .deed5 .given .1) (record { state = c .before .before .upload .ensures; memory = refl })
 
 same-length-14 : tie.Need-same-length-14
@@ -273,7 +274,7 @@ same-length-15 : tie.Need-same-length-15
 same-length-15 c = search needs
 
 returns-13 : tie.Need-returns-13
-unfolding effect reply written
+unfolding effect replyIn sessionOf writes
 returns-13 c = rw (c .before .before .before .before .before .before .deed6 .given .1) (record { state = c .before .before .read .ensures; memory = refl })
 
 same-length-16 : tie.Need-same-length-16
@@ -283,7 +284,7 @@ same-length-17 : tie.Need-same-length-17
 same-length-17 c = search needs
 
 returns-14 : tie.Need-returns-14
-unfolding effect reply written
+unfolding effect replyIn sessionOf writes
 returns-14 c = rw (c .before .before .before .before .before .before .deed7 .given .1) (record { state = c .before .before .checksum .ensures; memory = refl })
 
 same-length-18 : tie.Need-same-length-18
@@ -293,105 +294,105 @@ same-length-19 : tie.Need-same-length-19
 same-length-19 c = search needs
 
 returns-15 : tie.Need-returns-15
-unfolding effect reply written
+unfolding effect replyIn sessionOf writes
 returns-15 c = rw (c .before .before .before .before .before .before .before .before .deed8 .given .1) (record { state = c .before .before .before .before .download .ensures .0; memory = c .before .before .before .before .download .ensures .1 })
 
 same-length-20 : tie.Need-same-length-20
 same-length-20 c = search needs
 
 returns-16 : tie.Need-returns-16
-unfolding effect reply written
+unfolding effect replyIn sessionOf writes
 returns-16 c = rw (c .before .before .before .before .before .deed9 .given .1) (record { state = c .before .before .clear-list .ensures; memory = refl })
 
 same-length-21 : tie.Need-same-length-21
 same-length-21 c = search needs
 
 returns-17 : tie.Need-returns-17
-unfolding effect reply written
+unfolding effect replyIn sessionOf writes
 returns-17 c = rw (c .before .before .before .before .before .deed10 .given .1) (record { state = c .before .before .set-pointer .ensures; memory = refl })
 
 same-length-22 : tie.Need-same-length-22
 same-length-22 c = search needs
 
 returns-18 : tie.Need-returns-18
-unfolding effect reply written
+unfolding effect replyIn sessionOf writes
 returns-18 c = rw (c .before .before .before .before .before .deed11 .given .1) (record { state = c .before .before .clear-entry .ensures; memory = refl })
 
 same-length-23 : tie.Need-same-length-23
 same-length-23 c = search needs
 
 returns-19 : tie.Need-returns-19
-unfolding effect reply written
+unfolding effect replyIn sessionOf writes
 returns-19 c = rw (c .before .before .before .before .before .deed12 .given .1) (record { state = c .before .before .write-entry .ensures; memory = refl })
 
 same-length-24 : tie.Need-same-length-24
 same-length-24 c = search needs
 
 returns-20 : tie.Need-returns-20
-unfolding effect reply written
+unfolding effect replyIn sessionOf writes
 returns-20 c = rw (c .before .before .before .before .before .deed13 .given .1) (record { state = c .before .before .set-mode .ensures; memory = refl })
 
 same-length-25 : tie.Need-same-length-25
 same-length-25 c = search needs
 
 returns-21 : tie.Need-returns-21
-unfolding effect reply written
+unfolding effect replyIn sessionOf writes
 returns-21 c = rw (c .before .before .before .before .before .deed14 .given .1) (record { state = c .before .before .stop .ensures; memory = refl })
 
 same-length-26 : tie.Need-same-length-26
 same-length-26 c = search needs
 
 returns-22 : tie.Need-returns-22
-unfolding effect reply written
+unfolding effect replyIn sessionOf writes
 returns-22 c = rw (c .before .before .before .before .before .deed15 .given .1) (record { state = c .before .before .start .ensures; memory = refl })
 
 same-length-27 : tie.Need-same-length-27
 same-length-27 c = search needs
 
 returns-23 : tie.Need-returns-23
-unfolding effect reply written
+unfolding effect replyIn sessionOf writes
 returns-23 c = rw (c .before .before .before .before .before .deed16 .given .1) (record { state = c .before .before .keep-running .ensures; memory = refl })
 
 same-length-28 : tie.Need-same-length-28
 same-length-28 c = search needs
 
 returns-24 : tie.Need-returns-24
-unfolding effect reply written
+unfolding effect replyIn sessionOf writes
 returns-24 c = rw (c .before .before .before .before .before .deed17 .given .1) (record { state = c .before .before .select .ensures; memory = refl })
 
 same-length-29 : tie.Need-same-length-29
 same-length-29 c = search needs
 
 returns-25 : tie.Need-returns-25
-unfolding effect reply written
+unfolding effect replyIn sessionOf writes
 returns-25 c = rw (c .before .before .before .before .enum-told8 .given .1) (record { state = c .before .before .stop-all .ensures; memory = refl })
 
 same-length-30 : tie.Need-same-length-30
 same-length-30 c = search needs
 
 returns-26 : tie.Need-returns-26
-unfolding effect reply written
+unfolding effect replyIn sessionOf writes
 returns-26 c = rw (c .before .before .before .before .enum-told9 .given .1) (record { state = c .before .before .start-selected .ensures; memory = refl })
 
 same-length-31 : tie.Need-same-length-31
 same-length-31 c = search needs
 
 returns-27 : tie.Need-returns-27
-unfolding effect reply written
+unfolding effect replyIn sessionOf writes
 returns-27 c = rw (c .before .before .before .before .enum-told10 .given .1) (record { state = c .before .before .stop-selected .ensures; memory = refl })
 
 same-length-32 : tie.Need-same-length-32
 same-length-32 c = search needs
 
 returns-28 : tie.Need-returns-28
-unfolding effect reply written
+unfolding effect replyIn sessionOf writes
 returns-28 c = rw (c .before .before .before .before .enum-told11 .given .1) (record { state = c .before .before .processor-info .ensures; memory = refl })
 
 same-length-33 : tie.Need-same-length-33
 same-length-33 c = search needs
 
 returns-29 : tie.Need-returns-29
-unfolding effect reply written
+unfolding effect replyIn sessionOf writes
 returns-29 c = rw (c .before .before .before .before .enum-told12 .given .1) (record { state = c .before .before .resolution-info .ensures; memory = refl })
 
 pub perform-spec : {M : Type 1} → statement M

@@ -1,7 +1,7 @@
 use native.Mathlib.Omega.{arith}
 use Rattle.session.proofs.Packet.{packet-length, packet-byte}
 use borrow.Author.Tests.{eq-eqb, le-ltb, lt-ltb, ne-eqb}
-use Rattle.session.specs.Receive.{goodConnect}
+use Rattle.model.specs.Heed.{goodConnect}
 use borrow.Author.Needs.{needs}
 use Rattle.session.proofs.receive.good_connect.Statement.{statement}
 use Rattle.session.proofs.receive.good_connect.Tie as tie

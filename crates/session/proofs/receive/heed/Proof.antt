@@ -3,9 +3,10 @@ use mathlib.Core.Path.{refl, sym, _∙_}
 use borrow.Author.Tests.{lt-ltb, le-ltb}
 use lib.ListN.{length}
 use Rattle.state.specs.Bytes.{block}
-use Rattle.session.specs.Perform.{effect, reply}
-use Rattle.model.specs.Answers.{written}
-use Rattle.session.specs.Receive.{heeded}
+use Rattle.model.specs.Answers.{replyIn, writes}
+use Rattle.model.specs.View.{sessionOf}
+use Rattle.session.specs.Perform.{effect}
+use Rattle.session.proofs.Heeding.{heeded-is}
 use Rattle.session.proofs.Packet.{packet-length}
 use Rattle.session.proofs.Looked.{judged-doable}
 use borrow.Author.Needs.{needs}
@@ -19,8 +20,7 @@ same-length : tie.Need-same-length
 same-length c = search needs
 
 returns : tie.Need-returns
-unfolding heeded
-returns c = simp (← (c .before .answer-length .ensures .0), lt-ltb _ _ (c .if1 .taken)) (record { result = refl; state = refl; memory = refl })
+returns c = rw (heeded-is _ _ _ _) (simp (← (c .before .answer-length .ensures .0), lt-ltb _ _ (c .if1 .taken)) (record { result = refl; state = refl; memory = refl }))
 
 flag-requires : tie.Need-flag-requires
 flag-requires c κs = search needs
@@ -38,8 +38,7 @@ same-length-3 : tie.Need-same-length-3
 same-length-3 c = search needs
 
 returns-2 : tie.Need-returns-2
-unfolding heeded
-returns-2 c = simp (← (c .before .before .before .before .before .before .before .before .before .before .before .before .before .answer-length .ensures .0), le-ltb _ _ (c .before .before .before .before .before .before .before .before .before .before .before .before .if1 .left), sym (c .before .before .before .before .before .before .before .before .before .before .flag .ensures) ∙ c .before .before .before .before .before .before .before .before .before .if2 .taken, ← (c .before .before .before .before .before .before .before .judge .ensures)) (record { result = refl; state = c .before .before .before .before .perform .ensures .state; memory = c .before .before .before .before .perform .ensures .memory })
+returns-2 c = rw (heeded-is _ _ _ _) (simp (← (c .before .before .before .before .before .before .before .before .before .before .before .before .before .answer-length .ensures .0), le-ltb _ _ (c .before .before .before .before .before .before .before .before .before .before .before .before .if1 .left), sym (c .before .before .before .before .before .before .before .before .before .before .flag .ensures) ∙ c .before .before .before .before .before .before .before .before .before .if2 .taken, ← (c .before .before .before .before .before .before .before .judge .ensures)) (record { result = refl; state = c .before .before .before .before .perform .ensures .state; memory = c .before .before .before .before .perform .ensures .memory }))
 
 good-connect-requires : tie.Need-good-connect-requires
 good-connect-requires c κs = search needs
@@ -51,15 +50,14 @@ same-length-4 : tie.Need-same-length-4
 same-length-4 c = search needs
 
 returns-3 : tie.Need-returns-3
-unfolding heeded effect reply written
-returns-3 c = simp (← (c .before .before .before .before .before .before .before .before .before .before .before .answer-length .ensures .0), le-ltb _ _ (c .before .before .before .before .before .before .before .before .before .before .if1 .left), sym (c .before .before .before .before .before .before .before .before .flag .ensures) ∙ c .before .before .before .before .before .before .before .if2 .left, sym (c .before .before .before .before .before .good-connect .ensures) ∙ c .before .before .before .before .if3 .taken) (record { result = refl; state = c .before .before .connect .ensures; memory = refl })
+unfolding effect replyIn sessionOf writes
+returns-3 c = rw (heeded-is _ _ _ _) (simp (← (c .before .before .before .before .before .before .before .before .before .before .before .answer-length .ensures .0), le-ltb _ _ (c .before .before .before .before .before .before .before .before .before .before .if1 .left), sym (c .before .before .before .before .before .before .before .before .flag .ensures) ∙ c .before .before .before .before .before .before .before .if2 .left, sym (c .before .before .before .before .before .good-connect .ensures) ∙ c .before .before .before .before .if3 .taken) (record { result = refl; state = c .before .before .connect .ensures; memory = refl }))
 
 same-length-5 : tie.Need-same-length-5
 same-length-5 c = search needs
 
 returns-4 : tie.Need-returns-4
-unfolding heeded
-returns-4 c = simp (← (c .before .before .before .before .before .before .before .answer-length .ensures .0), le-ltb _ _ (c .before .before .before .before .before .before .if1 .left), sym (c .before .before .before .before .flag .ensures) ∙ c .before .before .before .if2 .left, sym (c .before .good-connect .ensures) ∙ c .if3 .left) (record { result = refl; state = refl; memory = refl })
+returns-4 c = rw (heeded-is _ _ _ _) (simp (← (c .before .before .before .before .before .before .before .answer-length .ensures .0), le-ltb _ _ (c .before .before .before .before .before .before .if1 .left), sym (c .before .before .before .before .flag .ensures) ∙ c .before .before .before .if2 .left, sym (c .before .good-connect .ensures) ∙ c .if3 .left) (record { result = refl; state = refl; memory = refl }))
 
 pub heed-spec : {M : Type 1} → statement M
 heed-spec =

@@ -1,0 +1,3 @@
+-- Laws of the model that proofs cite.
+pub mod Bounded
+pub mod Shown
