@@ -9,8 +9,10 @@ use lib.ListN.{length}
 use Rattle.line.proofs.Laws.{cond-ind}
 use Rattle.state.specs.Layout.{size, sampleAt, firstOdt, odtCount, lists, allOdts, events, storedMost}
 use Rattle.state.specs.State.{consistent}
-use Rattle.lists.specs.Lists.{odtsFit, runsOf, unsent}
-use Rattle.state.specs.Lists.{modeOf}
+use Rattle.lists.specs.Lists.{runsOf}
+use Rattle.model.specs.Model.{eachFits, unsent}
+use Rattle.model.specs.Calls.{samplingIn}
+use Rattle.model.specs.View.{sessionOf}
 use Rattle.lists.specs.Event.{samplingOf, contentsOf, stored, capturedOdts, captured, sampledState, tally, Happened, eventOf}
 use Rattle.model.specs.declared.Sampling.{Sampling}
 use Rattle.lists.proofs.Fitting.{runs-fit, fit-each}
@@ -21,23 +23,24 @@ only-stored : (s : List ℕ) (k : ℕ) (bs : List ℕ) → k < allOdts → lengt
 unfolding stored
 only-stored s k bs h q = only-sets s (sampleAt k) (length bs ∷ bs) (omega arith) (omega arith)
 
-only-odts : (s : List ℕ) (k clock : ℕ) (cal meas : List ℕ) (m n : ℕ) → odtsFit s k m ≡ true → n ≤ m → k + n ≤ allOdts → Only (sampleAt 0) size s (capturedOdts s k clock cal meas n)
+only-odts : (s : List ℕ) (l clock : ℕ) (cal meas : List ℕ) (n : ℕ) → l < lists → eachFits l (sessionOf s .list l) (odtCount l) ≡ true → n ≤ odtCount l → Only (sampleAt 0) size s (capturedOdts s (firstOdt l) clock cal meas n)
 unfolding capturedOdts
-only-odts s k clock cal meas m zero f q h = only-none
-only-odts s k clock cal meas m (suc n) f q h =
-    only-then (only-odts s k clock cal meas m n f (omega arith) (omega arith))
-    (only-stored (capturedOdts s k clock cal meas n) (k + n) (contentsOf s (k + n) clock cal meas) (omega arith) (contents-most s (k + n) clock cal meas (fit-each s k m n f (omega arith))))
+only-odts s l clock cal meas zero h f q = only-none
+only-odts s l clock cal meas (suc n) h f q =
+    let k : ℕ = firstOdt l + n in
+    only-then (only-odts s l clock cal meas n h f (omega arith))
+    (only-stored (capturedOdts s (firstOdt l) clock cal meas n) k (contentsOf s k clock cal meas) (omega arith) (contents-most s k clock cal meas (fit-each s l n h f (omega arith))))
 
-pub only-captured : (s : List ℕ) (l clock : ℕ) (cal meas : List ℕ) → l < lists → odtsFit s (firstOdt l) (odtCount l) ≡ true → Only (sampleAt 0) size s (captured s l clock cal meas)
-only-captured s l clock cal meas h f = only-odts s (firstOdt l) clock cal meas (odtCount l) (odtCount l) f (omega arith) (omega arith)
+only-captured : (s : List ℕ) (l clock : ℕ) (cal meas : List ℕ) → l < lists → eachFits l (sessionOf s .list l) (odtCount l) ≡ true → Only (sampleAt 0) size s (captured s l clock cal meas)
+only-captured s l clock cal meas h f = only-odts s l clock cal meas (odtCount l) h f (omega arith)
 
 only-sampled : (s : List ℕ) (l event clock : ℕ) (cal meas : List ℕ) → l < lists → Only (sampleAt 0) size s (sampledState (samplingOf s l event) s l clock cal meas)
-unfolding samplingOf sampledState
+unfolding samplingIn sampledState
 only-sampled s l event clock cal meas h =
     let P : Sampling → Type 0 = λ (c : Sampling). Only (sampleAt 0) size s (sampledState c s l clock cal meas) in
-    cond-ind P (eqb (modeOf s l) (event + 1))
+    cond-ind P (eqb (sessionOf s .list l .mode) (event + 1))
     (λ _. cond-ind P (runsOf s l)
-    (λ r. cond-ind P (unsent s l) (λ _. only-none) (λ _. only-captured s l clock cal meas h (runs-fit s l r)))
+    (λ r. cond-ind P (unsent l (sessionOf s .list l)) (λ _. only-none) (λ _. only-captured s l clock cal meas h (runs-fit s l r)))
     (λ _. only-none))
     (λ _. only-none)
 

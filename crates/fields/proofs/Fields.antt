@@ -16,7 +16,8 @@ use Rattle.state.specs.Layout.{size, generatorAt, sessionAt, sessionSize, openA
 use Rattle.state.specs.Bytes.{u32At, put32, block}
 use Rattle.state.specs.Generator.{startOf}
 use Rattle.state.specs.State.{bitOf, flagOf, generatorOf, setGenerator, openOf, lockAt, unlockedOf, seedOf, setSeed, mtaTag, mtaOf, setMta, pointerOf, setPointer, Pointed, closed, fresh, placeOf, setPlace, answerLength, waits, answerKind, answerOf, answered}
-use Rattle.lists.specs.Lists.{runsOf, anyRuns}
+use Rattle.lists.specs.Lists.{runsOf}
+use Rattle.model.proofs.Shown.{runs-at}
 use Rattle.state.specs.Lists.{leastOf, storedLength}
 use Rattle.words.specs.declared.Resource.{Resource}
 use Rattle.words.specs.declared.Resource.the-variants.{Calibration, Lists}
@@ -183,14 +184,7 @@ unfolding flagOf
 bare-flag s l z k = rw (z (runningAt l) (omega arith) (omega arith))
 
 pub bare-runs : (s : List ℕ) (l : ℕ) → Bare s → l < lists → runsOf s l ≡ false
-unfolding runsOf
-bare-runs s l z k = rw (bare-flag s l z k) (cond-ind (λ (b : Bool). b ≡ false) (openOf s) (λ _. refl) (λ _. refl))
-
--- no list of n runs if none does
-pub none-runs : (s : List ℕ) (n : ℕ) → ((l : ℕ) → l < n → runsOf s l ≡ false) → anyRuns s n ≡ false
-unfolding anyRuns
-none-runs s zero f = refl
-none-runs s (suc n) f = rw (none-runs s n (λ l h. f l (omega arith)), f n (omega arith))
+bare-runs s l z k = runs-at s l k ∙ rw (bare-flag s l z k) (cond-ind (λ (b : Bool). b ≡ false) (openOf s) (λ _. refl) (λ _. refl))
 
 -- an empty store
 pub empty-stored : (s : List ℕ) (k : ℕ) → getD s (sampleAt k) 0 ≡ 0 → storedLength s k ≡ 0

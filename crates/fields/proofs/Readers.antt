@@ -1,6 +1,6 @@
 -- A reader reads its own bytes alone: a change elsewhere leaves what it reads. Assumes nothing.
-use Prim.Native.Nat.{ℕ, zero, suc, _+_, _*_, _≤_, _<_}
-use mathlib.Core.Path.{_≡_, refl, sym, _∙_}
+use Prim.Native.Nat.{ℕ, _+_, _≤_, _<_}
+use mathlib.Core.Path.{_≡_, refl, sym, ap, _∙_}
 use mathlib.Core.Bool.{Bool, true, false, cond}
 use mathlib.Core.List.{List}
 use native.Mathlib.Omega.{arith}
@@ -10,12 +10,16 @@ use lib.ListN.{length, getD, drop, set, length-take, length-drop, length-set}
 use lib.Seq.{getD-take, getD-drop, ext-getD, getD-set-same, getD-set-other, set-out}
 use Rattle.line.specs.Message.{longest}
 use Rattle.line.specs.Unstuffing.{Fed}
-use Rattle.line.proofs.Laws.{cond-ind}
-use Rattle.state.specs.Layout.{size, lists, entries, allOdts, packetMost, markAt, generatorAt, ctrAt, placeAt, countAt, messageAt, answerAt, answerBytesAt, sessionAt, openAt, calibrationAt, listsAt, seedAt, mtaAt, addressAt, pointerAt, pointerEntryAt, modeAt, runningAt, entriesAt, entryAt, sampleAt, firstOdt, odtCount}
+use Rattle.state.specs.Layout.{size, lists, entryCount, packetMost, markAt, generatorAt, ctrAt, placeAt, countAt, messageAt, answerAt, answerBytesAt, sessionAt, openAt, calibrationAt, listsAt, seedAt, mtaAt, addressAt, pointerAt, pointerEntryAt, modeAt, runningAt, entrySize, entriesAt, entryAt, sampleAt, firstOdt, odtCount}
 use Rattle.state.specs.Bytes.{u16At, u32At, block}
 use Rattle.state.specs.State.{consistent, flagOf, generatorOf, openOf, unlockedOf, maskOf, seedOf, mtaOf, pointerOf, placeOf, messageOf, answerLength, waits, answerKind, answerOf, answered, setSeed}
 use Rattle.state.specs.Lists.{sizeOf, extensionOf, addressOf, modeOf, storedLength}
-use Rattle.lists.specs.Lists.{bytesOfFirst, odtBytes, bytesOfOdts, odtsFit, fitOf, runsOf, anyRuns}
+use Rattle.lists.specs.Lists.{fitOf, runsOf}
+use Rattle.model.specs.Model.{noEntry, Odt}
+use Rattle.model.specs.View.{entryOf, odtOf, sessionOf}
+use Rattle.model.proofs.Bounded.{upTo-same}
+use Rattle.model.proofs.Shown.{stored-most, odt-at, mode-at, runs-at, answer-most}
+use Rattle.model.proofs.Fits.{fits-same}
 use Rattle.session.specs.Receive.{readOn}
 use Rattle.words.specs.declared.Seed.{Seed}
 use Rattle.words.specs.declared.Resource.{Resource}
@@ -71,12 +75,6 @@ same-set {a} {b} {s} {t} i v w = record { long = simp (length-set, w .long); byt
       let k : i < length t = rw (w .long) h in
       rw (eqb-true j i e) (getD-set-same t i v 0 k ∙ sym (getD-set-same s i v 0 h))
   go j p q false true e l = getD-set-other t i j v 0 (eqb-false j i e) ∙ w .byte j p q ∙ sym (getD-set-other s i j v 0 (eqb-false j i e))
-
-pub answer-most : (s : List ℕ) → answerLength s ≤ packetMost
-unfolding answerLength
-answer-most s =
-    cond-ind (λ (n : ℕ). n ≤ packetMost) (eqb (getD s answerAt 0) 0) (λ _. omega arith)
-    (λ _. cond-ind (λ (n : ℕ). n ≤ packetMost) (ltb packetMost (getD s answerAt 0)) (λ _. omega arith) (λ h. ltb-false packetMost (getD s answerAt 0) h))
 
 -- ---- the readers
 module _ {s t : List ℕ} where
@@ -145,60 +143,44 @@ module _ {s t : List ℕ} where
       rw (answerKind-reads w, answerLength-reads w)
       (same-block answerBytesAt (answerLength s) (lit≤ tt) (omega (arith, answer-most s)) (same-set answerBytesAt (answerKind s) w))
 
-  pub size-reads : (k e : ℕ) → k < allOdts → e < entries → Same (entriesAt 0) (sampleAt 0) s t → sizeOf t k e ≡ sizeOf s k e
-  unfolding sizeOf
-  size-reads k e p q w = rw (w .byte (entryAt k e) (omega arith) (omega arith))
+  -- an entry, an ODT's entries, its store: each by its own bytes alone
+  pub entry-own : (k e : ℕ) → Same (entryAt k e) (entryAt k e + entrySize) s t → entryOf t k e ≡ entryOf s k e
+  unfolding sizeOf extensionOf addressOf u16At
+  entry-own k e w =
+      let i : ℕ = entryAt k e in
+      rw (w .byte i (omega arith) (omega arith), flag-reads (i + 1) (same-part (omega arith) (omega arith) w), w .byte (i + 2) (omega arith) (omega arith), w .byte (i + 2 + 1) (omega arith) (omega arith))
 
-  pub extension-reads : (k e : ℕ) → k < allOdts → e < entries → Same (entriesAt 0) (sampleAt 0) s t → extensionOf t k e ≡ extensionOf s k e
-  unfolding extensionOf
-  extension-reads k e p q w = rw (flag-reads (entryAt k e + 1) (same-part (omega arith) (omega arith) w))
+  pub entries-own : (k : ℕ) → Same (entriesAt k) (entriesAt (k + 1)) s t → odtOf t k .entry ≡ odtOf s k .entry
+  entries-own k w = upTo-same (entryCount k) noEntry (λ e q. entry-own k e (same-part (omega arith) (omega arith) w))
 
-  pub address-reads : (k e : ℕ) → k < allOdts → e < entries → Same (entriesAt 0) (sampleAt 0) s t → addressOf t k e ≡ addressOf s k e
-  unfolding addressOf u16At
-  address-reads k e p q w =
-      rw (w .byte (entryAt k e + 2) (omega arith) (omega arith), w .byte (entryAt k e + 2 + 1) (omega arith) (omega arith))
+  pub stored-reads : (k : ℕ) → Same (sampleAt k) (sampleAt k + 1) s t → storedLength t k ≡ storedLength s k
+  unfolding storedLength
+  stored-reads k w = rw (w .byte (sampleAt k) (omega arith) (omega arith))
 
-  first-reads : (k n : ℕ) → k < allOdts → n ≤ entries → Same (entriesAt 0) (sampleAt 0) s t → bytesOfFirst t k n ≡ bytesOfFirst s k n
-  unfolding bytesOfFirst
-  first-reads k zero p q w = refl
-  first-reads k (suc n) p q w = rw (first-reads k n p (omega arith) w, size-reads k n p (omega arith) w)
-
-  odt-reads : (k : ℕ) → k < allOdts → Same (entriesAt 0) (sampleAt 0) s t → odtBytes t k ≡ odtBytes s k
-  odt-reads k p w = first-reads k entries p (lit≤ tt) w
+  pub store-own : (k : ℕ) → Same (sampleAt k) (sampleAt (k + 1)) s t → odtOf t k .store ≡ odtOf s k .store
+  store-own k w =
+      rw (stored-reads k (same-part (omega arith) (omega arith) w)) (same-block (sampleAt k + 1) (storedLength s k) (omega arith) (omega (arith, stored-most s k)) w)
 
   pub mode-reads : (l : ℕ) → l < lists → Same (modeAt 0) (entriesAt 0) s t → modeOf t l ≡ modeOf s l
   unfolding modeOf
   mode-reads l p w = rw (w .byte (modeAt l) (omega arith) (omega arith))
 
-  odts-bytes-read : (k n : ℕ) → k + n ≤ allOdts → Same (entriesAt 0) (sampleAt 0) s t → bytesOfOdts t k n ≡ bytesOfOdts s k n
-  unfolding bytesOfOdts
-  odts-bytes-read k zero p w = refl
-  odts-bytes-read k (suc n) p w = rw (odts-bytes-read k n (omega arith) w, odt-reads (k + n) (omega arith) w)
+  entries-reads : (l : ℕ) → l < lists → Same (entriesAt 0) (sampleAt 0) s t → (o : ℕ) → o < odtCount l → sessionOf t .list l .odt o .entry ≡ sessionOf s .list l .odt o .entry
+  entries-reads l p w o h =
+      ap (λ (y : Odt). y .entry) (odt-at t l p o h) ∙ entries-own (firstOdt l + o) (same-part (omega arith) (omega arith) w) ∙ ap (λ (y : Odt). y .entry) (sym (odt-at s l p o h))
 
-  odts-fit-read : (k n : ℕ) → k + n ≤ allOdts → Same (entriesAt 0) (sampleAt 0) s t → odtsFit t k n ≡ odtsFit s k n
-  unfolding odtsFit
-  odts-fit-read k zero p w = refl
-  odts-fit-read k (suc n) p w = rw (odts-fit-read k n (omega arith) w, odt-reads (k + n) (omega arith) w)
+  list-mode-reads : (l : ℕ) → l < lists → Same (modeAt 0) (entriesAt 0) s t → sessionOf t .list l .mode ≡ sessionOf s .list l .mode
+  list-mode-reads l p w = mode-at t l p ∙ mode-reads l p w ∙ sym (mode-at s l p)
 
   pub fit-reads : (l : ℕ) → l < lists → Same (modeAt 0) (sampleAt 0) s t → fitOf t l ≡ fitOf s l
-  unfolding fitOf
   fit-reads l p w =
-      let e : Same (entriesAt 0) (sampleAt 0) s t = same-part (lit≤ tt) (lit≤ tt) w in
-      rw (mode-reads l p (same-part (lit≤ tt) (lit≤ tt) w), odts-bytes-read (firstOdt l) (odtCount l) (omega arith) e, odts-fit-read (firstOdt l) (odtCount l) (omega arith) e)
+      fits-same l (sessionOf t .list l) (sessionOf s .list l) (entries-reads l p (same-part (lit≤ tt) (lit≤ tt) w)) (list-mode-reads l p (same-part (lit≤ tt) (lit≤ tt) w))
 
   pub runs-reads : (l : ℕ) → l < lists → Same sessionAt (sampleAt 0) s t → runsOf t l ≡ runsOf s l
-  unfolding runsOf
   runs-reads l p w =
-      rw (open-reads (same-part (lit≤ tt) (lit≤ tt) w), flag-reads (runningAt l) (same-part (omega arith) (omega arith) w), fit-reads l p (same-part (lit≤ tt) (lit≤ tt) w))
-
-  pub anyRuns-reads : (n : ℕ) → n ≤ lists → Same sessionAt (sampleAt 0) s t → anyRuns t n ≡ anyRuns s n
-  unfolding anyRuns
-  anyRuns-reads zero p w = refl
-  anyRuns-reads (suc n) p w = rw (anyRuns-reads n (omega arith) w, runs-reads n (omega arith) w)
-
-  pub stored-reads : (k : ℕ) → Same (sampleAt k) (sampleAt k + 1) s t → storedLength t k ≡ storedLength s k
-  unfolding storedLength
-  stored-reads k w = rw (w .byte (sampleAt k) (omega arith) (omega arith))
+      runs-at t l p
+      ∙ rw (open-reads (same-part (lit≤ tt) (lit≤ tt) w), flag-reads (runningAt l) (same-part (omega arith) (omega arith) w), fit-reads l p (same-part (lit≤ tt) (lit≤ tt) w))
+      (sym (runs-at s l p))
 
 -- ---- for instance: a received byte leaves all but the reader, an answer leaves all but itself, a seed leaves the MTA
 pub readOn-front : (s : List ℕ) (f : Fed) → length s ≡ size → length (f .message) ≡ longest → Same 0 placeAt s (readOn s f)

@@ -110,7 +110,7 @@ module _ (s : List ℕ) (l : ℕ) (there : l < lists) where
     some-next whole = ap (λ (b : Bool). cond (somePacket (sessionOf s .list l) o) true b) (packet-at o whole h)
 
 -- ---- the answer that waits, and whose turn it is
-answer-most : (s : List ℕ) → answerLength s ≤ packetMost
+pub answer-most : (s : List ℕ) → answerLength s ≤ packetMost
 unfolding answerLength
 answer-most s =
     let P : ℕ → Type 0 = λ (n : ℕ). n ≤ packetMost in
