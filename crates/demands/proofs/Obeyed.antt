@@ -23,7 +23,7 @@ use Rattle.views.specs.Commands.{Obeys}
 use Rattle.views.proofs.Bytes.{bytes-block, fed-bytes}
 use Rattle.views.proofs.Fit.{Fit, generator-fits, judged-fits}
 use Rattle.views.proofs.Calls.{session-reads}
-use Rattle.views.proofs.Seen.{judge-same, shown-after}
+use Rattle.views.proofs.Done.{shown-after}
 use Rattle.views.proofs.Obeys.{AsModel, obeys}
 use Rattle.demands.specs.Slave.{ours}
 use Rattle.demands.specs.Heard.{packetBy, packetEnded, readBy, Commands, deedOf}
@@ -64,7 +64,6 @@ module _ (s : List ℕ) (b : ℕ) (c : consistent s ≡ true) (w : Bytes s) (low
   command-done p cal meas v =
       let t : List ℕ = readBy s b in
       shown-after (deedOf p t cal meas) t cal meas (length p) (read-length s b c) (judged-doable p t (length cal) (length meas)) (judged-fits p t (length cal) (length meas) v generator-low) p
-      ∙ ap (λ (d : Deed). doneBy d p (sessionOf t) cal meas) (sym (judge-same p t (length cal) (length meas)))
       ∙ ap (λ (x : Session). commandIn p x cal meas) session-read
 
   pub command-shown : (p cal meas : List ℕ) → Commands s b p → shown (receiveOf s cal meas b .state) (receiveOf s cal meas b .cal) ≡ commandIn p (sessionOf s) cal meas

@@ -20,7 +20,7 @@ use Rattle.state.specs.Bytes.{block, bytes32}
 use Rattle.state.specs.State.{placeOf, messageOf}
 use Rattle.session.specs.Receive.{fedOf}
 use Rattle.model.specs.Model.{Bytes}
-use Rattle.views.proofs.Parts.{either}
+use Rattle.model.proofs.Bounded.{either}
 
 pub bytes-cons : (x : ℕ) (bs : List ℕ) → x < 256 → Bytes bs → Bytes (x ∷ bs)
 bytes-cons x bs h w zero = h

@@ -19,9 +19,8 @@ use Rattle.state.specs.Layout.{size, lists, firstOdt, odtCount, allOdts, entryC
 use Rattle.state.specs.Bytes.{put32, block}
 use Rattle.state.specs.Generator.{startOf}
 use Rattle.state.specs.State.{flagOf, generatorOf, setGenerator, placeOf, messageOf, setMessage, answerLength, answerKind, answerOf, answered}
-use Rattle.lists.specs.Lists.{odtsFit}
 use Rattle.state.specs.Lists.{leastOf, storedLength}
-use Rattle.lists.specs.Event.{entryBytes, gathered, contentsOf, stored, capturedOdts, captured}
+use Rattle.lists.specs.Event.{contentsOf, stored, capturedOdts, captured}
 use Rattle.lists.specs.Slot.{nextCtr, answerSent, packetSent}
 use Rattle.lists.proofs.Fitting.{fit-each}
 use Rattle.lists.proofs.Gathered.{contents-most}
@@ -31,13 +30,14 @@ use Rattle.state.proofs.Xorshift.{start-some, start-same}
 use Rattle.fields.proofs.Fields.{Counted, place-same, generator-same, Answering, answer-same, Bare}
 use Rattle.fields.proofs.Stores.{block-sets, sets-in}
 use Rattle.fields.proofs.Frames.{Only, out-above, only-none, only-then, only-wider, only-set, only-sets, only-put32, only-generator, only-readOn, only-message, only-place, only-answered}
-use Rattle.fields.proofs.Readers.{Same, apart, same-part, flag-reads, generator-reads, open-reads, seed-reads, mta-reads, pointer-reads, place-reads, message-reads, answer-reads}
+use Rattle.fields.proofs.Readers.{Same, apart, same-part, flag-reads, generator-reads, open-reads, seed-reads, mta-reads, pointer-reads, place-reads, message-reads, answer-reads, entries-own, store-own}
 use Rattle.fields.proofs.Served.{answerSent-front, answerSent-session, answerSent-reader}
-use Rattle.model.specs.Model.{noEntry, noOdt, blank}
+use Rattle.model.specs.Model.{noOdt, blank, eachFits}
 use Rattle.model.specs.Step.{withSession, withLists, at, emptied, odtIn}
 use Rattle.model.specs.Calls.{withAnswer, withReader, answerGone, withoutPacket, packetGone, blocksIn, contentsIn, withPacket, sampled, poweredUp}
-use Rattle.model.specs.View.{entryOf, odtOf, daqOf, sessionOf, viewOf}
-use Rattle.views.proofs.Parts.{either, upTo-at, upTo-above, upTo-is, upTo-put, spared, both, odt-from, list-from, mode-own, entries-own, store-own, odt-own, own-one, list-own, lists-reads, locks-reads, in-session, in-lists}
+use Rattle.model.specs.View.{odtOf, daqOf, sessionOf, viewOf}
+use Rattle.model.proofs.Bounded.{either, upTo-at, upTo-above, upTo-is, upTo-put}
+use Rattle.views.proofs.Parts.{spared, both, odt-from, list-from, mode-own, odt-own, own-one, list-own, lists-reads, locks-reads, in-session, in-lists}
 use Rattle.views.proofs.Shows.{Changes, changes, as-odt, store-empty, bare-session}
 
 pub session-reads : {s t : List ℕ} → Same generatorAt ctrAt s t → Same sessionAt size s t → sessionOf t ≡ sessionOf s
@@ -198,27 +198,22 @@ least-by true clock bs h = omega arith
 least-by false clock bs h = h
 
 contents-least : (s : List ℕ) (k clock : ℕ) (cal meas : List ℕ) → 1 ≤ length (contentsOf s k clock cal meas) → leastOf k ≤ length (contentsOf s k clock cal meas)
-unfolding contentsOf leastOf
-contents-least s k clock cal meas h = least-by (isFirst k) clock (gathered s k cal meas (entryCount k)) h
+unfolding contentsIn leastOf
+contents-least s k clock cal meas h = least-by (isFirst k) clock (blocksIn (odtOf s k) cal meas (entryCount k)) h
 
--- what is captured is what the entries say
-module _ (s : List ℕ) (k : ℕ) (cal meas : List ℕ) where
-  blocks-at : (n : ℕ) → n ≤ entryCount k → blocksIn (odtOf s k) cal meas n ≡ gathered s k cal meas n
-  unfolding blocksIn gathered entryBytes
-  blocks-at zero q = refl
-  blocks-at (suc n) q = rw (blocks-at n (omega arith), upTo-at (entryCount k) n noEntry (entryOf s k) (omega arith))
+-- list l's first n ODTs
+module _ (s : List ℕ) (l clock : ℕ) (cal meas : List ℕ) (long : length s ≡ size) (list : l < lists) (fit : eachFits l (sessionOf s .list l) (odtCount l) ≡ true) where
+  abbrev k : ℕ
+  k = firstOdt l
 
-  contents-at : (clock : ℕ) → contentsIn k clock cal meas (odtOf s k) ≡ contentsOf s k clock cal meas
-  unfolding contentsIn contentsOf
-  contents-at clock = rw (blocks-at (entryCount k) (lit≤ tt))
+  abbrev m : ℕ
+  m = odtCount l
 
--- the first n ODTs from k on
-module _ (s : List ℕ) (k clock : ℕ) (cal meas : List ℕ) (long : length s ≡ size) (m : ℕ) (there : k + m ≤ allOdts) (fit : odtsFit s k m ≡ true) where
   abbrev first : ℕ → List ℕ
   first n = capturedOdts s k clock cal meas n
 
   few : (n : ℕ) → n < m → length (contentsOf s (k + n) clock cal meas) ≤ storedMost
-  few n h = contents-most s (k + n) clock cal meas (fit-each s k m n fit h)
+  few n h = contents-most s (k + n) clock cal meas (fit-each s l n list fit h)
 
   first-only : (n : ℕ) → n ≤ m → Only (sampleAt k) (sampleAt (k + n)) s (first n)
   unfolding capturedOdts
@@ -241,15 +236,12 @@ module _ (s : List ℕ) (k clock : ℕ) (cal meas : List ℕ) (long : length s �
       (λ b. let other : j ≢ n = eqb-false j n b in
       store-own (k + j) (spared (stored-only t (k + n) bs whole (omega arith) (few n (omega arith))) (omega arith)) ∙ first-store n j (omega arith) (omega arith))
 
-module _ (s : List ℕ) (l clock : ℕ) (cal meas : List ℕ) (long : length s ≡ size) (list : l < lists) (fit : odtsFit s (firstOdt l) (odtCount l) ≡ true) where
   captured-only : Only (sampleAt (firstOdt l)) (sampleAt (firstOdt l + odtCount l)) s (captured s l clock cal meas)
-  captured-only = first-only s (firstOdt l) clock cal meas long (odtCount l) (omega arith) fit (odtCount l) (omega arith)
+  captured-only = first-only (odtCount l) (omega arith)
 
   captured-odt : (o : ℕ) → o < odtCount l → odtOf (captured s l clock cal meas) (firstOdt l + o) ≡ withPacket (contentsIn (firstOdt l + o) clock cal meas (odtOf s (firstOdt l + o))) (odtOf s (firstOdt l + o))
   captured-odt o h =
-      let k : ℕ = firstOdt l + o in
-      odt-from (entries-own k (spared captured-only (omega arith)))
-      (first-store s (firstOdt l) clock cal meas long (odtCount l) (omega arith) fit (odtCount l) o (omega arith) h ∙ sym (contents-at s k cal meas clock))
+      odt-from (entries-own (firstOdt l + o) (spared captured-only (omega arith))) (first-store (odtCount l) o (omega arith) h)
 
   captured-odts : daqOf (captured s l clock cal meas) l .odt ≡ sampled l clock cal meas (daqOf s l) .odt
   captured-odts =

@@ -9,11 +9,11 @@ use borrow.Author.Tests.{ltb-true, ltb-false, lt-ltb, le-ltb, eqb-true, eqb-fals
 use lib.Dec.{eqb, ltb, lit≤}
 use lib.ListN.{length, set}
 use Rattle.line.proofs.Laws.{cond-ind}
-use Rattle.state.specs.Layout.{size, lists, firstOdt, odtCount, allOdts, entryCount, listOf, lastEntry, modeAt, selectedAt, sampleAt}
+use Rattle.state.specs.Layout.{size, lists, allOdts, entryCount, listOf, lastEntry, modeAt, selectedAt, sampleAt}
 use Rattle.state.specs.Generator.{nextOf}
 use Rattle.state.specs.Memory.{pick, insideOf}
 use Rattle.state.specs.State.{openOf, generatorOf, setGenerator, lockAt, setPointer, Pointed}
-use Rattle.lists.specs.Lists.{bytesOfFirst, odtBytes, bytesOfOdts, odtsFit, fitOf, runsOf, switched, stopEach, startOne, startSelected, stopOne, stopSelected}
+use Rattle.lists.specs.Lists.{runsOf, switched, stopEach, startOne, startSelected, stopOne, stopSelected}
 use Rattle.state.specs.Lists.{selectedOf}
 use Rattle.judge.specs.Doable.{Doable}
 use Rattle.model.specs.Step.{nextEntry, withSession, withSeed, withPointer, withLists, switch, select, stopIt, startIfSelected, stopIfSelected, stepIn, step}
@@ -25,43 +25,13 @@ use Rattle.state.proofs.Inside.{inside-le}
 use Rattle.fields.proofs.Frames.{Only, only-none, only-set, only-wider, only-generator, only-lock}
 use Rattle.fields.proofs.Readers.{apart, open-reads}
 use Rattle.fields.proofs.Effects.{effected, only-switched, only-listCleared, only-modeSet, only-entryCleared, only-entrySet, only-stopEach, only-startSelected, only-stopSelected}
-use Rattle.model.specs.Model.{put, noEntry, noOdt, DaqList, noList, Session, sizesOf, bytesIn, allBytes, eachFits, fits, runs, runsIn}
-use Rattle.model.specs.View.{entryOf, odtOf, daqOf, listsOf, sessionOf, viewOf}
+use Rattle.model.specs.Model.{put, DaqList, noList, Session, runs}
+use Rattle.model.specs.View.{daqOf, listsOf, sessionOf, viewOf}
 use Rattle.views.proofs.Fit.{Fit}
-use Rattle.views.proofs.Parts.{either, upTo-at, upTo-above, in-session, in-lists}
+use Rattle.model.proofs.Shown.{selected-at}
+use Rattle.model.proofs.Bounded.{either, upTo-above}
+use Rattle.views.proofs.Parts.{in-session, in-lists}
 use Rattle.views.proofs.Shows.{shows-seed, shows-generator, shows-mta, shows-pointer, shows-lock, shows-closed, shows-fresh, Changes, changes-switched, changes-selected, changes-mode, changes-cleared, changes-entryCleared, changes-entrySet}
-
--- ---- what is read of a list that there is
-module _ (s : List ℕ) where
-  pub list-at : (l : ℕ) → l < lists → sessionOf s .list l ≡ daqOf s l
-  unfolding sessionOf listsOf
-  list-at l h = upTo-at lists l noList (daqOf s) h
-
-  sizes-at : (k n : ℕ) → n ≤ entryCount k → sizesOf (odtOf s k) n ≡ bytesOfFirst s k n
-  unfolding sizesOf bytesOfFirst
-  sizes-at k zero q = refl
-  sizes-at k (suc n) q = rw (sizes-at k n (omega arith), upTo-at (entryCount k) n noEntry (entryOf s k) (omega arith))
-
-  bytes-at : (l o : ℕ) → o < odtCount l → bytesIn (firstOdt l + o) (daqOf s l .odt o) ≡ odtBytes s (firstOdt l + o)
-  bytes-at l o p = rw (upTo-at (odtCount l) o noOdt (λ o. odtOf s (firstOdt l + o)) p) (sizes-at (firstOdt l + o) (entryCount (firstOdt l + o)) (lit≤ tt))
-
-  all-at : (l n : ℕ) → n ≤ odtCount l → allBytes l (daqOf s l) n ≡ bytesOfOdts s (firstOdt l) n
-  unfolding allBytes bytesOfOdts
-  all-at l zero q = refl
-  all-at l (suc n) q = rw (all-at l n (omega arith), bytes-at l n (omega arith))
-
-  each-at : (l n : ℕ) → n ≤ odtCount l → eachFits l (daqOf s l) n ≡ odtsFit s (firstOdt l) n
-  unfolding eachFits odtsFit
-  each-at l zero q = refl
-  each-at l (suc n) q = rw (each-at l n (omega arith), bytes-at l n (omega arith))
-
-  pub fits-at : (l : ℕ) → fits l (daqOf s l) ≡ fitOf s l
-  unfolding fits fitOf
-  fits-at l = rw (all-at l (odtCount l) (lit≤ tt), each-at l (odtCount l) (lit≤ tt))
-
-  pub runs-at : (l : ℕ) → l < lists → runsIn (sessionOf s) l ≡ runsOf s l
-  unfolding runs runsOf sessionOf listsOf
-  runs-at l h = rw (upTo-at lists l noList (daqOf s) h, fits-at l)
 
 -- ---- one list changed
 shows-lists : {s t : List ℕ} {f : ℕ → DaqList} → Only (modeAt 0) size s t → listsOf t ≡ f → sessionOf t ≡ withLists (sessionOf s) f
@@ -122,24 +92,24 @@ module _ (s : List ℕ) (l : ℕ) (h : length s ≡ size) (l4 : l < lists) where
   changes-stopIt : Changes l stopIt s (set (switched s l 0) (selectedAt l) 0)
   changes-stopIt = deselects l (switch false) s (switched s l 0) (only-switched s l 0 l4 .long ∙ h) l4 (changes-switched s l h l4 0)
 
-  selected-at : listsOf s l .selected ≡ selectedOf s l
-  unfolding listsOf
-  selected-at = rw (upTo-at lists l noList (daqOf s) l4)
-
   runs-here : runs (openOf s) l (listsOf s l) ≡ runsOf s l
-  unfolding runs runsOf listsOf
-  runs-here = rw (upTo-at lists l noList (daqOf s) l4, fits-at s l)
+  unfolding sessionOf
+  runs-here = refl
+
+  selected-here : listsOf s l .selected ≡ selectedOf s l
+  unfolding sessionOf
+  selected-here = selected-at s l l4
 
   as-it-is : Changes l (λ x. x) s s
   as-it-is = put-back l (listsOf s)
 
   started : Changes l (λ x. cond (x .selected) (cond (runs (openOf s) l x) x (switch true x)) x) s (startOne s l)
   started =
-      chosen l (selectedOf s l) _ _ _ s (cond (runsOf s l) s (switched s l 1)) s selected-at
+      chosen l (selectedOf s l) _ _ _ s (cond (runsOf s l) s (switched s l 1)) s selected-here
       (chosen l (runsOf s l) _ _ _ s s (switched s l 1) runs-here as-it-is (changes-switched s l h l4 1)) as-it-is
 
   stopped : Changes l (λ x. cond (x .selected) (switch false x) x) s (stopOne s l)
-  stopped = chosen l (selectedOf s l) _ _ _ s (switched s l 0) s selected-at (changes-switched s l h l4 0) as-it-is
+  stopped = chosen l (selectedOf s l) _ _ _ s (switched s l 0) s selected-here (changes-switched s l h l4 0) as-it-is
 
   only-startOne : Only (modeAt 0) size s (startOne s l)
   only-startOne =

@@ -5,7 +5,7 @@ pub mod Fit
 pub mod Shows
 pub mod Effect
 pub mod Calls
-pub mod Seen
+pub mod Done
 pub mod Taken
 pub mod MemoryLaws
 pub mod SessionLaws

@@ -35,7 +35,7 @@ use Rattle.model.specs.Step.{unlock, withMta, stepIn}
 use Rattle.model.specs.Answers.{replyIn, doneBy, commandIn}
 use Rattle.views.specs.Commands.{Fresh}
 use Rattle.views.specs.Locked.{SettingsKept, endsSession, Shields}
-use Rattle.views.proofs.Parts.{either}
+use Rattle.model.proofs.Bounded.{either}
 use Rattle.views.proofs.SessionLaws.{blank-fresh}
 
 -- the commands that neither end nor renew a session

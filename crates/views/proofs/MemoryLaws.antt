@@ -33,7 +33,8 @@ use Rattle.fields.proofs.Frames.{only-sets}
 use Rattle.model.specs.Model.{byte, Session}
 use Rattle.model.specs.Step.{withMta, stepIn}
 use Rattle.views.specs.Commands.{four, memoryOf, sumFrom, TheGenerator, Whether-open, TheLocks, TheSeed, TheMta, ThePointer, TheLists, AllBut, SET-MTA, Carries, UPLOAD, SHORT-UPLOAD, BUILD-CHECKSUM, DOWNLOAD}
-use Rattle.views.proofs.Parts.{either, aside}
+use Rattle.model.proofs.Bounded.{either}
+use Rattle.views.proofs.Parts.{aside}
 use Rattle.views.proofs.Bytes.{bytes-cons, bytes-four}
 use Rattle.views.proofs.Taken.{four-is, named-by, fe-ff, Taken, unless, provided, branch, judged, Leads}
 

@@ -1,61 +1,22 @@
 -- A change of some bytes leaves all that is read from others. Assumes nothing.
 use Prim.Native.Nat.{ℕ, _+_, _≤_, _<_}
 use mathlib.Core.Path.{_≡_, refl, fun-ext}
-use mathlib.Core.Logic.{_≢_}
 use mathlib.Core.Bool.{Bool, true, false, cond}
 use mathlib.Core.List.{List}
 use native.Mathlib.Omega.{arith}
-use borrow.Author.Tests.{ltb-true, ltb-false, eqb-true, eqb-false, lt-ltb, le-ltb}
-use lib.Dec.{T, eqb, ltb, leb, le→leb, lit<, lit≤}
-use lib.ListN.{getD}
-use Rattle.line.proofs.Laws.{cond-ind}
-use Rattle.state.specs.Layout.{size, lists, firstOdt, odtCount, entryCount, storedMost, generatorAt, ctrAt, servedAt, lastAt, calibrationAt, seedAt, mtaAt, pointerAt, modeAt, selectedAt, runningAt, entrySize, entriesAt, entryAt, sampleAt}
-use Rattle.state.specs.Bytes.{u16At}
+use borrow.Author.Tests.{ltb-false}
+use lib.Dec.{T, ltb, leb, le→leb, lit<, lit≤}
+use Rattle.state.specs.Layout.{size, lists, firstOdt, odtCount, generatorAt, ctrAt, servedAt, lastAt, calibrationAt, seedAt, mtaAt, pointerAt, modeAt, selectedAt, runningAt, entriesAt, sampleAt}
 use Rattle.state.specs.State.{generatorOf, unlockedOf, mtaOf, seedOf, pointerOf}
-use Rattle.state.specs.Lists.{sizeOf, extensionOf, addressOf, modeOf, leastOf, storedLength}
+use Rattle.state.specs.Lists.{modeOf}
 use Rattle.fields.proofs.Stores.{out}
 use Rattle.fields.proofs.Frames.{Only}
 use Rattle.fields.proofs.Effects.{Effected}
-use Rattle.fields.proofs.Readers.{Same, apart, same-part, same-then, same-block, flag-reads, generator-reads, open-reads, lock-reads, seed-reads, mta-reads, pointer-reads, place-reads, message-reads, answer-reads, stored-reads}
-use Rattle.model.specs.Model.{upTo, put, noEntry, Odt, noOdt, DaqList, noList}
+use Rattle.fields.proofs.Readers.{Same, apart, same-part, same-then, flag-reads, generator-reads, open-reads, lock-reads, seed-reads, mta-reads, pointer-reads, place-reads, message-reads, answer-reads, entries-own, store-own}
+use Rattle.model.specs.Model.{Odt, noOdt, DaqList, noList}
 use Rattle.model.specs.Step.{withSession, withGenerator, withSeed, withMta, withPointer, withLists}
-use Rattle.model.specs.View.{entryOf, odtOf, daqOf, listsOf, sessionOf, viewOf}
-
--- ---- functions with a bound
-pub either : {P : Type 0} (t : Bool) → (t ≡ true → P) → (t ≡ false → P) → P
-either true f g = f refl
-either false f g = g refl
-
-module _ {A : Type 0} (n : ℕ) where
-  -- as it is below the bound, z above
-  pub upTo-at : (j : ℕ) (z : A) (f : ℕ → A) → j < n → upTo n z f j ≡ f j
-  unfolding upTo
-  upTo-at j z f p = rw (lt-ltb j n p)
-
-  pub upTo-above : (j : ℕ) (z : A) (f : ℕ → A) → n ≤ j → upTo n z f j ≡ z
-  unfolding upTo
-  upTo-above j z f p = rw (le-ltb j n p)
-
-  -- whatever it is compared with
-  pub upTo-is : (z : A) {f g : ℕ → A} → ((j : ℕ) → j < n → f j ≡ g j) → ((j : ℕ) → n ≤ j → z ≡ g j) → upTo n z f ≡ g
-  unfolding upTo
-  upTo-is z h k = fun-ext (λ j. either (ltb j n) (λ b. rw b (h j (ltb-true j n b))) (λ b. rw b (k j (ltb-false j n b))))
-
-  -- equal below the bound; or through m, which leaves z; or x at i, and equal elsewhere
-  pub upTo-same : (z : A) {f g : ℕ → A} → ((j : ℕ) → j < n → f j ≡ g j) → upTo n z f ≡ upTo n z g
-  unfolding upTo
-  upTo-same z h = fun-ext (λ j. either (ltb j n) (λ b. rw b (h j (ltb-true j n b))) (λ b. rw b))
-
-  pub upTo-map : (z : A) (m : A → A) {f g : ℕ → A} → z ≡ m z → ((j : ℕ) → j < n → f j ≡ m (g j)) → upTo n z f ≡ λ j. m (upTo n z g j)
-  unfolding upTo
-  upTo-map z m e h = fun-ext (λ j. either (ltb j n) (λ b. rw b (h j (ltb-true j n b))) (λ b. rw b e))
-
-  pub upTo-put : {i : ℕ} {x : A} (z : A) {f g : ℕ → A} → i < n → f i ≡ x → ((j : ℕ) → j < n → j ≢ i → f j ≡ g j) → upTo n z f ≡ put i x (upTo n z g)
-  unfolding upTo put
-  upTo-put {i} z p e h =
-      fun-ext (λ j. either (eqb j i)
-      (λ b. rw (b, eqb-true j i b, lt-ltb i n p) e)
-      (λ b. rw b (either (ltb j n) (λ c. rw c (h j (ltb-true j n c) (eqb-false j i b))) (λ c. rw c))))
+use Rattle.model.specs.View.{odtOf, daqOf, listsOf, sessionOf, viewOf}
+use Rattle.model.proofs.Bounded.{upTo-same}
 
 -- ---- bytes outside those that were written; `omega` proves the premise
 abbrev pub Misses : ℕ → ℕ → ℕ → ℕ → Type 0
@@ -82,30 +43,10 @@ pub list-from : {a b : DaqList} → a .mode ≡ b .mode → a .selected ≡ b .s
 list-from m n p o = λ i. record { mode = m i; selected = n i; started = p i; odt = o i }
 
 -- ---- of each list, of each ODT, of each entry: its own bytes alone
-stored-most : (s : List ℕ) (k : ℕ) → storedLength s k ≤ storedMost
-unfolding storedLength
-stored-most s k =
-    let P : ℕ → Type 0 = λ (n : ℕ). n ≤ storedMost in
-    cond-ind P (ltb (getD s (sampleAt k) 0) (leastOf k)) (λ _. omega arith)
-    (λ _. cond-ind P (ltb storedMost (getD s (sampleAt k) 0)) (λ _. omega arith) (λ h. ltb-false storedMost (getD s (sampleAt k) 0) h))
-
 module _ {s t : List ℕ} where
   pub mode-own : (l : ℕ) → Same (modeAt l) (selectedAt l) s t → modeOf t l ≡ modeOf s l
   unfolding modeOf
   mode-own l w = rw (w .byte (modeAt l) (omega arith) (omega arith))
-
-  pub entry-own : (k e : ℕ) → Same (entryAt k e) (entryAt k e + entrySize) s t → entryOf t k e ≡ entryOf s k e
-  unfolding sizeOf extensionOf addressOf u16At
-  entry-own k e w =
-      let i : ℕ = entryAt k e in
-      rw (w .byte i (omega arith) (omega arith), flag-reads (i + 1) (same-part (omega arith) (omega arith) w), w .byte (i + 2) (omega arith) (omega arith), w .byte (i + 2 + 1) (omega arith) (omega arith))
-
-  pub entries-own : (k : ℕ) → Same (entriesAt k) (entriesAt (k + 1)) s t → odtOf t k .entry ≡ odtOf s k .entry
-  entries-own k w = upTo-same (entryCount k) noEntry (λ e q. entry-own k e (same-part (omega arith) (omega arith) w))
-
-  pub store-own : (k : ℕ) → Same (sampleAt k) (sampleAt (k + 1)) s t → odtOf t k .store ≡ odtOf s k .store
-  store-own k w =
-      rw (stored-reads k (same-part (omega arith) (omega arith) w)) (same-block (sampleAt k + 1) (storedLength s k) (omega arith) (omega (arith, stored-most s k)) w)
 
   pub odt-own : (k : ℕ) → Same (entriesAt k) (entriesAt (k + 1)) s t → Same (sampleAt k) (sampleAt (k + 1)) s t → odtOf t k ≡ odtOf s k
   odt-own k w v = odt-from (entries-own k w) (store-own k v)

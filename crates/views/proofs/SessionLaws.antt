@@ -28,7 +28,7 @@ use Rattle.model.specs.Answers.{replyIn, doneBy, writes}
 use Rattle.model.specs.Model.{byte, Session, blank, runsIn, someRuns}
 use Rattle.model.specs.Step.{unlock, withGenerator, withLock, withSeed, stepIn}
 use Rattle.views.specs.Commands.{resourceNumber, maskFor, TheGenerator, Whether-open, TheLocks, TheSeed, TheMta, ThePointer, TheLists, AllButBoth, Fresh, CONNECT, DISCONNECT, GET-STATUS, SYNCH, Seeds, GET-SEED, UNLOCK, GET-DAQ-PROCESSOR-INFO, GET-DAQ-RESOLUTION-INFO}
-use Rattle.views.proofs.Parts.{either}
+use Rattle.model.proofs.Bounded.{either}
 use Rattle.views.proofs.Taken.{four-is, fe-ff, Taken, unless, provided, branch, judged, Leads}
 use Rattle.views.proofs.Bytes.{bytes-cons, bytes-four}
 use Rattle.views.proofs.MemoryLaws.{four-back}

@@ -6,11 +6,12 @@ use native.Mathlib.Omega.{arith}
 use borrow.Author.Tests.{ltb-true}
 use lib.Dec.{ltb, lit≤}
 use Rattle.state.specs.Layout.{lists, firstOdt, odtCount, sessionAt, selectedAt, runningAt, sampleAt}
-use Rattle.fields.proofs.Readers.{Same, same-part, flag-reads, pointer-reads}
+use Rattle.fields.proofs.Readers.{Same, same-part, flag-reads, pointer-reads, entries-own}
 use Rattle.model.specs.Model.{upTo, Entry, DaqList}
 use Rattle.model.specs.View.{daqOf, listsOf, sessionOf}
 use Rattle.views.specs.Locked.{SettingsKept}
-use Rattle.views.proofs.Parts.{either, mode-own, entries-own}
+use Rattle.model.proofs.Bounded.{either}
+use Rattle.views.proofs.Parts.{mode-own}
 
 module _ {s t : List ℕ} (w : Same sessionAt (sampleAt 0) s t) where
   -- of a list that there is, and of one that there is not

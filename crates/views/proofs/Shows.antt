@@ -26,11 +26,12 @@ use Rattle.state.proofs.Xorshift.{start-same}
 use Rattle.fields.proofs.Stores.{cleared-in, put16-same}
 use Rattle.fields.proofs.Fields.{Addressed, mta-same, pointer-same, seed-same, generator-same, lock-same, lock-other, Bare, bare-locked, bare-seed, bare-mta, bare-pointer, empty-stored, closed-open, closed-bare, fresh-open, fresh-bare}
 use Rattle.fields.proofs.Frames.{Only, only-none, only-then, only-wider, only-generator, only-set, only-put16, only-cleared, only-seed, only-mta, only-pointer, only-lock, only-closed, only-fresh}
-use Rattle.fields.proofs.Readers.{apart, flag-reads, generator-reads, open-reads, seed-reads, mta-reads, pointer-reads}
+use Rattle.fields.proofs.Readers.{apart, flag-reads, generator-reads, open-reads, seed-reads, mta-reads, pointer-reads, entry-own, entries-own, store-own}
 use Rattle.model.specs.Model.{put, Entry, noEntry, noOdt, DaqList, noList, blank}
 use Rattle.model.specs.Step.{unlock, withGenerator, withLock, withSeed, withMta, withPointer, emptied, switch, select, unset, clear, setMode, withEntry, setEntry, odtIn}
 use Rattle.model.specs.View.{entryOf, odtOf, daqOf, listsOf, sessionOf}
-use Rattle.views.proofs.Parts.{either, upTo-at, upTo-is, upTo-map, upTo-put, spared, both, odt-from, list-from, mode-own, entry-own, entries-own, store-own, odt-own, odts-own, own-one, own-both, list-own, lists-reads, in-generator, in-seed, in-mta, in-pointer}
+use Rattle.model.proofs.Bounded.{either, upTo-at, upTo-is, upTo-map, upTo-put}
+use Rattle.views.proofs.Parts.{spared, both, odt-from, list-from, mode-own, odt-own, odts-own, own-one, own-both, list-own, lists-reads, in-generator, in-seed, in-mta, in-pointer}
 
 -- ---- single fields
 module _ (s : List ℕ) (h : length s ≡ size) where
