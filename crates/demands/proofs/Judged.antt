@@ -7,7 +7,7 @@ use mathlib.Core.List.{List}
 use borrow.Author.Tests.{not-false}
 use lib.Dec.{eqb, ltb, leb}
 use lib.ListN.{length, getD}
-use Rattle.model.specs.Judge.{pointedIn, seenIn, judgeIn, extensionFrom, connectDeed, seedDeed, getSeedDeed, unlockBy, setMtaDeed, uploadDeed, shortUploadDeed, checksumDeed, downloadTo, downloadDeed, clearDeed, pointerDeed, writeBlock, writeDeed, modeDeed, startDeed, startStopDeed, synchDeed, lockedBy, judgeThe, judgeBy, judge}
+use Rattle.model.specs.Judge.{allStartable, pointedIn, seenIn, judgeIn, extensionFrom, connectDeed, seedDeed, getSeedDeed, unlockBy, setMtaDeed, uploadDeed, shortUploadDeed, checksumDeed, downloadTo, downloadDeed, clearDeed, pointerDeed, writeBlock, writeDeed, modeDeed, startDeed, startStopDeed, synchDeed, lockedBy, judgeThe, judgeBy, judge}
 use Rattle.model.specs.View.{sessionOf}
 use Rattle.line.proofs.Laws.{cond-ind}
 use Rattle.state.specs.Layout.{lists, events, firstOdt, odtCount, entryCount, entryMost, uploadMost, downloadMost, addressable, listOf}
@@ -15,7 +15,7 @@ use Rattle.state.specs.Bytes.{u16At, u32At}
 use Rattle.state.specs.Generator.{keyOf}
 use Rattle.state.specs.Memory.{pick, insideOf}
 use Rattle.state.specs.State.{generatorOf, unlockedOf, seedOf, mtaOf, pointerOf}
-use Rattle.lists.specs.Lists.{fitOf, runsOf, allFit}
+use Rattle.lists.specs.Lists.{fitOf, runsOf}
 use Rattle.words.specs.Command.{commandOf, fewest, needsOf}
 use Rattle.words.specs.declared.Command.{Command}
 use Rattle.words.specs.declared.Command.the-variants as command
@@ -253,7 +253,7 @@ module _ (p s : List ℕ) where
   the-found command.WriteDaq code free nc nm = write-found (pointerOf s) (getD p 1 0) (getD p 2 0) (getD p 3 0) (u32At p 4) nc nm
   the-found command.SetDaqListMode code free nc nm = mode-found (getD p 1 0) (u16At p 2) (u16At p 4) (getD p 6 0) (getD p 7 0)
   the-found command.StartStopDaqList code free nc nm = start-stop-found (getD p 1 0) (u16At p 2)
-  the-found command.StartStopSynch code free nc nm = synch-found (allFit s lists) (getD p 1 0)
+  the-found command.StartStopSynch code free nc nm = synch-found (allStartable (sessionOf s) lists) (getD p 1 0)
   the-found command.GetDaqProcessorInfo code free nc nm = tt
   the-found command.GetDaqResolutionInfo code free nc nm = tt
 

@@ -16,7 +16,8 @@ use Rattle.state.specs.Bytes.{u32At, put32}
 use Rattle.state.specs.Generator.{keyOf, nextOf, startOf}
 use Rattle.state.specs.State.{consistent, flagOf, generatorOf, setGenerator, openOf, unlockedOf, setPointer, fresh}
 use Rattle.judge.specs.Doable.{Doable}
-use Rattle.session.specs.Perform.{nextEntry, effect, reply, after}
+use Rattle.model.specs.Step.{nextEntry}
+use Rattle.session.specs.Perform.{effect, reply, after}
 use Rattle.session.specs.PowerUp.{powered}
 use Rattle.session.specs.Receive.{Step, receiveOf}
 use Rattle.lists.specs.Event.{eventOf}
