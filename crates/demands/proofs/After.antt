@@ -1,18 +1,17 @@
 -- What a turn leaves: the list served last, whether the last frame was an answer, and what waits. Assumes nothing.
-use Prim.Native.Nat.{ℕ, _+_, _*_, _<_}
+use Prim.Native.Nat.{ℕ, _<_}
 use mathlib.Core.Path.{_≡_, refl, _∙_}
 use mathlib.Core.Bool.{true, false}
 use mathlib.Core.List.{List}
 use native.Mathlib.Omega.{arith}
 use borrow.Author.Tests.{ltb-true}
-use lib.Dec.{eqb, leb, lit≤}
+use lib.Dec.{eqb, leb}
 use lib.ListN.{length, getD, set, drop, length-set}
 use lib.Seq.{getD-set-same, getD-set-other, getD-take, getD-drop}
 use Rattle.line.proofs.Laws.{cond-ind}
 use Rattle.state.specs.Layout.{size, lists, lastAt, servedAt, listOf, ctrAt, answerAt, answerBytesAt, sampleAt}
 use Rattle.state.specs.State.{flagOf, waits, answerLength, answerKind, answerOf}
 use Rattle.lists.specs.Slot.{nextCtr, answerSent, packetSent}
-use Rattle.fields.proofs.Readers.{same-part}
 use Rattle.fields.proofs.Served.{answerSent-session}
 use Rattle.demands.specs.Waiting.{waitingOf, isAnswer}
 use Rattle.demands.proofs.Own.{waiting-reads, own-same}

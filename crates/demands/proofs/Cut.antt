@@ -1,6 +1,6 @@
 -- Only the first 4,096 bytes of a memory matter, and the rest stays. Assumes nothing.
 use Prim.Native.Nat.{ℕ, zero, suc, _+_, _≤_}
-use mathlib.Core.Path.{_≡_, refl, sym, ap, _∙_}
+use mathlib.Core.Path.{_≡_, refl, sym, ap, ap₂, _∙_}
 use mathlib.Core.Bool.{Bool, true, false, cond}
 use mathlib.Core.List.{List, [], _∷_, _++_}
 use native.Mathlib.Nat.{zero-add, min-comm, min-eq-left, min-le-left, min-le-right}
@@ -11,20 +11,21 @@ use lib.ListN.{length, getD, set, take, drop, length-take, length-set, take-appe
 use lib.Seq.{sets, set-append-left, getD-take}
 use Rattle.session.proofs.Heeding.{heeded-is}
 use Rattle.model.specs.Answers.{replyIn, written, writes}
-use Rattle.model.specs.View.{sessionOf}
+use Rattle.model.specs.View.{sessionOf, odtOf}
 use Rattle.line.specs.declared.Outcome.{Outcome}
 use Rattle.line.specs.declared.Outcome.the-variants as line
-use Rattle.state.specs.Layout.{addressable, firstOdt, entries, lists, uploadMost, odtCount}
+use Rattle.state.specs.Layout.{addressable, firstOdt, entryCount, lists, uploadMost, odtCount}
 use Rattle.state.specs.Bytes.{block}
 use Rattle.state.specs.Memory.{reach, pick, insideOf, blockSum, byteOf, bytesOf}
 use Rattle.state.specs.State.{consistent, openOf, waits}
-use Rattle.state.specs.Lists.{sizeOf, extensionOf, addressOf}
 use Rattle.judge.specs.Doable.{Inside, Doable}
 use Rattle.session.specs.Look.{judgeOf}
 use Rattle.session.specs.Perform.{reply}
 use Rattle.session.specs.Receive.{Step, only, obeyed, heeded, meant, readOn, fedOf, receiveOf}
 use Rattle.model.specs.Heed.{goodConnect}
-use Rattle.lists.specs.Event.{samplingOf, entryBytes, gathered, captured, sampledState, Tally, counted, tally, eventOf, contentsOf, capturedOdts}
+use Rattle.lists.specs.Event.{samplingOf, captured, sampledState, Tally, counted, tally, eventOf, contentsOf, capturedOdts}
+use Rattle.model.specs.Model.{Entry, Odt}
+use Rattle.model.specs.Calls.{blockIn, blocksIn, leadOf, contentsIn}
 use Rattle.words.specs.declared.Extension.{Extension}
 use Rattle.words.specs.declared.Extension.the-variants.{Calibration, Measured}
 use Rattle.model.specs.declared.Sampling.{Sampling}
@@ -66,19 +67,17 @@ bytes-cut mem a zero = refl
 bytes-cut mem a (suc n) = rw (byte-cut mem a, bytes-cut mem (suc a) n)
 
 module _ (cal meas : List ℕ) where
-  entry-cut : (s : List ℕ) (k e : ℕ) → entryBytes s k e (front cal) (front meas) ≡ entryBytes s k e cal meas
-  unfolding entryBytes
-  entry-cut s k e =
-      rw (picked (extensionOf s k e) cal meas) (bytes-cut (pick (extensionOf s k e) cal meas) (addressOf s k e) (sizeOf s k e))
+  entry-cut : (x : Entry) → blockIn x (front cal) (front meas) ≡ blockIn x cal meas
+  entry-cut x = ap (λ (m : List ℕ). bytesOf m (x .address) (x .size)) (picked (x .extension) cal meas) ∙ bytes-cut (pick (x .extension) cal meas) (x .address) (x .size)
 
-  gathered-cut : (s : List ℕ) (k n : ℕ) → gathered s k (front cal) (front meas) n ≡ gathered s k cal meas n
-  unfolding gathered
-  gathered-cut s k zero = refl
-  gathered-cut s k (suc n) = rw (gathered-cut s k n, entry-cut s k n)
+  blocks-cut : (y : Odt) (n : ℕ) → blocksIn y (front cal) (front meas) n ≡ blocksIn y cal meas n
+  unfolding blocksIn
+  blocks-cut y zero = refl
+  blocks-cut y (suc n) = ap₂ (λ (xs ys : List ℕ). xs ++ ys) (blocks-cut y n) (entry-cut (y .entry n))
 
   contents-cut : (s : List ℕ) (k clock : ℕ) → contentsOf s k clock (front cal) (front meas) ≡ contentsOf s k clock cal meas
-  unfolding contentsOf
-  contents-cut s k clock = rw (gathered-cut s k entries)
+  unfolding contentsIn
+  contents-cut s k clock = ap (λ (bs : List ℕ). leadOf k clock ++ bs) (blocks-cut (odtOf s k) (entryCount k))
 
   odts-cut : (s : List ℕ) (k clock n : ℕ) → capturedOdts s k clock (front cal) (front meas) n ≡ capturedOdts s k clock cal meas n
   unfolding capturedOdts

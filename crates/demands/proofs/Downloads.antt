@@ -25,6 +25,7 @@ use Rattle.session.specs.Perform.{reply}
 use Rattle.session.specs.Receive.{Step, receiveOf}
 use Rattle.words.specs.declared.Command.the-variants as command
 use Rattle.words.specs.declared.Extension.the-variants.{Calibration}
+use Rattle.words.specs.declared.Mta.{Mta}
 use Rattle.words.specs.declared.Mta.the-variants.{At}
 use Rattle.model.specs.declared.Deed.{Deed}
 use Rattle.model.specs.declared.Deed.the-variants.{Upload, Download}
@@ -68,8 +69,10 @@ module _ (p s cal meas : List ℕ) (a n : ℕ) where
       (λ _ e. absurd (fe-ff _ e)))))
 
   the-good : mtaOf s ≡ At Calibration a → getD p 1 0 ≡ n → Good (judgeThe command.Download (numbersOf p) (seenIn (u16At p 2) (sessionOf s)) (length cal) (length meas))
-  unfolding judgeThe
-  the-good there count = rw (there, count) download-good
+  unfolding judgeThe sessionOf
+  the-good there count =
+      subst (λ (m : Mta). Good (downloadDeed m (getD p 1 0) (length p) (length cal))) (sym there)
+      (subst (λ (k : ℕ). Good (downloadDeed (At Calibration a) k (length p) (length cal))) (sym count) download-good)
 
   by-good : mtaOf s ≡ At Calibration a → getD p 1 0 ≡ n → Good (judgeBy command.Download (numbersOf p) (seenIn (u16At p 2) (sessionOf s)) (length cal) (length meas))
   unfolding judgeBy replyIn sessionOf

@@ -1,19 +1,20 @@
 -- An event takes the lists one after the other, and each one's step changes its own store alone. Assumes nothing.
 use Prim.Native.Nat.{ℕ, zero, suc, _+_, _-_, _≤_, _<_}
-use mathlib.Core.Path.{_≡_, refl, sym, ap, subst, _∙_}
+use mathlib.Core.Path.{_≡_, refl, sym, ap, ap₂, subst, _∙_}
 use mathlib.Core.Logic.{_≢_}
 use mathlib.Core.Bool.{Bool, true, false, cond}
-use mathlib.Core.List.{List, [], _∷_}
-use native.Mathlib.Nat.{add-zero}
+use mathlib.Core.List.{List, [], _∷_, _++_}
 use native.Mathlib.Omega.{arith}
-use borrow.Author.Tests.{ltb-false}
-use lib.Dec.{eqb, ltb, lit≤}
+use lib.Dec.{eqb, lit≤}
 use lib.ListN.{length}
 use Rattle.line.proofs.Laws.{cond-ind}
 use Rattle.line.proofs.Stuffed.{false-true}
 use Rattle.state.specs.Layout.{size, lists, sampleAt, firstOdt, odtCount}
-use Rattle.lists.specs.Lists.{runsOf, someStored, unsent}
-use Rattle.state.specs.Lists.{modeOf, storedLength}
+use Rattle.lists.specs.Lists.{runsOf}
+use Rattle.model.specs.Model.{DaqList, hasPacket, somePacket, unsent}
+use Rattle.model.specs.Calls.{samplingIn, contentsIn, packetWith, sampleFrom}
+use Rattle.model.specs.View.{sessionOf}
+use Rattle.model.proofs.Shown.{odt-at}
 use Rattle.lists.specs.Event.{samplingOf, contentsOf, stored, capturedOdts, captured, sampledState, sampledBy, missedBy, tally}
 use Rattle.model.specs.declared.Sampling.{Sampling}
 use Rattle.model.specs.declared.Sampling.the-variants.{Idle, Sampled, Missed}
@@ -22,21 +23,25 @@ use Rattle.lists.proofs.Fitting.{runs-fit}
 use Rattle.fields.proofs.Frames.{Only, only-none, only-then, only-wider}
 use Rattle.fields.proofs.Readers.{Same, before, behind, same-then, runs-reads}
 use Rattle.fields.proofs.Captures.{only-tally}
-use Rattle.demands.specs.Waiting.{waitingOf, sampleFrom, sampleOf, isSampled, isMissed}
+use Rattle.views.proofs.Calls.{captured-only}
+use Rattle.views.proofs.Waits.{Empty, none-waits}
+use Rattle.demands.specs.Waiting.{waitingOf, sampleOf, isSampled, isMissed}
 use Rattle.demands.specs.Demand2.{howMany}
 use Rattle.demands.proofs.Unchanged.{same-sets}
-use Rattle.demands.proofs.Waiting.{Empty, none-from, this-or-other}
-use Rattle.demands.proofs.Samples.{SameStore, sampling-reads, waiting-reads, captured-only, captured-waits}
+use Rattle.demands.proofs.Waiting.{this-or-other}
+use Rattle.demands.proofs.Samples.{SameStore, sampling-reads, waiting-reads, captured-waits}
+use Rattle.demands.proofs.Turns.{no-packet}
 
 -- ---- one list
 -- a list that is sampled runs, and has nothing unsent
-pub sampled-free : (s : List ℕ) (l event : ℕ) → samplingOf s l event ≡ Sampled → (runsOf s l ≡ true) × (unsent s l ≡ false)
-unfolding samplingOf
+pub sampled-free : (s : List ℕ) (l event : ℕ) → samplingOf s l event ≡ Sampled → (runsOf s l ≡ true) × (unsent l (sessionOf s .list l) ≡ false)
+unfolding samplingIn
 sampled-free s l event =
-    let P : Sampling → Type 0 = λ (c : Sampling). c ≡ Sampled → (runsOf s l ≡ true) × (unsent s l ≡ false) in
-    cond-ind P (eqb (modeOf s l) (event + 1))
+    let x : DaqList = sessionOf s .list l in
+    let P : Sampling → Type 0 = λ (c : Sampling). c ≡ Sampled → (runsOf s l ≡ true) × (unsent l x ≡ false) in
+    cond-ind P (eqb (x .mode) (event + 1))
     (λ _. cond-ind P (runsOf s l)
-    (λ r. cond-ind P (unsent s l) (λ _ f. absurd (false-true (ap isSampled f))) (λ u _. (r, u)))
+    (λ r. cond-ind P (unsent l x) (λ _ f. absurd (false-true (ap isSampled f))) (λ u _. (r, u)))
     (λ _ f. absurd (false-true (ap isSampled f))))
     (λ _ f. absurd (false-true (ap isSampled f)))
 
@@ -44,19 +49,17 @@ both-none : (b c : Bool) → cond b true c ≡ false → (b ≡ false) × (c ≡
 both-none true c f = absurd (false-true (sym f))
 both-none false c f = (refl, f)
 
-none-stored : (s : List ℕ) (k n : ℕ) → someStored s k n ≡ false → Empty s k n
-unfolding someStored
-none-stored s k zero e i h = absurd (omega arith)
-none-stored s k (suc n) e i h =
-    let none = both-none (someStored s k n) (ltb 0 (storedLength s (k + n))) e in
-    let last : storedLength s (k + n) ≤ 0 = ltb-false 0 (storedLength s (k + n)) (none .1) in
-    this-or-other i n (λ same. rw same (omega arith)) (λ other. none-stored s k n (none .0) i (omega arith))
+none-stored : (x : DaqList) (n : ℕ) → somePacket x n ≡ false → Empty x 0 n
+unfolding somePacket
+none-stored x zero e i h = absurd (omega arith)
+none-stored x (suc n) e i h =
+    let none = both-none (somePacket x n) (hasPacket (x .odt n)) e in
+    this-or-other i n
+    (λ same. let m : 0 + i ≡ n = omega arith in subst (λ (o : ℕ). x .odt o .store ≡ []) (sym m) (no-packet (x .odt n .store) (none .1)))
+    (λ other. none-stored x n (none .0) i (omega arith))
 
 pub sampled-empty : (s : List ℕ) (l event : ℕ) → samplingOf s l event ≡ Sampled → waitingOf s l ≡ []
-unfolding waitingOf
-sampled-empty s l event e =
-    let free = sampled-free s l event e in
-    rw (free .0) (none-from s (firstOdt l) (odtCount l) (none-stored s (firstOdt l) (odtCount l) (free .1)))
+sampled-empty s l event e = none-waits (sessionOf s) l (none-stored (sessionOf s .list l) (odtCount l) (sampled-free s l event e .1))
 
 sampled-only : (s : List ℕ) (l event clock : ℕ) (cal meas : List ℕ) → length s ≡ size → l < lists
     → Only (sampleAt (firstOdt l)) (sampleAt (firstOdt l + odtCount l)) s (sampledState (samplingOf s l event) s l clock cal meas)
@@ -89,14 +92,16 @@ unfolding stored
 stored-same k bs w = same-sets (sampleAt k) (length bs ∷ bs) w
 
 -- the same contents give the same sample, and the same stores
-samples-alike : (t s : List ℕ) (clock : ℕ) (cal meas : List ℕ) (k n : ℕ) → ((j : ℕ) → j < n → contentsOf t (k + j) clock cal meas ≡ contentsOf s (k + j) clock cal meas) → sampleFrom t k clock cal meas n ≡ sampleFrom s k clock cal meas n
+samples-alike : (t s : List ℕ) (l clock : ℕ) (cal meas : List ℕ) → l < lists → ((j : ℕ) → j < odtCount l → contentsOf t (firstOdt l + j) clock cal meas ≡ contentsOf s (firstOdt l + j) clock cal meas)
+    → (o n : ℕ) → o + n ≤ odtCount l → sampleFrom l (sessionOf t .list l) clock cal meas o n ≡ sampleFrom l (sessionOf s .list l) clock cal meas o n
 unfolding sampleFrom
-samples-alike t s clock cal meas k zero each = refl
-samples-alike t s clock cal meas k (suc n) each =
-    let here : contentsOf t k clock cal meas ≡ contentsOf s k clock cal meas = rw add-zero at (each 0 (omega arith)) in
-    rw (here, samples-alike t s clock cal meas (k + 1) n (λ j h. subst (λ (i : ℕ). contentsOf t i clock cal meas ≡ contentsOf s i clock cal meas) (further j) (each (suc j) (omega arith)))) where
-      further : (j : ℕ) → k + suc j ≡ k + 1 + j
-      further j = omega arith
+samples-alike t s l clock cal meas p each o zero h = refl
+samples-alike t s l clock cal meas p each o (suc n) h =
+    let k : ℕ = firstOdt l + o in
+    ap₂ (λ (ps qs : List (List ℕ)). ps ++ qs)
+    (ap (packetWith k)
+    (ap (contentsIn k clock cal meas) (odt-at t l p o (omega arith)) ∙ each o (omega arith) ∙ ap (contentsIn k clock cal meas) (sym (odt-at s l p o (omega arith)))))
+    (samples-alike t s l clock cal meas p each (o + 1) n (omega arith))
 
 captures-alike : (t s : List ℕ) (clock : ℕ) (cal meas : List ℕ) (k n : ℕ) {a b : ℕ} → ((j : ℕ) → j < n → contentsOf t (k + j) clock cal meas ≡ contentsOf s (k + j) clock cal meas)
     → Same a b s t → Same a b (capturedOdts s k clock cal meas n) (capturedOdts t k clock cal meas n)
@@ -165,7 +170,7 @@ module _ (s : List ℕ) (event clock : ℕ) (cal meas : List ℕ) (long : length
   contents-before l j h q = contents-alike (upTo l) s (λ i r. front-before l h .byte i (omega arith) r) (firstOdt l + j) (omega arith) clock cal meas
 
   sample-before : (l : ℕ) → l < lists → sampleOf (upTo l) l clock cal meas ≡ sampleOf s l clock cal meas
-  sample-before l h = samples-alike (upTo l) s clock cal meas (firstOdt l) (odtCount l) (λ j q. contents-before l j h q)
+  sample-before l h = samples-alike (upTo l) s l clock cal meas h (λ j q. contents-before l j h q) 0 (odtCount l) (omega arith)
 
   -- a list that is sampled has its sample waiting
   pub sampled-waits : (l : ℕ) → l < lists → samplingOf s l event ≡ Sampled → waitingOf (upTo lists) l ≡ sampleOf s l clock cal meas

@@ -9,10 +9,13 @@ use borrow.Author.Tests.{lt-ltb, le-ltb, ltb-true, ltb-false}
 use lib.Dec.{ltb, lit≤}
 use lib.ListN.{length, length-append}
 use Rattle.line.proofs.Stuffed.{false-true}
-use Rattle.state.specs.Layout.{lists, entries, placeAt, sampleAt, firstOdt, size, sessionAt, odtCount}
+use Rattle.state.specs.Layout.{lists, placeAt, sampleAt, firstOdt, size, sessionAt, odtCount}
 use Rattle.state.specs.Bytes.{block}
 use Rattle.state.specs.State.{consistent, openOf, waits, answerOf}
-use Rattle.lists.specs.Event.{samplingOf, captured, tally, happened, eventOf, contentsOf}
+use Rattle.lists.specs.Event.{samplingOf, captured, tally, happened, eventOf}
+use Rattle.model.specs.Model.{DaqList}
+use Rattle.model.specs.Calls.{contentsIn, packetWith, sampleFrom}
+use Rattle.model.specs.View.{sessionOf}
 use Rattle.model.specs.declared.Sampling.{Sampling}
 use Rattle.model.specs.declared.Sampling.the-variants.{Idle, Sampled, Missed}
 use Rattle.words.specs.declared.Evented.the-variants.{Done}
@@ -22,7 +25,7 @@ use Rattle.fields.proofs.Readers.{Same, apart, same-block, open-reads, waits-re
 use Rattle.fields.proofs.Captures.{only-event}
 use Rattle.demands.specs.Slave.{ours}
 use Rattle.demands.specs.Runs.{Event}
-use Rattle.demands.specs.Waiting.{AllBut, waitingOf, sampleOf, isSampled, isMissed, packetWith, sampleFrom}
+use Rattle.demands.specs.Waiting.{AllBut, waitingOf, sampleOf, isSampled, isMissed}
 use Rattle.demands.specs.Demand2.{storeSize, howMany}
 use Rattle.demands.specs.Kept.{gains}
 use Rattle.demands.proofs.Samples.{SameStore, waiting-reads}
@@ -115,12 +118,13 @@ packet-few : (k : ℕ) (bs : List ℕ) → length (packetWith k bs) ≤ 1
 packet-few k [] = omega arith
 packet-few k (b ∷ bs) = omega arith
 
-samples-few : (s : List ℕ) (k clock : ℕ) (cal meas : List ℕ) (n : ℕ) → length (sampleFrom s k clock cal meas n) ≤ n
+samples-few : (l : ℕ) (x : DaqList) (clock : ℕ) (cal meas : List ℕ) (o n : ℕ) → length (sampleFrom l x clock cal meas o n) ≤ n
 unfolding sampleFrom
-samples-few s k clock cal meas zero = omega arith
-samples-few s k clock cal meas (suc n) =
-    let here : List (List ℕ) = packetWith k (contentsOf s k clock cal meas) in
-    omega (arith, length-append here (sampleFrom s (k + 1) clock cal meas n), packet-few k (contentsOf s k clock cal meas), samples-few s (k + 1) clock cal meas n)
+samples-few l x clock cal meas o zero = omega arith
+samples-few l x clock cal meas o (suc n) =
+    let k : ℕ = firstOdt l + o in
+    let bs : List ℕ = contentsIn k clock cal meas (x .odt o) in
+    omega (arith, length-append (packetWith k bs) (sampleFrom l x clock cal meas (o + 1) n), packet-few k bs, samples-few l x clock cal meas (o + 1) n)
 
 pub sample-length : (s : List ℕ) (l clock : ℕ) (cal meas : List ℕ) → length (sampleOf s l clock cal meas) ≤ odtCount l
-sample-length s l clock cal meas = samples-few s (firstOdt l) clock cal meas (odtCount l)
+sample-length s l clock cal meas = samples-few l (sessionOf s .list l) clock cal meas 0 (odtCount l)

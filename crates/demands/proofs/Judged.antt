@@ -232,10 +232,11 @@ module _ (p s : List ℕ) where
 
   -- DOWNLOAD that is not locked
   open-found : lockedBy (needsOf command.Download) (seenIn (u16At p 2) (sessionOf s)) ≡ false → unlockedOf s Calibration ≡ true
+  unfolding sessionOf
   open-found e = not-false (unlockedOf s Calibration) e
 
   the-found : (c : Command) → Coded (getD p 0 0) c → lockedBy (needsOf c) (seenIn (u16At p 2) (sessionOf s)) ≡ false → (nc nm : ℕ) → Has (judgeThe c (numbersOf p) (seenIn (u16At p 2) (sessionOf s)) nc nm)
-  unfolding judgeThe
+  unfolding judgeThe sessionOf
   the-found command.Unknown code free nc nm = tt
   the-found command.Connect code free nc nm = connect-found (getD p 1 0)
   the-found command.Disconnect code free nc nm = tt

@@ -1,9 +1,9 @@
 -- A change of one list: nothing of that list waits after it, and the packets of every other list wait as they did. Assumes nothing.
-use Rattle.demands.proofs.Waiting.{none-from, this-or-other}
+use Rattle.demands.proofs.Waiting.{this-or-other, listed, unlisted-waiting}
 use Prim.Native.Nat.{ℕ, _+_, _<_, zero, suc, _*_, _%_, _≤_}
-use mathlib.Core.Path.{_≡_, refl, sym, subst, _∙_}
+use mathlib.Core.Path.{_≡_, refl, sym, ap, subst, _∙_}
 use mathlib.Core.Logic.{_≢_}
-use mathlib.Core.Bool.{Bool, true, false}
+use mathlib.Core.Bool.{Bool, false}
 use mathlib.Core.List.{List, []}
 use native.Mathlib.Omega.{arith}
 use lib.ListN.{length, getD, set, length-set}
@@ -15,30 +15,36 @@ use Rattle.state.specs.State.{flagOf, openOf}
 use Rattle.lists.specs.Lists.{runsOf, switched, listCleared, modeSet, tagOf, entryCleared, entrySet, dropped}
 use Rattle.words.specs.declared.Extension.{Extension}
 use Rattle.fields.proofs.Stores.{cleared-in}
-use Rattle.fields.proofs.Fields.{empty-stored}
 use Rattle.fields.proofs.Frames.{Only, out-below, only-none, only-then, only-set, only-cleared, only-put16}
+use Rattle.model.specs.Model.{Odt}
+use Rattle.model.specs.View.{sessionOf}
+use Rattle.model.proofs.Shown.{odt-at, runs-at}
+use Rattle.views.proofs.Shows.{store-empty}
+use Rattle.views.proofs.Waits.{rests, none-waits}
 use Rattle.demands.specs.Waiting.{waitingOf}
 use Rattle.demands.proofs.Own.{Own, own-then, own-only, own-set, own-cleared, waiting-reads, own-none}
 
 -- ---- when nothing of a list waits
 -- a list that does not run
 pub rests-waiting : (s : List ℕ) (l : ℕ) → runsOf s l ≡ false → waitingOf s l ≡ []
-unfolding waitingOf
-rests-waiting s l e = rw e
+rests-waiting s l e = rests (sessionOf s) l e
 
-flag-rests : (s : List ℕ) (l : ℕ) → getD s (runningAt l) 0 ≡ 0 → runsOf s l ≡ false
-unfolding runsOf flagOf
-flag-rests s l e = rw e (cond-ind (λ (t : Bool). t ≡ false) (openOf s) (λ _. refl) (λ _. refl))
+flag-rests : (s : List ℕ) (l : ℕ) → l < lists → getD s (runningAt l) 0 ≡ 0 → runsOf s l ≡ false
+unfolding flagOf
+flag-rests s l h e = runs-at s l h ∙ rw e (cond-ind (λ (t : Bool). t ≡ false) (openOf s) (λ _. refl) (λ _. refl))
 
 -- one whose running flag has gone, whatever its entries
 unflagged : {s t : List ℕ} (l : ℕ) → l < lists → getD s (runningAt l) 0 ≡ 0 → Only (entriesAt 0) (sampleAt 0) s t → waitingOf t l ≡ []
-unflagged {s} {t} l l4 e w = rests-waiting t l (flag-rests t l (w .bytes (runningAt l) (out-below (entriesAt 0) (sampleAt 0) (runningAt l) (omega arith)) ∙ e))
+unflagged {s} {t} l l4 e w = rests-waiting t l (flag-rests t l l4 (w .bytes (runningAt l) (out-below (entriesAt 0) (sampleAt 0) (runningAt l) (omega arith)) ∙ e))
 
 -- or one without a packet in store
 stores-waiting : (s : List ℕ) (l : ℕ) → ((i : ℕ) → i < odtCount l → getD s (sampleAt (firstOdt l + i)) 0 ≡ 0) → waitingOf s l ≡ []
-unfolding waitingOf
 stores-waiting s l none =
-    rw (none-from s (firstOdt l) (odtCount l) (λ i h. empty-stored s (firstOdt l + i) (none i h))) (cond-ind (λ (ps : List (List ℕ)). ps ≡ []) (runsOf s l) (λ _. refl) (λ _. refl))
+    listed l
+    (λ p. none-waits (sessionOf s) l (λ i h.
+    let m : i ≡ 0 + i = omega arith in
+    subst (λ (o : ℕ). sessionOf s .list l .odt o .store ≡ []) m (ap (λ (y : Odt). y .store) (odt-at s l p i h) ∙ store-empty s (firstOdt l + i) (none i h))))
+    (unlisted-waiting s l)
 
 -- ---- a change of list j leaves list l's bytes
 module _ {l j : ℕ} (l4 : l < lists) (j4 : j < lists) (n : j ≢ l) (s : List ℕ) where

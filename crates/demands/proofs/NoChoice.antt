@@ -7,12 +7,11 @@ use mathlib.Core.List.{List, [], _++_}
 use native.Mathlib.Omega.{arith}
 use native.Mathlib.Nat.{lt-of-not-le}
 use native.Mathlib.Decide.{decLe, ℕ-discrete}
-use lib.Dec.{lit<}
 use lib.ListN.{length, take, drop, take-append-drop}
 use lib.Seq.{drop-drop}
 use Rattle.line.specs.Message.{room}
 use Rattle.line.proofs.Stuffed.{false-true}
-use Rattle.state.specs.Layout.{lists, size, placeAt, sampleAt, firstOdt}
+use Rattle.state.specs.Layout.{lists, size, sampleAt, firstOdt}
 use Rattle.state.specs.Bytes.{block}
 use Rattle.state.specs.State.{consistent}
 use Rattle.session.specs.Receive.{Step}

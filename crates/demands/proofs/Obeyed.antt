@@ -9,7 +9,7 @@ use Rattle.line.specs.declared.Outcome.{Outcome}
 use Rattle.line.specs.declared.Outcome.the-variants as line
 use Rattle.state.specs.Bytes.{block}
 use Rattle.state.specs.State.{consistent, generatorOf}
-use Rattle.model.specs.Answers.{written}
+use Rattle.model.specs.Answers.{written, doneBy, commandIn}
 use Rattle.session.specs.Perform.{after}
 use Rattle.session.specs.Receive.{Step, fedOf, receiveOf}
 use Rattle.session.proofs.Looked.{judged-doable}
@@ -17,7 +17,6 @@ use Rattle.fields.proofs.Readers.{apart}
 use Rattle.judge.specs.Doable.{Doable}
 use Rattle.model.specs.declared.Deed.{Deed}
 use Rattle.model.specs.Model.{Bytes, Session}
-use Rattle.model.specs.Answers.{doneBy, commandIn}
 use Rattle.model.specs.View.{sessionOf, shown}
 use Rattle.views.specs.Commands.{Obeys}
 use Rattle.views.proofs.Bytes.{bytes-block, fed-bytes}

@@ -1,21 +1,25 @@
 -- A list's own bytes: the packets of it that wait are read from these alone, so a change elsewhere leaves them. Assumes nothing.
-use Prim.Native.Nat.{ℕ, zero, suc, _+_, _*_, _≤_, _<_}
-use mathlib.Core.Path.{_≡_, refl}
+use Prim.Native.Nat.{ℕ, _+_, _≤_, _<_}
+use mathlib.Core.Path.{_≡_, refl, sym, ap, _∙_}
 use mathlib.Core.Bool.{Bool, true, false, cond}
 use mathlib.Core.List.{List}
 use native.Mathlib.Omega.{arith}
 use borrow.Author.Tests.{ltb-false}
 use lib.Dec.{T, ltb, leb, le→leb, lit≤}
 use lib.ListN.{set}
-use Rattle.state.specs.Layout.{entries, size, lists, sessionAt, openAt, calibrationAt, modeAt, selectedAt, runningAt, entriesAt, entryAt, sampleAt, firstOdt, odtCount}
+use Rattle.state.specs.Layout.{size, lists, sessionAt, openAt, calibrationAt, modeAt, selectedAt, runningAt, entriesAt, sampleAt, firstOdt, odtCount}
 use Rattle.state.specs.Bytes.{cleared}
-use Rattle.state.specs.Lists.{sizeOf, modeOf}
-use Rattle.lists.specs.Lists.{bytesOfFirst, odtBytes, fitOf, runsOf, bytesOfOdts, odtsFit}
+use Rattle.state.specs.Lists.{modeOf}
+use Rattle.lists.specs.Lists.{fitOf, runsOf}
+use Rattle.model.specs.Model.{Odt}
+use Rattle.model.specs.View.{sessionOf}
+use Rattle.model.proofs.Shown.{mode-at, odt-at, runs-at, unlisted-fits, unlisted-runs}
+use Rattle.model.proofs.Fits.{fits-same}
 use Rattle.fields.proofs.Stores.{out}
 use Rattle.fields.proofs.Frames.{Only, only-set, only-cleared}
-use Rattle.fields.proofs.Readers.{Same, same-part, same-then, flag-reads, open-reads}
+use Rattle.fields.proofs.Readers.{Same, same-part, same-then, flag-reads, open-reads, entries-own}
 use Rattle.demands.specs.Waiting.{waitingOf}
-use Rattle.demands.proofs.Waiting.{waiting-same}
+use Rattle.demands.proofs.Waiting.{listed, waiting-same}
 
 -- ---- t has the bytes of s that list l's waiting packets are read from: whether a session is open, the list's mode and running flag, the entries
 -- and the stores of its ODTs
@@ -90,35 +94,31 @@ own-cleared s i n m = own-only m (only-cleared s i n (omega arith) (omega arith)
 
 -- ---- what is read from them
 module _ {s t : List ℕ} where
-  first-own : (k n : ℕ) → n ≤ entries → Same (entriesAt k) (entriesAt (k + 1)) s t → bytesOfFirst t k n ≡ bytesOfFirst s k n
-  unfolding bytesOfFirst sizeOf
-  first-own k zero h w = refl
-  first-own k (suc n) h w = rw (first-own k n (omega arith) w, w .byte (entryAt k n) (omega arith) (omega arith))
-
-  odt-own : (k : ℕ) → Same (entriesAt k) (entriesAt (k + 1)) s t → odtBytes t k ≡ odtBytes s k
-  odt-own k w = first-own k entries (lit≤ tt) w
-
   pub mode-own : (l : ℕ) → Own l s t → modeOf t l ≡ modeOf s l
   unfolding modeOf
   mode-own l w = rw (w .mode .byte (modeAt l) (omega arith) (omega arith))
 
-  bytes-own : (k n : ℕ) → Same (entriesAt k) (entriesAt (k + n)) s t → bytesOfOdts t k n ≡ bytesOfOdts s k n
-  unfolding bytesOfOdts
-  bytes-own k zero w = refl
-  bytes-own k (suc n) w = rw (bytes-own k n (same-part (omega arith) (omega arith) w), odt-own (k + n) (same-part (omega arith) (omega arith) w))
+  module _ (l : ℕ) (there : l < lists) (w : Own l s t) where
+    entered-own : (o : ℕ) → o < odtCount l → sessionOf t .list l .odt o .entry ≡ sessionOf s .list l .odt o .entry
+    entered-own o h =
+        ap (λ (y : Odt). y .entry) (odt-at t l there o h) ∙ entries-own (firstOdt l + o) (same-part (omega arith) (omega arith) (w .entered)) ∙ ap (λ (y : Odt). y .entry) (sym (odt-at s l there o h))
 
-  odts-own : (k n : ℕ) → Same (entriesAt k) (entriesAt (k + n)) s t → odtsFit t k n ≡ odtsFit s k n
-  unfolding odtsFit
-  odts-own k zero w = refl
-  odts-own k (suc n) w = rw (odts-own k n (same-part (omega arith) (omega arith) w), odt-own (k + n) (same-part (omega arith) (omega arith) w))
+    set-own : sessionOf t .list l .mode ≡ sessionOf s .list l .mode
+    set-own = mode-at t l there ∙ mode-own l w ∙ sym (mode-at s l there)
+
+    listed-fit : fitOf t l ≡ fitOf s l
+    listed-fit = fits-same l (sessionOf t .list l) (sessionOf s .list l) entered-own set-own
+
+    listed-runs : runsOf t l ≡ runsOf s l
+    listed-runs =
+        runs-at t l there
+        ∙ rw (open-reads (w .opened), flag-reads (runningAt l) (same-part (omega arith) (omega arith) (w .running)), listed-fit) (sym (runs-at s l there))
 
   pub fit-own : (l : ℕ) → Own l s t → fitOf t l ≡ fitOf s l
-  unfolding fitOf
-  fit-own l w = rw (mode-own l w, bytes-own (firstOdt l) (odtCount l) (w .entered), odts-own (firstOdt l) (odtCount l) (w .entered))
+  fit-own l w = listed l (λ p. listed-fit l p w) (λ p. unlisted-fits t l p ∙ sym (unlisted-fits s l p))
 
   pub runs-own : (l : ℕ) → Own l s t → runsOf t l ≡ runsOf s l
-  unfolding runsOf
-  runs-own l w = rw (open-reads (w .opened), flag-reads (runningAt l) (same-part (omega arith) (omega arith) (w .running)), fit-own l w)
+  runs-own l w = listed l (λ p. listed-runs l p w) (λ p. unlisted-runs t l p ∙ sym (unlisted-runs s l p))
 
   pub waiting-reads : (l : ℕ) → Own l s t → waitingOf t l ≡ waitingOf s l
   waiting-reads l w = waiting-same l (runs-own l w) (w .stores)

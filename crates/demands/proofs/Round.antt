@@ -5,7 +5,7 @@ use mathlib.Core.Logic.{_≢_}
 use native.Mathlib.Omega.{arith}
 use native.Mathlib.Nat.{mod-lt, mod-eq-of-lt, mod-add-mod, mul-add-mod-self-left, div-add-mod, lt-of-not-le}
 use native.Mathlib.Decide.{decLe}
-use Rattle.lists.specs.Slot.{orElse, roundFrom}
+use Rattle.model.specs.Calls.{orElse, roundFrom}
 use Rattle.model.specs.declared.Turn.{Turn}
 use Rattle.model.specs.declared.Turn.the-variants.{Nobody, Answer, Packet}
 

@@ -1,5 +1,5 @@
 -- What a slot sends: the frame of the packet whose turn it is, one at most, and what it leaves. Assumes nothing.
-use Prim.Native.Nat.{ℕ, _+_, _*_, _≤_, _<_}
+use Prim.Native.Nat.{ℕ, _≤_, _<_}
 use mathlib.Core.Path.{_≡_, refl, ap, _∙_}
 use mathlib.Core.Bool.{true, false}
 use mathlib.Core.List.{List, [], _∷_}
@@ -23,13 +23,12 @@ use Rattle.words.specs.declared.Slotted.the-variants.{NoRoom}
 use Rattle.model.specs.declared.Turn.{Turn}
 use Rattle.model.specs.declared.Turn.the-variants.{Nobody, Answer, Packet}
 use Rattle.state.proofs.Consistent.{consistent-size}
-use Rattle.fields.proofs.Readers.{answer-most}
-use Rattle.state.proofs.Sets.{block-length}
 use Rattle.demands.specs.Slave.{ours}
 use Rattle.demands.specs.Runs.{SendingSlot, frameIn, sends}
 use Rattle.demands.specs.Waiting.{AllBut, packetFor}
 use Rattle.demands.specs.Demand2.{ReadsBack}
-use Rattle.demands.proofs.Waiting.{stored-most, packet-length}
+use Rattle.model.proofs.Shown.{stored-most, answer-most, answer-long}
+use Rattle.demands.proofs.Waiting.{packet-length}
 use Rattle.demands.proofs.Turns.{Fair, nobody, answer, list, fair}
 
 -- ---- with room, and without
@@ -60,10 +59,6 @@ pub slot-state : (s out : List ℕ) → consistent s ≡ true → room ≤ lengt
 slot-state s out c h = ap (λ (o : Slot). o .state) (slot-is s out c h) ∙ sent-state (turnOf s) s out
 
 -- ---- what a frame is made of
-pub answer-length : (s : List ℕ) → length s ≡ size → length (answerOf s) ≡ answerLength s
-unfolding answerOf
-answer-length s h = block-length (set s answerBytesAt (answerKind s)) answerBytesAt (answerLength s) (rw length-set (omega (arith, answer-most s)))
-
 -- 1 to 8 bytes
 pub record Packed (p : List ℕ) : Type 0 where
   pub some : 1 ≤ length p
@@ -72,7 +67,7 @@ pub record Packed (p : List ℕ) : Type 0 where
 pub answer-packed : (s : List ℕ) → length s ≡ size → waits s ≡ true → Packed (answerOf s)
 answer-packed s h w =
     let n : 0 < answerLength s = ltb-true 0 (answerLength s) w in
-    record { some = rw (answer-length s h) n; few = rw (answer-length s h) (answer-most s) }
+    record { some = rw (answer-long s h) n; few = rw (answer-long s h) (answer-most s) }
 
 pub packet-packed : (s : List ℕ) (k : ℕ) → length s ≡ size → k < allOdts → Packed (packetOf s k)
 packet-packed s k h q = record { some = rw (packet-length s k h q) (omega arith); few = rw (packet-length s k h q) (omega (arith, stored-most s k)) }

@@ -11,11 +11,14 @@ use lib.Dec.{leb, lit≤}
 use lib.ListN.{length, getD}
 use Rattle.line.specs.Message.{room, frame}
 use Rattle.line.proofs.Laws.{cond-ind}
-use Rattle.state.specs.Layout.{size, lists, lastAt, servedAt, placeAt, sampleAt}
+use Rattle.state.specs.Layout.{size, lastAt, servedAt, placeAt, sampleAt}
 use Rattle.state.specs.State.{consistent, flagOf, ctrOf, waits, answerOf}
 use Rattle.session.specs.Receive.{receiveOf}
 use Rattle.lists.specs.Event.{eventOf}
-use Rattle.lists.specs.Slot.{packetIn, orElse, roundFrom, turnOf, packetOf, packetSent, slotOf}
+use Rattle.lists.specs.Slot.{turnOf, packetOf, packetSent, slotOf}
+use Rattle.model.specs.Calls.{orElse, roundIn}
+use Rattle.model.specs.View.{sessionOf}
+use Rattle.model.proofs.Shown.{turn-at}
 use Rattle.model.specs.declared.Turn.{Turn}
 use Rattle.model.specs.declared.Turn.the-variants.{Answer, Packet}
 use Rattle.state.proofs.Consistent.{consistent-size}
@@ -60,10 +63,9 @@ or-soon s _ f (answer w) = now
 or-soon s _ f (list j k n) = next j k n f
 
 soon : (s : List ℕ) → length s ≡ size → waits s ≡ true → Soon s (turnOf s)
-unfolding turnOf
 soon s h w =
-    rw w
-    (cond-ind (Soon s) (flagOf s lastAt) (λ f. or-soon s (roundFrom lists (packetIn s) (getD s servedAt 0 + 1) lists) f (round-fair s h)) (λ _. now))
+    subst (Soon s) (sym (turn-at s h))
+    (rw w (cond-ind (Soon s) (flagOf s lastAt) (λ f. or-soon s (roundIn (sessionOf s) (getD s servedAt 0)) f (round-fair s h)) (λ _. now)))
 
 -- how many slots it takes, by whether the last frame was an answer
 abbrev need : Bool → ℕ

@@ -1,34 +1,38 @@
 -- Whose turn it is has something waiting, and with a packet of a list waiting its turn comes. Assumes nothing.
-use borrow.Author.Tests.{ltb-false}
+use borrow.Author.Tests.{lt-ltb}
 use Prim.Native.Nat.{ℕ, suc, _+_, _-_, _%_, _≤_, _<_, zero}
 use mathlib.Core.Path.{_≡_, refl, sym, ap, _∙_, subst}
 use mathlib.Core.Logic.{_≢_}
-use mathlib.Core.Bool.{true, false, Bool}
+use mathlib.Core.Bool.{true, false}
 use mathlib.Core.List.{List, [], _∷_}
 use native.Mathlib.Omega.{arith}
 use native.Mathlib.Nat.{mod-lt}
 use native.Mathlib.Decide.{ℕ-discrete}
-use lib.Dec.{ltb, lit<, eqb}
+use lib.Dec.{ltb, lit<}
 use lib.ListN.{length, getD}
-use Rattle.line.proofs.Laws.{cond-ind}
+use Rattle.line.proofs.Laws.{false-true, cond-ind}
 use Rattle.state.specs.Layout.{size, lists, servedAt, lastAt, firstOdt, listOf, allOdts, odtCount}
 use Rattle.state.specs.State.{flagOf, waits}
 use Rattle.lists.specs.Lists.{runsOf}
-use Rattle.state.specs.Lists.{storedLength}
-use Rattle.lists.specs.Slot.{packetIn, orElse, roundFrom, turnOf, packetOf, packetSent, firstStored}
+use Rattle.lists.specs.Slot.{turnOf, packetOf, packetSent}
+use Rattle.model.specs.Model.{Odt, DaqList, Session, hasPacket, inStores, waitingIn}
+use Rattle.model.specs.Step.{at}
+use Rattle.model.specs.Calls.{withoutPacket, firstPacket, packetIn, orElse, roundIn}
+use Rattle.model.specs.View.{sessionOf}
 use Rattle.model.specs.declared.Turn.{Turn}
 use Rattle.model.specs.declared.Turn.the-variants.{Nobody, Answer, Packet}
+use Rattle.model.proofs.Shown.{odt-at, turn-at}
 use Rattle.lists.proofs.Round.{or-holds, round-holds}
-use Rattle.demands.specs.Waiting.{packetsFrom, waitingOf}
+use Rattle.views.proofs.Waits.{rests, Empty, none-waits, first-waits, first-sent, sent-others}
+use Rattle.demands.specs.Waiting.{waitingOf}
 use Rattle.demands.proofs.Round.{packet-some, round-finds, Far, nearer}
-use Rattle.demands.proofs.Waiting.{Empty, none-from, sent-others, first-waits, first-sent, this-or-other}
+use Rattle.demands.proofs.Waiting.{this-or-other, sent-session}
 
 -- ODT k's packet is the next one of list j: what waits of the list, and what waits of it and of the others once it is sent
 pub record Next (s : List ℕ) (j k : ℕ) : Type 0 where
   pub list : listOf k ≡ j
   pub inside : j < lists
   pub odt : k < allOdts
-  pub some : ltb 0 (storedLength s k) ≡ true
   pub rest : List (List ℕ)
   pub waiting : waitingOf s j ≡ packetOf s k ∷ rest
   pub left : waitingOf (packetSent s k) j ≡ rest
@@ -39,48 +43,45 @@ pub data Has (s : List ℕ) (j : ℕ) : Turn → Type 0 where
   nothing : waitingOf s j ≡ [] → Has s j Nobody
   packet : (k : ℕ) → Next s j k → Has s j (Packet k)
 
+pub no-packet : (bs : List ℕ) → ltb 0 (length bs) ≡ false → bs ≡ []
+no-packet [] e = refl
+no-packet (b ∷ bs) e = absurd (false-true (sym e ∙ lt-ltb 0 (length (b ∷ bs)) (omega arith)))
+
 module _ (s : List ℕ) (h : length s ≡ size) (j : ℕ) (q : j < lists) where
-  next : runsOf s j ≡ true → (d n : ℕ) → d + suc n ≡ odtCount j → Empty s (firstOdt j) d → ltb 0 (storedLength s (firstOdt j + d)) ≡ true → Next s j (firstOdt j + d)
+  abbrev x : DaqList
+  x = sessionOf s .list j
+
+  next : runsOf s j ≡ true → (d n : ℕ) → d + suc n ≡ odtCount j → Empty x 0 d → hasPacket (x .odt d) ≡ true → Next s j (firstOdt j + d)
+  unfolding packetOf
   next r d n e none a =
+      let sent : sessionOf (packetSent s (firstOdt j + d)) ≡ at j (withoutPacket d) (sessionOf s) = sent-session s j d h q (omega arith) in
       record {
         list = omega arith;
         inside = q;
         odt = omega arith;
-        some = a;
-        rest = packetsFrom s (firstOdt j + d + 1) n;
-        waiting = first-waits s j d n h q r e none a;
-        left = first-sent s j d n h q r e none;
-        others = λ l m z. sent-others s (firstOdt j + d) l m (λ f. z (omega arith));
+        rest = inStores j x (d + 1) n;
+        waiting = first-waits (sessionOf s) j d n r e none a ∙ ap (λ (y : Odt). ((firstOdt j + d) ∷ y .store) ∷ inStores j x (d + 1) n) (odt-at s j q d (omega arith));
+        left = ap (λ (c : Session). waitingIn c j) sent ∙ first-sent (sessionOf s) j d n r e none;
+        others = λ l m z. ap (λ (c : Session). waitingIn c l) sent ∙ sent-others (sessionOf s) j d l z;
       }
 
-  none-stored : runsOf s j ≡ true → Empty s (firstOdt j) (odtCount j) → waitingOf s j ≡ []
-  unfolding waitingOf
-  none-stored r none = rw r (none-from s (firstOdt j) (odtCount j) none)
-
-  none-runs : runsOf s j ≡ false → waitingOf s j ≡ []
-  unfolding waitingOf
-  none-runs r = rw r
-
   -- one ODT more without a packet
-  more : (d : ℕ) → Empty s (firstOdt j) d → ltb 0 (storedLength s (firstOdt j + d)) ≡ false → Empty s (firstOdt j) (suc d)
+  more : (d : ℕ) → Empty x 0 d → hasPacket (x .odt d) ≡ false → Empty x 0 (d + 1)
   more d none a i z =
-      let last : storedLength s (firstOdt j + d) ≤ 0 = ltb-false 0 (storedLength s (firstOdt j + d)) a in
-      this-or-other i d (λ e. rw e (omega arith)) (λ other. none i (omega arith))
+      this-or-other i d
+      (λ e. let m : 0 + i ≡ d = omega arith in subst (λ (o : ℕ). x .odt o .store ≡ []) (sym m) (no-packet (x .odt d .store) a))
+      (λ other. none i (omega arith))
 
-  from : runsOf s j ≡ true → (d n : ℕ) → d + n ≡ odtCount j → Empty s (firstOdt j) d → Has s j (firstStored s (firstOdt j + d) n)
-  unfolding firstStored
-  from r d zero e none = nothing (none-stored r (let f : d ≡ odtCount j = omega arith in rw f at none))
+  from : runsOf s j ≡ true → (d n : ℕ) → d + n ≡ odtCount j → Empty x 0 d → Has s j (firstPacket j x d n)
+  unfolding firstPacket
+  from r d zero e none = nothing (none-waits (sessionOf s) j (let f : d ≡ odtCount j = omega arith in subst (λ (m : ℕ). Empty x 0 m) f none))
   from r d (suc n) e none =
-      let there : firstOdt j + suc d ≡ firstOdt j + d + 1 = omega arith in
-      cond-ind (Has s j) (ltb 0 (storedLength s (firstOdt j + d)))
-      (λ a. packet (firstOdt j + d) (next r d n e none a))
-      (λ a. rw there at (from r (suc d) n (omega arith) (more d none a)))
+      cond-ind (Has s j) (hasPacket (x .odt d)) (λ a. packet (firstOdt j + d) (next r d n e none a)) (λ a. from r (d + 1) n (omega arith) (more d none a))
 
-  pub has : Has s j (packetIn s j)
+  pub has : Has s j (packetIn (sessionOf s) j)
   unfolding packetIn
   has =
-      let here : firstOdt j + 0 ≡ firstOdt j = omega arith in
-      cond-ind (Has s j) (runsOf s j) (λ r. rw here at (from r 0 (odtCount j) (omega arith) (λ i z. absurd (nothing-below i z)))) (λ r. nothing (none-runs r))
+      cond-ind (Has s j) (runsOf s j) (λ r. from r 0 (odtCount j) (omega arith) (λ i z. absurd (nothing-below i z))) (λ r. nothing (rests (sessionOf s) j r))
     where
       nothing-below : (i : ℕ) → i < 0 → ⊥
       nothing-below i z = omega arith
@@ -95,16 +96,15 @@ fair-has : (s : List ℕ) (j : ℕ) (t : Turn) → Has s j t → Fair s t
 fair-has s j _ (nothing e) = nobody
 fair-has s j _ (packet k n) = list j k n
 
-pub round-fair : (s : List ℕ) → length s ≡ size → Fair s (roundFrom lists (packetIn s) (getD s servedAt 0 + 1) lists)
-round-fair s h = round-holds (Fair s) lists (packetIn s) (lit< tt) nobody (λ j q. fair-has s j (packetIn s j) (has s h j q)) (getD s servedAt 0 + 1) lists
+pub round-fair : (s : List ℕ) → length s ≡ size → Fair s (roundIn (sessionOf s) (getD s servedAt 0))
+round-fair s h = round-holds (Fair s) lists (packetIn (sessionOf s)) (lit< tt) nobody (λ j q. fair-has s j (packetIn (sessionOf s) j) (has s h j q)) (getD s servedAt 0 + 1) lists
 
 pub fair : (s : List ℕ) → length s ≡ size → Fair s (turnOf s)
-unfolding turnOf
 fair s h =
     let round = round-fair s h in
-    cond-ind (Fair s) (waits s)
-    (λ w. cond-ind (Fair s) (flagOf s lastAt) (λ _. or-holds (Fair s) (roundFrom lists (packetIn s) (getD s servedAt 0 + 1) lists) Answer round (answer w)) (λ _. answer w))
-    (λ _. round)
+    subst (Fair s) (sym (turn-at s h)) (cond-ind (Fair s) (waits s)
+    (λ w. cond-ind (Fair s) (flagOf s lastAt) (λ _. or-holds (Fair s) (roundIn (sessionOf s) (getD s servedAt 0)) Answer round (answer w)) (λ _. answer w))
+    (λ _. round))
 
 -- ---- while a packet of list l waits, and its turn is `far` lists on: an answer goes, after a frame that was none; or its own packet; or that of a
 -- list from which it is nearer
@@ -133,19 +133,19 @@ has-some s l p ps e _ (packet k x) n = packet-some k n
 
 -- the next list round
 round-moves : (s : List ℕ) (l : ℕ) (p : List ℕ) (ps : List (List ℕ)) → length s ≡ size → l < lists → waitingOf s l ≡ p ∷ ps → (f : Far lists (getD s servedAt 0) l)
-    → Moves s l (f .far) (roundFrom lists (packetIn s) (getD s servedAt 0 + 1) lists)
+    → Moves s l (f .far) (roundIn (sessionOf s) (getD s servedAt 0))
 round-moves s l p ps h q e f =
     let z : ℕ = getD s servedAt 0 in
     let far : ℕ = f .far in
     let at : (z + 1 + (far - 1)) % lists ≡ l = turn z far (f .some) (f .turn) in
-    let there : packetIn s ((z + 1 + (far - 1)) % lists) ≢ Nobody = rw at (has-some s l p ps e (packetIn s l) (has s h l q)) in
-    let r = round-finds lists (packetIn s) (z + 1) (far - 1) lists (omega (arith, f .some, f .most)) there in
+    let there : packetIn (sessionOf s) ((z + 1 + (far - 1)) % lists) ≢ Nobody = rw at (has-some s l p ps e (packetIn (sessionOf s) l) (has s h l q)) in
+    let r = round-finds lists (packetIn (sessionOf s)) (z + 1) (far - 1) lists (omega (arith, f .some, f .most)) there in
     let j : ℕ = (z + 1 + r .steps) % lists in
     let less : j < lists = mod-lt (z + 1 + r .steps) (lit< tt) in
     let y : (j + (far - (1 + r .steps))) % lists ≡ l = back z far (r .steps) (f .some) (r .near) (f .turn) in
     let b : far - (1 + r .steps) < far = omega (arith, f .some) in
     found-moves s l far j (far - (1 + r .steps)) (λ n. apart j (far - (1 + r .steps)) less y n) b y
-    (roundFrom lists (packetIn s) (z + 1) lists) (r .some) (rw (r .whose) (has s h j less)) where
+    (roundIn (sessionOf s) z) (r .some) (rw (r .whose) (has s h j less)) where
       turn : (z far : ℕ) → 1 ≤ far → (z + far) % lists ≡ l → (z + 1 + (far - 1)) % lists ≡ l
       turn z far a b = let c : z + 1 + (far - 1) ≡ z + far = omega arith in rw c b
 
@@ -157,10 +157,9 @@ round-moves s l p ps h q e f =
 
 pub moves : (s : List ℕ) (l : ℕ) (p : List ℕ) (ps : List (List ℕ)) → length s ≡ size → l < lists → waitingOf s l ≡ p ∷ ps → (f : Far lists (getD s servedAt 0) l)
     → Moves s l (f .far) (turnOf s)
-unfolding turnOf
 moves s l p ps h q e f =
     let round = round-moves s l p ps h q e f in
     let M : Turn → Type 0 = Moves s l (f .far) in
-    cond-ind M (waits s)
-    (λ w. cond-ind M (flagOf s lastAt) (λ _. or-moves s l (f .far) (roundFrom lists (packetIn s) (getD s servedAt 0 + 1) lists) round) (λ z. by-answer w z))
-    (λ _. round)
+    subst M (sym (turn-at s h)) (cond-ind M (waits s)
+    (λ w. cond-ind M (flagOf s lastAt) (λ _. or-moves s l (f .far) (roundIn (sessionOf s) (getD s servedAt 0)) round) (λ z. by-answer w z))
+    (λ _. round))

@@ -1,18 +1,18 @@
 -- What waits to be sent, what a frame carries, and what a sample is.
-use Prim.Native.Nat.{ℕ, zero, suc, _+_}
+use Prim.Native.Nat.{ℕ}
 use mathlib.Core.Path.{_≡_}
 use mathlib.Core.Bool.{Bool, true, false, cond}
-use mathlib.Core.List.{List, [], _∷_, _++_}
-use lib.Dec.{eqb, ltb, leb}
+use mathlib.Core.List.{List, [], _∷_}
+use lib.Dec.{eqb, leb}
 use lib.ListN.{length, getD, take, drop}
 use Rattle.line.specs.Wire.{unstuff}
-use Rattle.state.specs.Layout.{firstOdt, odtCount, listOf}
+use Rattle.state.specs.Layout.{listOf}
 use Rattle.state.specs.Bytes.{block}
 use Rattle.state.specs.State.{waits, answerOf}
-use Rattle.lists.specs.Lists.{runsOf}
-use Rattle.state.specs.Lists.{storedLength}
-use Rattle.lists.specs.Event.{contentsOf}
 use Rattle.lists.specs.Slot.{packetOf}
+use Rattle.model.specs.Model.{waitingIn}
+use Rattle.model.specs.Calls.{sampleIn}
+use Rattle.model.specs.View.{sessionOf}
 use Rattle.model.specs.declared.Sampling.{Sampling}
 use Rattle.model.specs.declared.Sampling.the-variants.{Idle, Sampled, Missed}
 use Rattle.model.specs.declared.Turn.{Turn}
@@ -28,18 +28,9 @@ pub record AllBut (lo hi : ℕ) (s t : List ℕ) : Type 0 where
 abbrev pub waitingAnswer : List ℕ → List (List ℕ)
 waitingAnswer s = cond (waits s) (answerOf s ∷ []) []
 
--- ODT k's packet, if one is in store
-abbrev pub packetStored : List ℕ → ℕ → List (List ℕ)
-packetStored s k = cond (ltb 0 (storedLength s k)) (packetOf s k ∷ []) []
-
--- those of the n ODTs from k on
-unfoldable pub packetsFrom : List ℕ → ℕ → ℕ → List (List ℕ)
-packetsFrom s k zero = []
-packetsFrom s k (suc n) = packetStored s k ++ packetsFrom s (k + 1) n
-
 -- the packets of list l that wait, in the order in which they leave
-unfoldable pub waitingOf : List ℕ → ℕ → List (List ℕ)
-waitingOf s l = cond (runsOf s l) (packetsFrom s (firstOdt l) (odtCount l)) []
+abbrev pub waitingOf : List ℕ → ℕ → List (List ℕ)
+waitingOf s l = waitingIn (sessionOf s) l
 
 -- the packet of whose turn it is
 abbrev pub packetFor : Turn → List ℕ → List (List ℕ)
@@ -47,18 +38,9 @@ packetFor Nobody s = []
 packetFor Answer s = answerOf s ∷ []
 packetFor (Packet k) s = packetOf s k ∷ []
 
--- ---- a sample of list l, a packet for each of its ODTs that has something to send: the ODT's number, in the first ODT the clock, and the bytes in
--- entry order, each as the memories hold it, 0 if not inside. So the first ODT always has one, a later one only if it has bytes
-abbrev pub packetWith : ℕ → List ℕ → List (List ℕ)
-packetWith k [] = []
-packetWith k (b ∷ bs) = (k ∷ b ∷ bs) ∷ []
-
-unfoldable pub sampleFrom : List ℕ → ℕ → ℕ → List ℕ → List ℕ → ℕ → List (List ℕ)
-sampleFrom s k clock cal meas zero = []
-sampleFrom s k clock cal meas (suc n) = packetWith k (contentsOf s k clock cal meas) ++ sampleFrom s (k + 1) clock cal meas n
-
+-- ---- a sample of list l, as the memories are now
 abbrev pub sampleOf : List ℕ → ℕ → ℕ → List ℕ → List ℕ → List (List ℕ)
-sampleOf s l clock cal meas = sampleFrom s (firstOdt l) clock cal meas (odtCount l)
+sampleOf s l clock cal meas = sampleIn (sessionOf s) l clock cal meas
 
 abbrev pub isSampled : Sampling → Bool
 isSampled Idle = false

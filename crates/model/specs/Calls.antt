@@ -111,6 +111,20 @@ sampledFirst n l clock cal meas x = record {
 abbrev pub sampled : ℕ → ℕ → List ℕ → List ℕ → DaqList → DaqList
 sampled l clock cal meas x = sampledFirst (odtCount l) l clock cal meas x
 
+-- ---- a sample of list l, a packet for each of its ODTs that has something to send: the ODT's number, and what is captured of it. So the first ODT always
+-- has one, a later one only if it has bytes
+abbrev pub packetWith : ℕ → List ℕ → List (List ℕ)
+packetWith k [] = []
+packetWith k (b ∷ bs) = (k ∷ b ∷ bs) ∷ []
+
+-- of the n ODTs from o on
+unfoldable pub sampleFrom : ℕ → DaqList → ℕ → List ℕ → List ℕ → ℕ → ℕ → List (List ℕ)
+sampleFrom l x clock cal meas o zero = []
+sampleFrom l x clock cal meas o (suc n) = packetWith (firstOdt l + o) (contentsIn (firstOdt l + o) clock cal meas (x .odt o)) ++ sampleFrom l x clock cal meas (o + 1) n
+
+abbrev pub sampleIn : Session → ℕ → ℕ → List ℕ → List ℕ → List (List ℕ)
+sampleIn c l clock cal meas = sampleFrom l (c .list l) clock cal meas 0 (odtCount l)
+
 -- ---- power-up: the last list counts as served last, the last frame as no answer
 abbrev pub poweredUp : ℕ → Slave
 poweredUp start = record { session = blank (startOf start) false; place = Outside; message = replicate longest 0; answer = []; ctr = 0; served = lastList; lastAnswer = false }

@@ -236,7 +236,7 @@ module _ (s : List ℕ) (l clock : ℕ) (cal meas : List ℕ) (long : length s �
       (λ b. let other : j ≢ n = eqb-false j n b in
       store-own (k + j) (spared (stored-only t (k + n) bs whole (omega arith) (few n (omega arith))) (omega arith)) ∙ first-store n j (omega arith) (omega arith))
 
-  captured-only : Only (sampleAt (firstOdt l)) (sampleAt (firstOdt l + odtCount l)) s (captured s l clock cal meas)
+  pub captured-only : Only (sampleAt (firstOdt l)) (sampleAt (firstOdt l + odtCount l)) s (captured s l clock cal meas)
   captured-only = first-only (odtCount l) (omega arith)
 
   captured-odt : (o : ℕ) → o < odtCount l → odtOf (captured s l clock cal meas) (firstOdt l + o) ≡ withPacket (contentsIn (firstOdt l + o) clock cal meas (odtOf s (firstOdt l + o))) (odtOf s (firstOdt l + o))

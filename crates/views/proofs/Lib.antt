@@ -5,6 +5,7 @@ pub mod Fit
 pub mod Shows
 pub mod Effect
 pub mod Calls
+pub mod Waits
 pub mod Done
 pub mod Taken
 pub mod MemoryLaws

@@ -1,0 +1,162 @@
+-- What waits of a list, by whether it runs and what its ODTs have in store; what a sent packet and a sample make of it. Assumes nothing.
+use Prim.Native.Nat.{ℕ, zero, suc, _+_, _≤_, _<_}
+use mathlib.Core.Path.{_≡_, refl, ap, ap₂, subst, _∙_}
+use mathlib.Core.Logic.{_≢_}
+use mathlib.Core.Bool.{Bool, true, false, cond}
+use mathlib.Core.List.{List, [], _∷_, _++_}
+use native.Mathlib.Nat.{add-zero}
+use native.Mathlib.Omega.{arith}
+use borrow.Author.Tests.{eqb-true, eq-eqb, ne-eqb, lt-ltb}
+use lib.Dec.{eqb, ltb}
+use lib.ListN.{length}
+use Rattle.line.proofs.Laws.{cond-ind}
+use Rattle.state.specs.Layout.{firstOdt, odtCount}
+use Rattle.model.specs.declared.Sampling.{Sampling}
+use Rattle.model.specs.declared.Sampling.the-variants.{Idle, Sampled, Missed}
+use Rattle.model.specs.Model.{put, Odt, DaqList, Session, runsIn, hasPacket, somePacket, inStore, inStores, waiting, waitingIn}
+use Rattle.model.specs.Step.{emptied, at}
+use Rattle.model.specs.Calls.{withoutPacket, samplingIn, contentsIn, sampled, packetWith, sampleFrom, sampleIn}
+use Rattle.model.proofs.Bounded.{either}
+use Rattle.model.proofs.Fits.{runs-same}
+
+-- ---- by the stores
+module _ (l : ℕ) (x z : DaqList) where
+  stores-same : (o n : ℕ) → ((i : ℕ) → o ≤ i → i < o + n → x .odt i .store ≡ z .odt i .store) → inStores l x o n ≡ inStores l z o n
+  unfolding inStores
+  stores-same o zero h = refl
+  stores-same o (suc n) h =
+      ap₂ (λ (ps qs : List (List ℕ)). ps ++ qs) (ap (λ (bs : List ℕ). cond (ltb 0 (length bs)) (((firstOdt l + o) ∷ bs) ∷ []) []) (h o (omega arith) (omega arith)))
+      (stores-same (o + 1) n (λ i p q. h i (omega arith) (omega arith)))
+
+  packets-same : (n : ℕ) → ((i : ℕ) → i < n → x .odt i .store ≡ z .odt i .store) → somePacket x n ≡ somePacket z n
+  unfolding somePacket
+  packets-same zero h = refl
+  packets-same (suc n) h = ap₂ (λ (b c : Bool). cond b true c) (packets-same n (λ i p. h i (omega arith))) (ap (λ (bs : List ℕ). ltb 0 (length bs)) (h n (omega arith)))
+
+module _ (c d : Session) (l : ℕ) (run : runsIn c l ≡ runsIn d l) (stores : (o : ℕ) → o < odtCount l → c .list l .odt o .store ≡ d .list l .odt o .store) where
+  pub waiting-same : waitingIn c l ≡ waitingIn d l
+  unfolding waiting
+  waiting-same = ap₂ (λ (b : Bool) (ps : List (List ℕ)). cond b ps []) run (stores-same l (c .list l) (d .list l) 0 (odtCount l) (λ i p q. stores i (omega arith)))
+
+  pub sampling-same : (event : ℕ) → c .list l .mode ≡ d .list l .mode → samplingIn c l event ≡ samplingIn d l event
+  unfolding samplingIn
+  sampling-same event m =
+      ap₂ (λ (n : ℕ) (t : Sampling). cond (eqb n (event + 1)) t Idle) m
+      (ap₂ (λ (r u : Bool). cond r (cond u Missed Sampled) Idle) run (packets-same l (c .list l) (d .list l) (odtCount l) stores))
+
+-- ---- nothing waits of a list that does not run
+pub rests : (c : Session) (l : ℕ) → runsIn c l ≡ false → waitingIn c l ≡ []
+unfolding waiting
+rests c l e = ap (λ (b : Bool). cond b (inStores l (c .list l) 0 (odtCount l)) []) e
+
+-- ODTs with nothing in store are passed over
+abbrev pub Empty : DaqList → ℕ → ℕ → Type 0
+Empty x o d = (i : ℕ) → i < d → x .odt (o + i) .store ≡ []
+
+skipped : (l : ℕ) (x : DaqList) (o d n : ℕ) → Empty x o d → inStores l x o (d + n) ≡ inStores l x (o + d) n
+unfolding inStores
+skipped l x o zero n z = let e : o + 0 ≡ o = omega arith in let f : 0 + n ≡ n = omega arith in rw (e, f)
+skipped l x o (suc d) n z =
+    let here : x .odt o .store ≡ [] = rw add-zero at (z 0 (omega arith)) in
+    let there : o + 1 + d ≡ o + suc d = omega arith in
+    let some : suc d + n ≡ suc (d + n) = omega arith in
+    rw some (ap (λ (bs : List ℕ). cond (ltb 0 (length bs)) (((firstOdt l + o) ∷ bs) ∷ []) [] ++ inStores l x (o + 1) (d + n)) here
+    ∙ skipped l x (o + 1) d n (λ i h. subst (λ (j : ℕ). x .odt j .store ≡ []) (further i) (z (suc i) (omega arith))) ∙ rw there) where
+      further : (i : ℕ) → o + suc i ≡ o + 1 + i
+      further i = omega arith
+
+-- nothing waits of a list with nothing in store
+pub none-waits : (c : Session) (l : ℕ) → Empty (c .list l) 0 (odtCount l) → waitingIn c l ≡ []
+unfolding waiting inStores
+none-waits c l z =
+    let none : inStores l (c .list l) 0 (odtCount l) ≡ [] = skipped l (c .list l) 0 (odtCount l) 0 z in
+    cond-ind (λ (ps : List (List ℕ)). ps ≡ []) (runsIn c l) (λ _. none) (λ _. refl)
+
+-- ---- one place of a function changed
+put-here : {A : Type 0} (i : ℕ) (a : A) (f : ℕ → A) → put i a f i ≡ a
+unfolding put
+put-here i a f = rw (eq-eqb i i refl)
+
+put-other : {A : Type 0} (i j : ℕ) (a : A) (f : ℕ → A) → j ≢ i → put i a f j ≡ f j
+unfolding put
+put-other i j a f n = rw (ne-eqb j i n)
+
+-- ---- a packet is sent: the other lists' packets wait as they did
+pub sent-others : (c : Session) (j d l : ℕ) → l ≢ j → waitingIn (at j (withoutPacket d) c) l ≡ waitingIn c l
+sent-others c j d l n = ap (λ (x : DaqList). waiting (c .opened) l x) (put-other j l (withoutPacket d (c .list j)) (c .list) n)
+
+module _ (x : DaqList) (d : ℕ) where
+  entry-kept : (o : ℕ) → withoutPacket d x .odt o .entry ≡ x .odt o .entry
+  unfolding put
+  entry-kept o = either (eqb o d) (λ b. rw (b, eqb-true o d b)) (λ b. rw b)
+
+  store-gone : withoutPacket d x .odt d .store ≡ []
+  store-gone = ap (λ (y : Odt). y .store) (put-here d (emptied (x .odt d)) (x .odt))
+
+  store-kept : (o : ℕ) → o ≢ d → withoutPacket d x .odt o .store ≡ x .odt o .store
+  store-kept o n = ap (λ (y : Odt). y .store) (put-other d o (emptied (x .odt d)) (x .odt) n)
+
+-- the first packet of a list, that of its ODT d, goes; those of later ODTs stay
+module _ (c : Session) (l d n : ℕ) (run : runsIn c l ≡ true) (there : d + suc n ≡ odtCount l) (none : Empty (c .list l) 0 d) where
+  abbrev x : DaqList
+  x = c .list l
+
+  abbrev left : List (List ℕ)
+  left = inStores l x (d + 1) n
+
+  first-in : (z : DaqList) → Empty z 0 d → inStores l z 0 (odtCount l) ≡ inStore (firstOdt l + d) (z .odt d) ++ inStores l z (d + 1) n
+  unfolding inStores
+  first-in z e = subst (λ (m : ℕ). inStores l z 0 m ≡ inStore (firstOdt l + d) (z .odt d) ++ inStores l z (d + 1) n) there (skipped l z 0 d (suc n) e ∙ from)
+    where
+      from : inStores l z (0 + d) (suc n) ≡ inStore (firstOdt l + d) (z .odt d) ++ inStores l z (d + 1) n
+      from = let e : 0 + d ≡ d = omega arith in rw e refl
+
+  pub first-waits : hasPacket (x .odt d) ≡ true → waitingIn c l ≡ ((firstOdt l + d) ∷ x .odt d .store) ∷ left
+  unfolding waiting
+  first-waits some =
+      ap (λ (b : Bool). cond b (inStores l x 0 (odtCount l)) []) run ∙ first-in x none
+      ∙ ap (λ (b : Bool). cond b (((firstOdt l + d) ∷ x .odt d .store) ∷ []) [] ++ left) some
+
+  pub first-sent : waitingIn (at l (withoutPacket d) c) l ≡ left
+  unfolding waiting
+  first-sent =
+      let z : DaqList = withoutPacket d x in
+      let still : Empty z 0 d = λ i h. store-kept x d (0 + i) (omega arith) ∙ none i h in
+      ap (λ (y : DaqList). waiting (c .opened) l y) (put-here l z (c .list))
+      ∙ ap (λ (b : Bool). cond b (inStores l z 0 (odtCount l)) []) (runs-same l z x (λ o h. entry-kept x d o) (c .opened) refl refl ∙ run)
+      ∙ first-in z still
+      ∙ ap₂ (λ (bs : List ℕ) (ps : List (List ℕ)). cond (ltb 0 (length bs)) (((firstOdt l + d) ∷ bs) ∷ []) [] ++ ps) (store-gone x d)
+      (stores-same l z x (d + 1) n (λ i p q. store-kept x d i (omega arith)))
+
+-- ---- a sample: what is captured of a list that runs waits
+packet-waits : (k : ℕ) (bs : List ℕ) → cond (ltb 0 (length bs)) ((k ∷ bs) ∷ []) [] ≡ packetWith k bs
+packet-waits k [] = refl
+packet-waits k (b ∷ bs) = rw (lt-ltb 0 (length (b ∷ bs)) (omega arith))
+
+module _ (l clock : ℕ) (cal meas : List ℕ) (x : DaqList) where
+  abbrev after : DaqList
+  after = sampled l clock cal meas x
+
+  same-entry : (o : ℕ) → after .odt o .entry ≡ x .odt o .entry
+  same-entry o = either (ltb o (odtCount l)) (λ b. rw b) (λ b. rw b)
+
+  captured-store : (o : ℕ) → o < odtCount l → after .odt o .store ≡ contentsIn (firstOdt l + o) clock cal meas (x .odt o)
+  captured-store o h = rw (lt-ltb o (odtCount l) h)
+
+  captured-in : (o n : ℕ) → o + n ≤ odtCount l → inStores l after o n ≡ sampleFrom l x clock cal meas o n
+  unfolding inStores sampleFrom
+  captured-in o zero h = refl
+  captured-in o (suc n) h =
+      let k : ℕ = firstOdt l + o in
+      ap₂ (λ (ps qs : List (List ℕ)). ps ++ qs)
+      (ap (λ (bs : List ℕ). cond (ltb 0 (length bs)) ((k ∷ bs) ∷ []) []) (captured-store o (omega arith)) ∙ packet-waits k (contentsIn k clock cal meas (x .odt o)))
+      (captured-in (o + 1) n (omega arith))
+
+pub sampled-waits : (c : Session) (l clock : ℕ) (cal meas : List ℕ) → runsIn c l ≡ true → waitingIn (at l (sampled l clock cal meas) c) l ≡ sampleIn c l clock cal meas
+unfolding waiting
+sampled-waits c l clock cal meas run =
+    let x : DaqList = c .list l in
+    let z : DaqList = sampled l clock cal meas x in
+    ap (λ (y : DaqList). waiting (c .opened) l y) (put-here l z (c .list))
+    ∙ ap (λ (b : Bool). cond b (inStores l z 0 (odtCount l)) []) (runs-same l z x (λ o h. same-entry l clock cal meas x o) (c .opened) refl refl ∙ run)
+    ∙ captured-in l clock cal meas x 0 (odtCount l) (omega arith)
