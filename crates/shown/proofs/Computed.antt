@@ -1,7 +1,8 @@
 -- One name for every definition of the slave: where it is unfolded, a run at given bytes computes. Assumes nothing.
-use Rattle.model.specs.Judge.{judgeIn, connectDeed, getSeedDeed, unlockBy, setMtaDeed, uploadDeed, shortUploadDeed, checksumDeed, downloadTo, downloadDeed, clearDeed, pointerDeed, writeBlock, writeDeed, modeDeed, startDeed, startStopDeed, synchDeed, judgeThe, judgeBy, judge}
+use Rattle.model.specs.Heed.{goodConnect, heedingIn}
+use Rattle.model.specs.Judge.{judgeIn, connectDeed, getSeedDeed, unlockBy, setMtaDeed, uploadDeed, shortUploadDeed, checksumDeed, downloadTo, downloadDeed, clearDeed, pointerDeed, writeBlock, writeDeed, modeDeed, startDeed, startStopDeed, synchDeed, judgeThe, judgeBy, judge, allStartable}
 use Rattle.model.specs.Answers.{replyIn, writes}
-use Rattle.model.specs.View.{sessionOf}
+use Rattle.model.specs.View.{sessionOf, listsOf, viewOf}
 use Rattle.line.specs.Reader.{takeOf}
 use Rattle.line.specs.Writer.{writeOf}
 use Rattle.state.specs.Bytes.{u16At, u32At, put16, put32, copied, cleared}
@@ -9,18 +10,18 @@ use Rattle.state.specs.Generator.{nextOf, startOf, keyOf}
 use Rattle.state.specs.Memory.{insideOf, blockSum, byteOf, bytesOf}
 use Rattle.state.specs.State.{consistent, flagOf, generatorOf, setGenerator, maskOf, seedOf, setSeed, mtaOf, setMta, pointerOf, setPointer, closed, fresh, placeOf, setPlace, messageOf, setMessage, answerLength, answerKind, answerOf, answered}
 use Rattle.state.specs.Lists.{sizeOf, extensionOf, addressOf, modeOf, leastOf, storedLength}
-use Rattle.lists.specs.Lists.{bytesOfFirst, bytesOfOdts, odtsFit, fitOf, runsOf, anyRuns, mayStart, allFit, someStored, dropped, switched, listCleared, modeSet, entryCleared, entrySet, stopEach, startSelected, stopSelected}
+use Rattle.lists.specs.Lists.{dropped, switched, listCleared, modeSet, entryCleared, entrySet, stopEach, startSelected, stopSelected}
 use Rattle.words.specs.Command.{commandOf}
 use Rattle.model.specs.Step.{nextEntry}
 use Rattle.session.specs.Perform.{effect}
 use Rattle.session.specs.Receive.{heeded, meant, readOn, receiveOf}
-use Rattle.model.specs.Heed.{goodConnect}
-use Rattle.lists.specs.Event.{samplingOf, entryBytes, gathered, contentsOf, stored, capturedOdts, sampledState, tally, eventOf}
-use Rattle.lists.specs.Slot.{firstStored, packetIn, roundFrom, turnOf, packetOf, answerSent, packetSent, sentBy, slotOf}
+use Rattle.lists.specs.Event.{stored, capturedOdts, sampledState, tally, eventOf}
+use Rattle.lists.specs.Slot.{packetOf, answerSent, packetSent, sentBy, slotOf}
+use Rattle.model.specs.Model.{upTo, put, sizesOf, allBytes, eachFits, fits, runs, someRuns, somePacket, inStores, waiting}
+use Rattle.model.specs.Calls.{firstPacket, packetIn, roundFrom, turnIn, samplingIn, blocksIn, contentsIn, sampleFrom}
 use Rattle.session.specs.PowerUp.{powered, powerUpOf}
 use Rattle.demands.specs.Heard.{heeds, bringsKey, wrongKeyBy}
-use Rattle.demands.specs.Waiting.{packetsFrom, waitingOf, sampleFrom}
 
 unfoldable pub computed : Unit {0}
-unfolding takeOf writeOf u16At u32At put16 put32 copied cleared nextOf startOf keyOf insideOf blockSum byteOf bytesOf consistent flagOf generatorOf setGenerator maskOf seedOf setSeed mtaOf setMta pointerOf setPointer closed fresh placeOf setPlace messageOf setMessage answerLength answerKind answerOf answered sizeOf extensionOf addressOf bytesOfFirst modeOf bytesOfOdts odtsFit fitOf runsOf anyRuns mayStart allFit leastOf storedLength someStored dropped switched listCleared modeSet entryCleared entrySet stopEach startSelected stopSelected commandOf connectDeed getSeedDeed unlockBy setMtaDeed uploadDeed shortUploadDeed checksumDeed downloadTo downloadDeed clearDeed pointerDeed writeBlock writeDeed modeDeed startDeed startStopDeed synchDeed judgeThe judgeBy judge judgeIn sessionOf nextEntry effect replyIn sessionOf writes goodConnect heeded meant readOn receiveOf samplingOf entryBytes gathered contentsOf stored capturedOdts sampledState tally eventOf firstStored packetIn roundFrom turnOf packetOf answerSent packetSent sentBy slotOf powered powerUpOf heeds bringsKey wrongKeyBy packetsFrom waitingOf sampleFrom
+unfolding takeOf writeOf u16At u32At put16 put32 copied cleared nextOf startOf keyOf insideOf blockSum byteOf bytesOf consistent flagOf generatorOf setGenerator maskOf seedOf setSeed mtaOf setMta pointerOf setPointer closed fresh placeOf setPlace messageOf setMessage answerLength answerKind answerOf answered sizeOf extensionOf addressOf modeOf leastOf storedLength upTo put sizesOf allBytes eachFits fits runs someRuns somePacket inStores waiting listsOf sessionOf viewOf dropped switched listCleared modeSet entryCleared entrySet stopEach startSelected stopSelected commandOf connectDeed getSeedDeed unlockBy setMtaDeed uploadDeed shortUploadDeed checksumDeed downloadTo downloadDeed clearDeed pointerDeed writeBlock writeDeed modeDeed startDeed startStopDeed synchDeed judgeThe judgeBy judge allStartable judgeIn nextEntry effect replyIn writes goodConnect heedingIn heeded meant readOn receiveOf samplingIn blocksIn contentsIn sampleFrom stored capturedOdts sampledState tally eventOf firstPacket packetIn roundFrom turnIn packetOf answerSent packetSent sentBy slotOf powered powerUpOf heeds bringsKey wrongKeyBy
 computed = tt

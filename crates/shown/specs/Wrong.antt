@@ -14,7 +14,9 @@ use Rattle.state.specs.State.{consistent, ctrOf, openOf, maskOf, mtaOf, setMta,
 use Rattle.state.specs.Lists.{storedLength}
 use Rattle.session.specs.Receive.{Step, only, obeyed, heeded, fedOf, receiveOf}
 use Rattle.model.specs.Heed.{goodConnect}
-use Rattle.lists.specs.Event.{Happened, gathered, stored, eventOf}
+use Rattle.lists.specs.Event.{Happened, stored, eventOf}
+use Rattle.model.specs.Calls.{blocksIn}
+use Rattle.model.specs.View.{odtOf}
 use Rattle.lists.specs.Slot.{Slot, turnOf, slotOf}
 use Rattle.words.specs.Number.{slottedValue}
 use Rattle.session.specs.PowerUp.{powerUpOf}
@@ -177,7 +179,7 @@ movesAfterRefusal = heeding (λ p s cal meas. cond (eqb (getD p 0 0) 0xF5) (move
 
 -- where a packet of ODT 1 waits, its bytes are taken from the memories lent now
 abbrev pub reread : List ℕ → ℕ → List ℕ → List ℕ → List ℕ
-reread s k cal meas = cond (ltb 0 (storedLength s k)) (stored s k (gathered s k cal meas (entryCount k))) s
+reread s k cal meas = cond (ltb 0 (storedLength s k)) (stored s k (blocksIn (odtOf s k) cal meas (entryCount k))) s
 
 -- the second ODT of list 0 is read again at each byte until it is sent
 abbrev pub readsLate : Slave
