@@ -1,6 +1,6 @@
 -- What each deed answers, and what it leaves of the calibration memory.
-use Prim.Native.Nat.{ℕ, _+_}
-use mathlib.Core.Bool.{Bool, cond}
+use Prim.Native.Nat.{ℕ}
+use mathlib.Core.Bool.{cond}
 use mathlib.Core.Option.{Option, none, some}
 use mathlib.Core.List.{List, [], _∷_}
 use lib.ListN.{length}
@@ -9,10 +9,8 @@ use Rattle.state.specs.Layout.{lists, events, packetMost, entryMost, addressabl
 use Rattle.state.specs.Bytes.{block, bytes32}
 use Rattle.state.specs.Generator.{nextOf}
 use Rattle.state.specs.Memory.{pick, blockSum}
-use Rattle.state.specs.State.{bitOf}
+use Rattle.state.specs.State.{maskBy}
 use Rattle.words.specs.Command.{codeOf}
-use Rattle.words.specs.declared.Resource.{Resource}
-use Rattle.words.specs.declared.Resource.the-variants.{Calibration, Lists}
 use Rattle.words.specs.declared.Reason.the-variants as reason
 use Rattle.model.specs.Judge.{judgeIn}
 use Rattle.model.specs.declared.Deed.{Deed}
@@ -21,10 +19,6 @@ use Rattle.model.specs.Model.{Session, someRuns}
 use Rattle.model.specs.Step.{unlock, stepIn}
 
 -- ---- the answer, by the session and the memories before the deed
--- the locked mask: 01 calibration, 04 lists
-abbrev pub maskBy : (Resource → Bool) → ℕ
-maskBy unlocked = cond (unlocked Calibration) 0 (bitOf Calibration) + cond (unlocked Lists) 0 (bitOf Lists)
-
 unfoldable pub replyIn : Deed → Session → List ℕ → List ℕ → List ℕ
 replyIn (Refuse r) c cal meas = 0xFE ∷ codeOf r ∷ []
 replyIn RefuseSize c cal meas = 0xFE ∷ codeOf reason.OutOfRange ∷ 0x00 ∷ 0x00 ∷ bytes32 addressable

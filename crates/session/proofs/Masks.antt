@@ -6,12 +6,11 @@ use native.Mathlib.Omega.{arith}
 use lib.ListN.{length, set, length-set}
 use lib.Seq.{getD-set-same, getD-set-other}
 use Rattle.state.specs.Layout.{calibrationAt, listsAt, seedAt, size}
-use Rattle.state.specs.State.{flagOf, lockAt, unlockedOf, maskOf, setSeed}
+use Rattle.state.specs.State.{flagOf, lockAt, unlockedOf, maskBy, maskOf, setSeed}
 use Rattle.words.specs.declared.Resource.{Resource}
 use Rattle.words.specs.declared.Resource.the-variants.{Calibration, Lists}
 use Rattle.words.specs.declared.Seed.the-variants.{None}
 use Rattle.model.specs.Step.{unlock}
-use Rattle.model.specs.Answers.{maskBy}
 
 pub unlocked-mask : (s : List ℕ) (r : Resource) → length s ≡ size → maskOf (setSeed (set s (lockAt r) 1) None) ≡ maskBy (unlock r (unlockedOf s))
 unfolding maskOf flagOf setSeed

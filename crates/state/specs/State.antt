@@ -57,8 +57,11 @@ abbrev pub bitOf : Resource → ℕ
 bitOf Calibration = 0x01
 bitOf Lists = 0x04
 
+abbrev pub maskBy : (Resource → Bool) → ℕ
+maskBy unlocked = cond (unlocked Calibration) 0 (bitOf Calibration) + cond (unlocked Lists) 0 (bitOf Lists)
+
 unfoldable pub maskOf : List ℕ → ℕ
-maskOf s = cond (unlockedOf s Calibration) 0 (bitOf Calibration) + cond (unlockedOf s Lists) 0 (bitOf Lists)
+maskOf s = maskBy (unlockedOf s)
 
 -- the resource of the seed that is out
 unfoldable pub seedOf : List ℕ → Seed
