@@ -13,6 +13,7 @@ use Rattle.line.specs.Message.{message, frame, sum}
 use Rattle.line.proofs.Stuffed.{unstuff-stuff}
 use Rattle.state.specs.Layout.{listOf, allOdts}
 use Rattle.lists.specs.Slot.{packetOf}
+use Rattle.model.specs.Calls.{packetFrom}
 use Rattle.demands.specs.Waiting.{packetInside, packetRead, isAnswer, isOf, carried}
 
 -- a message's packet
@@ -42,15 +43,15 @@ low : (k : ℕ) → k < allOdts → leb 0xFE k ≡ false
 low k h = lt-leb 0xFE k (omega arith)
 
 pub packet-no-answer : (s : List ℕ) (k : ℕ) → k < allOdts → isAnswer (packetOf s k) ≡ false
-unfolding packetOf
+unfolding packetFrom
 packet-no-answer s k h = low k h
 
 pub packet-own : (s : List ℕ) (j k : ℕ) → k < allOdts → listOf k ≡ j → isOf j (packetOf s k) ≡ true
-unfolding packetOf
+unfolding packetFrom
 packet-own s j k h e = rw (low k h) (eq-eqb (listOf k) j e)
 
 pub packet-other : (s : List ℕ) (l j k : ℕ) → k < allOdts → listOf k ≡ j → l ≢ j → isOf l (packetOf s k) ≡ false
-unfolding packetOf
+unfolding packetFrom
 packet-other s l j k h e n = rw (low k h) (ne-eqb (listOf k) l (λ q. n (sym q ∙ e)))
 
 -- an answer is no list's

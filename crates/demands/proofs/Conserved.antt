@@ -16,10 +16,12 @@ use Rattle.model.specs.declared.Turn.the-variants.{Packet}
 use Rattle.state.proofs.Consistent.{consistent-size}
 use Rattle.fields.proofs.Readers.{same-part, waits-reads, answer-reads}
 use Rattle.fields.proofs.Served.{answerSent-waits, packetSent-rest}
+use Rattle.model.specs.Calls.{packetFor}
+use Rattle.model.specs.View.{viewOf}
 use Rattle.demands.specs.Slave.{ours}
 use Rattle.demands.specs.Runs.{Call, Byte, Event, SendingSlot, Elsewhere, afterCall, run, sends, each, frames}
 use Rattle.demands.specs.Heard.{stopsAt}
-use Rattle.demands.specs.Waiting.{waitingAnswer, waitingOf, packetFor, isAnswer, isOf, carried, answersIn}
+use Rattle.demands.specs.Waiting.{waitingAnswer, waitingOf, isAnswer, isOf, carried, answersIn}
 use Rattle.demands.specs.Kept.{accepts, gains, goes as goesOf, NothingLost}
 use Rattle.demands.proofs.Reached.{after-kept}
 use Rattle.demands.proofs.Turns.{Fair, nobody, answer, list, fair}
@@ -46,7 +48,7 @@ module _ (waiting : List ℕ → List (List ℕ)) (goes comes : List ℕ → Cal
 
 -- ---- a slot, of which w is left and whose frames carry what passes a test
 slot-balanced : (test : List ℕ → Bool) (w : List ℕ → List (List ℕ)) (s out : List ℕ) → consistent s ≡ true
-    → ((t : Turn) → Fair s t → carried test (framesOf (ctrOf s) (packetFor t s)) ++ w (turned t s) ≡ w s)
+    → ((t : Turn) → Fair s t → carried test (framesOf (ctrOf s) (packetFor t (viewOf s))) ++ w (turned t s) ≡ w s)
     → carried test (sends ours s (SendingSlot out)) ++ w (slotOf s out .state) ≡ w s ++ []
 slot-balanced test w s out c f = elim (decLe room (length out)) [ yes r ↦ with-room r | no r ↦ without (lt-of-not-le r) ] where
   with-room : room ≤ length out → carried test (sends ours s (SendingSlot out)) ++ w (slotOf s out .state) ≡ w s ++ []
@@ -56,7 +58,8 @@ slot-balanced test w s out c f = elim (decLe room (length out)) [ yes r ↦ with
   without r = rw (slot-silent s out c r, slot-stays s out c r) (sym (append-nil (w s)))
 
 -- ---- answers
-answered-turn : (s : List ℕ) (t : Turn) → length s ≡ size → Fair s t → carried isAnswer (framesOf (ctrOf s) (packetFor t s)) ++ waitingAnswer (turned t s) ≡ waitingAnswer s
+answered-turn : (s : List ℕ) (t : Turn) → length s ≡ size → Fair s t → carried isAnswer (framesOf (ctrOf s) (packetFor t (viewOf s))) ++ waitingAnswer (turned t s) ≡ waitingAnswer s
+unfolding viewOf
 answered-turn s _ h nobody = refl
 answered-turn s _ h (answer w) = rw (carries isAnswer (ctrOf s) (answerOf s) (answer-answers s h w), answerSent-waits s h, w)
 answered-turn s _ h (list j k n) =
@@ -76,14 +79,15 @@ answers-each s (c ∷ cs) =
     carried-append isAnswer (sends ours s c) (frames ours (afterCall ours s c) cs) ∙ ap (λ (x : List (List ℕ)). answersIn (sends ours s c) ++ x) (answers-each (afterCall ours s c) cs)
 
 -- ---- the packets of list l
-packet-turn : (s : List ℕ) (l : ℕ) (t : Turn) → length s ≡ size → l < lists → Fair s t → carried (isOf l) (framesOf (ctrOf s) (packetFor t s)) ++ waitingOf (turned t s) l ≡ waitingOf s l
+packet-turn : (s : List ℕ) (l : ℕ) (t : Turn) → length s ≡ size → l < lists → Fair s t → carried (isOf l) (framesOf (ctrOf s) (packetFor t (viewOf s))) ++ waitingOf (turned t s) l ≡ waitingOf s l
+unfolding viewOf
 packet-turn s l _ h q nobody = refl
 packet-turn s l _ h q (answer w) = rw (carries-none (isOf l) (ctrOf s) (answerOf s) (answer-of-none l (answerOf s) (answer-answers s h w))) (answer-waiting s l q)
 packet-turn s l _ h q (list j k n) = elim (ℕ-discrete l j) [ yes e ↦ own e | no e ↦ another e ] where
-  own : l ≡ j → carried (isOf l) (framesOf (ctrOf s) (packetFor (Packet k) s)) ++ waitingOf (packetSent s k) l ≡ waitingOf s l
+  own : l ≡ j → carried (isOf l) (framesOf (ctrOf s) (packetFor (Packet k) (viewOf s))) ++ waitingOf (packetSent s k) l ≡ waitingOf s l
   own e = rw (e, carries (isOf j) (ctrOf s) (packetOf s k) (packet-own s j k (n .odt) (n .list)), n .left, n .waiting)
 
-  another : (l ≡ j → ⊥) → carried (isOf l) (framesOf (ctrOf s) (packetFor (Packet k) s)) ++ waitingOf (packetSent s k) l ≡ waitingOf s l
+  another : (l ≡ j → ⊥) → carried (isOf l) (framesOf (ctrOf s) (packetFor (Packet k) (viewOf s))) ++ waitingOf (packetSent s k) l ≡ waitingOf s l
   another e = rw (carries-none (isOf l) (ctrOf s) (packetOf s k) (packet-other s l j k (n .odt) (n .list) e)) (n .others l q e)
 
 stopped-or-kept : (t : Bool) (w : List (List ℕ)) → cond t w [] ++ cond t [] w ≡ w ++ []

@@ -23,9 +23,10 @@ use Rattle.model.specs.declared.Turn.{Turn}
 use Rattle.state.proofs.Consistent.{consistent-size}
 use Rattle.fields.proofs.Stores.{put32-out}
 use Rattle.fields.proofs.Kept.{power-consistent, receive-kept, event-kept, slot-kept}
+use Rattle.model.specs.Calls.{packetFor}
+use Rattle.model.specs.View.{viewOf}
 use Rattle.demands.specs.Slave.{ours}
 use Rattle.demands.specs.Runs.{Call, Byte, Event, SendingSlot, Elsewhere, sends, frames}
-use Rattle.demands.specs.Waiting.{packetFor}
 use Rattle.demands.specs.Demand2.{dueAt, due, numbered}
 use Rattle.demands.proofs.Turns.{Fair, nobody, answer, list, fair}
 use Rattle.demands.proofs.Sends.{turned, framesOf, slot-state, slot-stays, slot-sends, slot-silent, answer-ctr, packet-ctr}
@@ -55,7 +56,7 @@ pub record Numbered (c i : ℕ) (frames′ packets : List (List ℕ)) (u : List 
   pub sent : frames′ ≡ numbered c i packets
   pub ctr : At c (i + length packets) u
 
-turn-numbers : (c i : ℕ) (s : List ℕ) (t : Turn) → length s ≡ size → At c i s → Fair s t → Numbered c i (framesOf (ctrOf s) (packetFor t s)) (packetFor t s) (turned t s)
+turn-numbers : (c i : ℕ) (s : List ℕ) (t : Turn) → length s ≡ size → At c i s → Fair s t → Numbered c i (framesOf (ctrOf s) (packetFor t (viewOf s))) (packetFor t (viewOf s)) (turned t s)
 turn-numbers c i s _ h a nobody = record { sent = refl; ctr = at-same c i s a }
 turn-numbers c i s _ h a (answer w) = record { sent = rw a; ctr = at-next c i (answer-ctr s h) a }
 turn-numbers c i s _ h a (list j m n) = record { sent = rw a; ctr = at-next c i (packet-ctr s m h) a }

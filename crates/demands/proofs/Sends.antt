@@ -23,9 +23,11 @@ use Rattle.words.specs.declared.Slotted.the-variants.{NoRoom}
 use Rattle.model.specs.declared.Turn.{Turn}
 use Rattle.model.specs.declared.Turn.the-variants.{Nobody, Answer, Packet}
 use Rattle.state.proofs.Consistent.{consistent-size}
+use Rattle.model.specs.Calls.{packetFor}
+use Rattle.model.specs.View.{viewOf}
 use Rattle.demands.specs.Slave.{ours}
 use Rattle.demands.specs.Runs.{SendingSlot, frameIn, sends}
-use Rattle.demands.specs.Waiting.{AllBut, packetFor}
+use Rattle.demands.specs.Waiting.{AllBut}
 use Rattle.demands.specs.Demand2.{ReadsBack}
 use Rattle.model.proofs.Shown.{stored-most, answer-most, answer-long}
 use Rattle.demands.proofs.Waiting.{packet-length}
@@ -99,12 +101,13 @@ sent-nobody : (s out : List ℕ) → frameIn (sentBy Nobody s out .slotted) (sen
 unfolding sentBy
 sent-nobody s out = refl
 
-sent-turn : (s out : List ℕ) (t : Turn) → length s ≡ size → room ≤ length out → Fair s t → frameIn (sentBy t s out .slotted) (sentBy t s out .out) ≡ framesOf (ctrOf s) (packetFor t s)
+sent-turn : (s out : List ℕ) (t : Turn) → length s ≡ size → room ≤ length out → Fair s t → frameIn (sentBy t s out .slotted) (sentBy t s out .out) ≡ framesOf (ctrOf s) (packetFor t (viewOf s))
+unfolding viewOf
 sent-turn s out _ h r nobody = sent-nobody s out
 sent-turn s out _ h r (answer w) = sent-answer s out (answer-packed s h w) r
 sent-turn s out _ h r (list j k n) = sent-packet s out k (packet-packed s k h (n .odt)) r
 
-pub slot-sends : (s out : List ℕ) → consistent s ≡ true → room ≤ length out → sends ours s (SendingSlot out) ≡ framesOf (ctrOf s) (packetFor (turnOf s) s)
+pub slot-sends : (s out : List ℕ) → consistent s ≡ true → room ≤ length out → sends ours s (SendingSlot out) ≡ framesOf (ctrOf s) (packetFor (turnOf s) (viewOf s))
 slot-sends s out c h =
     let n : length s ≡ size = consistent-size s c in
     ap (λ (o : Slot). frameIn (o .slotted) (o .out)) (slot-is s out c h) ∙ sent-turn s out (turnOf s) n h (fair s n)
@@ -129,7 +132,8 @@ packet-ctr s k h =
     ∙ getD-set-other (set s₁ ctrAt (nextCtr s)) servedAt ctrAt (listOf k) 0 (omega arith) ∙ getD-set-same s₁ ctrAt (nextCtr s) 0 l
 
 -- ---- a slot's frame reads back
-reads-back : (s : List ℕ) (t : Turn) → turnOf s ≡ t → length s ≡ size → Fair s t → ReadsBack (framesOf (ctrOf s) (packetFor t s)) s
+reads-back : (s : List ℕ) (t : Turn) → turnOf s ≡ t → length s ≡ size → Fair s t → ReadsBack (framesOf (ctrOf s) (packetFor t (viewOf s))) s
+unfolding viewOf
 reads-back s _ e h nobody = rw e refl
 reads-back s _ e h (answer w) =
     let k = answer-packed s h w in

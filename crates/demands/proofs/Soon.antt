@@ -16,8 +16,8 @@ use Rattle.state.specs.State.{consistent, flagOf, ctrOf, waits, answerOf}
 use Rattle.session.specs.Receive.{receiveOf}
 use Rattle.lists.specs.Event.{eventOf}
 use Rattle.lists.specs.Slot.{turnOf, packetOf, packetSent, slotOf}
-use Rattle.model.specs.Calls.{orElse, roundIn}
-use Rattle.model.specs.View.{sessionOf}
+use Rattle.model.specs.Calls.{orElse, roundIn, packetFor}
+use Rattle.model.specs.View.{sessionOf, viewOf}
 use Rattle.model.proofs.Shown.{turn-at}
 use Rattle.model.specs.declared.Turn.{Turn}
 use Rattle.model.specs.declared.Turn.the-variants.{Answer, Packet}
@@ -27,7 +27,7 @@ use Rattle.fields.proofs.Served.{answerSent-waits, packetSent-rest}
 use Rattle.fields.proofs.Kept.{receive-kept, event-kept, slot-kept}
 use Rattle.demands.specs.Slave.{ours}
 use Rattle.demands.specs.Runs.{Call, Byte, Event, SendingSlot, Elsewhere, afterCall, frames, sends, oneMore, slots}
-use Rattle.demands.specs.Waiting.{packetFor, isAnswer, answersIn}
+use Rattle.demands.specs.Waiting.{isAnswer, answersIn}
 use Rattle.demands.specs.Demand3.{LeavesWithin}
 use Rattle.demands.proofs.Turns.{Next, Fair, nobody, answer, list, round-fair}
 use Rattle.demands.proofs.Sends.{turned, framesOf, slot-state, slot-stays, slot-sends, slot-silent}
@@ -110,6 +110,7 @@ Later cs = (a : List ℕ) (last : Bool) (s : List ℕ) → Waits a last s → ne
 -- by whose turn it is
 slot-by : (cs : List Call) (a : List ℕ) (last : Bool) (s out : List ℕ) → Waits a last s → room ≤ length out → need last ≤ suc (slots cs) → Later cs
     → (t : Turn) → turnOf s ≡ t → Soon s t → LeavesWithin (need last) ours s a (SendingSlot out ∷ cs)
+unfolding viewOf
 slot-by cs a last s out w r h later _ e now =
     let c : consistent s ≡ true = w .fit in
     record {
@@ -120,7 +121,7 @@ slot-by cs a last s out w r h later _ e now =
       roomy = r;
       early = need-some last;
       noneBefore = refl;
-      sent = slot-sends s out c r ∙ ap (λ t. framesOf (ctrOf s) (packetFor t s)) e ∙ ap (λ x. frame (ctrOf s) x ∷ []) (w .answer);
+      sent = slot-sends s out c r ∙ ap (λ t. framesOf (ctrOf s) (packetFor t (viewOf s))) e ∙ ap (λ x. frame (ctrOf s) x ∷ []) (w .answer);
       noneAfter = ap waits (slot-state s out c r ∙ ap (λ t. turned t s) e) ∙ answerSent-waits s (consistent-size s c);
     }
 slot-by cs a last s out w r h later _ e (next j k n f) =
@@ -137,7 +138,7 @@ slot-by cs a last s out w r h later _ e (next j k n f) =
     } in
     let two : need last ≡ 2 = ap need (sym (w .flag) ∙ f) in
     let quiet : answersIn (sends ours s (SendingSlot out)) ≡ [] =
-    ap answersIn (slot-sends s out c r ∙ ap (λ t. framesOf (ctrOf s) (packetFor t s)) e) ∙ carries-none isAnswer (ctrOf s) (packetOf s k) (packet-no-answer s k (n .odt)) in
+    ap answersIn (slot-sends s out c r ∙ ap (λ t. framesOf (ctrOf s) (packetFor t (viewOf s))) e) ∙ carries-none isAnswer (ctrOf s) (packetOf s k) (packet-no-answer s k (n .odt)) in
     goes-on (SendingSlot out) s a cs 1 (need last) (later a false (slotOf s out .state) u (omega (arith, two))) (omega (arith, two, counted out 0 r)) quiet
 
 goes : (cs : List Call) → Later cs

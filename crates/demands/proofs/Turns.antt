@@ -1,7 +1,7 @@
 -- Whose turn it is has something waiting, and with a packet of a list waiting its turn comes. Assumes nothing.
 use borrow.Author.Tests.{lt-ltb}
 use Prim.Native.Nat.{ℕ, suc, _+_, _-_, _%_, _≤_, _<_, zero}
-use mathlib.Core.Path.{_≡_, refl, sym, ap, _∙_, subst}
+use mathlib.Core.Path.{_≡_, refl, sym, ap, ap₂, _∙_, subst}
 use mathlib.Core.Logic.{_≢_}
 use mathlib.Core.Bool.{true, false}
 use mathlib.Core.List.{List, [], _∷_}
@@ -15,18 +15,18 @@ use Rattle.state.specs.Layout.{size, lists, servedAt, lastAt, firstOdt, listOf,
 use Rattle.state.specs.State.{flagOf, waits}
 use Rattle.lists.specs.Lists.{runsOf}
 use Rattle.lists.specs.Slot.{turnOf, packetOf, packetSent}
-use Rattle.model.specs.Model.{Odt, DaqList, Session, hasPacket, inStores, waitingIn}
+use Rattle.model.specs.Model.{DaqList, Session, hasPacket, inStores, waitingIn}
 use Rattle.model.specs.Step.{at}
-use Rattle.model.specs.Calls.{withoutPacket, firstPacket, packetIn, orElse, roundIn}
+use Rattle.model.specs.Calls.{withoutPacket, firstPacket, packetIn, orElse, roundIn, packetFrom}
 use Rattle.model.specs.View.{sessionOf}
 use Rattle.model.specs.declared.Turn.{Turn}
 use Rattle.model.specs.declared.Turn.the-variants.{Nobody, Answer, Packet}
-use Rattle.model.proofs.Shown.{odt-at, turn-at}
+use Rattle.model.proofs.Shown.{turn-at}
 use Rattle.lists.proofs.Round.{or-holds, round-holds}
 use Rattle.views.proofs.Waits.{rests, Empty, none-waits, first-waits, first-sent, sent-others}
 use Rattle.demands.specs.Waiting.{waitingOf}
 use Rattle.demands.proofs.Round.{packet-some, round-finds, Far, nearer}
-use Rattle.demands.proofs.Waiting.{this-or-other, sent-session}
+use Rattle.demands.proofs.Waiting.{this-or-other, list-of, odt-in, sent-session}
 
 -- ODT k's packet is the next one of list j: what waits of the list, and what waits of it and of the others once it is sent
 pub record Next (s : List ℕ) (j k : ℕ) : Type 0 where
@@ -52,7 +52,7 @@ module _ (s : List ℕ) (h : length s ≡ size) (j : ℕ) (q : j < lists) where
   x = sessionOf s .list j
 
   next : runsOf s j ≡ true → (d n : ℕ) → d + suc n ≡ odtCount j → Empty x 0 d → hasPacket (x .odt d) ≡ true → Next s j (firstOdt j + d)
-  unfolding packetOf
+  unfolding packetFrom
   next r d n e none a =
       let sent : sessionOf (packetSent s (firstOdt j + d)) ≡ at j (withoutPacket d) (sessionOf s) = sent-session s j d h q (omega arith) in
       record {
@@ -60,7 +60,7 @@ module _ (s : List ℕ) (h : length s ≡ size) (j : ℕ) (q : j < lists) where
         inside = q;
         odt = omega arith;
         rest = inStores j x (d + 1) n;
-        waiting = first-waits (sessionOf s) j d n r e none a ∙ ap (λ (y : Odt). ((firstOdt j + d) ∷ y .store) ∷ inStores j x (d + 1) n) (odt-at s j q d (omega arith));
+        waiting = first-waits (sessionOf s) j d n r e none a ∙ ap₂ (λ (i o : ℕ). ((firstOdt j + d) ∷ sessionOf s .list i .odt o .store) ∷ inStores j x (d + 1) n) (sym (list-of j d (omega arith))) (sym (odt-in j d (omega arith)));
         left = ap (λ (c : Session). waitingIn c j) sent ∙ first-sent (sessionOf s) j d n r e none;
         others = λ l m z. ap (λ (c : Session). waitingIn c l) sent ∙ sent-others (sessionOf s) j d l z;
       }

@@ -17,7 +17,7 @@ use Rattle.model.specs.Step.{at, odtIn}
 use Rattle.model.specs.Calls.{withoutPacket}
 use Rattle.model.specs.View.{sessionOf, viewOf}
 use Rattle.model.proofs.Bounded.{either}
-use Rattle.model.proofs.Shown.{odt-at, stored-long, unlisted-runs}
+use Rattle.model.proofs.Shown.{odt-at, stored-long, packet-by, unlisted-runs}
 use Rattle.fields.proofs.Readers.{Same, same-part, store-own}
 use Rattle.views.proofs.Calls.{view-packetSent}
 use Rattle.views.proofs.Waits.{waiting-same as waits-same, rests}
@@ -52,17 +52,18 @@ waiting-same {s} {t} l r w =
 
 -- a packet's length
 pub packet-length : (s : List ℕ) (k : ℕ) → length s ≡ size → k < allOdts → length (packetOf s k) ≡ suc (storedLength s k)
-unfolding packetOf
-packet-length s k h q = ap suc (stored-long s k h q)
+packet-length s k h q = ap length (packet-by s k q) ∙ ap suc (stored-long s k h q)
+
+-- of list l the ODT d
+pub list-of : (l d : ℕ) → d < odtCount l → listOf (firstOdt l + d) ≡ l
+list-of l d q = omega arith
+
+pub odt-in : (l d : ℕ) → d < odtCount l → odtIn (firstOdt l + d) ≡ d
+odt-in l d q = omega arith
 
 -- a sent packet is gone, and nothing else of the session changes
 pub sent-session : (s : List ℕ) (l d : ℕ) → length s ≡ size → l < lists → d < odtCount l → sessionOf (packetSent s (firstOdt l + d)) ≡ at l (withoutPacket d) (sessionOf s)
 unfolding viewOf
 sent-session s l d h p q =
     let k : ℕ = firstOdt l + d in
-    ap (λ (v : Slave). v .session) (view-packetSent s k h (omega arith)) ∙ ap₂ (λ (j o : ℕ). at j (withoutPacket o) (sessionOf s)) (list-of l d q) (odt-in l d q) where
-      list-of : (l d : ℕ) → d < odtCount l → listOf (firstOdt l + d) ≡ l
-      list-of l d q = omega arith
-
-      odt-in : (l d : ℕ) → d < odtCount l → odtIn (firstOdt l + d) ≡ d
-      odt-in l d q = omega arith
+    ap (λ (v : Slave). v .session) (view-packetSent s k h (omega arith)) ∙ ap₂ (λ (j o : ℕ). at j (withoutPacket o) (sessionOf s)) (list-of l d q) (odt-in l d q)

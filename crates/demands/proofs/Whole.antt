@@ -22,9 +22,11 @@ use Rattle.model.specs.declared.Turn.the-variants.{Answer, Packet}
 use Rattle.state.proofs.Consistent.{consistent-size}
 use Rattle.fields.proofs.Readers.{Same, same-part, flag-reads}
 use Rattle.fields.proofs.Kept.{receive-kept, event-kept, slot-kept}
+use Rattle.model.specs.Calls.{packetFor}
+use Rattle.model.specs.View.{viewOf}
 use Rattle.demands.specs.Slave.{ours}
 use Rattle.demands.specs.Runs.{Call, Byte, Event, SendingSlot, Elsewhere, sends, frames, slots}
-use Rattle.demands.specs.Waiting.{waitingOf, packetFor, sampleOf, isSampled, isOf, packetsIn}
+use Rattle.demands.specs.Waiting.{waitingOf, sampleOf, isSampled, isOf, packetsIn}
 use Rattle.demands.specs.Demand3.{Undisturbed, Begins}
 use Rattle.demands.specs.Kept.{gains}
 use Rattle.demands.specs.Ranking.{Proceeds, all-gone, at-end, answer-first, own-packet, other-list}
@@ -80,17 +82,18 @@ event-seen s cal meas event clock l far last p ps h x =
 
 -- ---- a slot with room, by whose turn it is
 -- what the run sends of the list: what this slot does, and then the rest
-sent-on : (l : ℕ) (s out : List ℕ) (cs : List Call) (t : Turn) (xs : List (List ℕ)) → consistent s ≡ true → room ≤ length out → turnOf s ≡ t → packetsIn l (framesOf (ctrOf s) (packetFor t s)) ≡ xs
+sent-on : (l : ℕ) (s out : List ℕ) (cs : List Call) (t : Turn) (xs : List (List ℕ)) → consistent s ≡ true → room ≤ length out → turnOf s ≡ t → packetsIn l (framesOf (ctrOf s) (packetFor t (viewOf s))) ≡ xs
     → packetsIn l (frames ours s (SendingSlot out ∷ cs)) ≡ xs ++ packetsIn l (frames ours (slotOf s out .state) cs)
 sent-on l s out cs t xs c r e x =
     carried-append (isOf l) (sends ours s (SendingSlot out)) (frames ours (slotOf s out .state) cs)
-    ∙ ap (λ (fs : List (List ℕ)). packetsIn l fs ++ packetsIn l (frames ours (slotOf s out .state) cs)) (slot-sends s out c r ∙ ap (λ u. framesOf (ctrOf s) (packetFor u s)) e)
+    ∙ ap (λ (fs : List (List ℕ)). packetsIn l fs ++ packetsIn l (frames ours (slotOf s out .state) cs)) (slot-sends s out c r ∙ ap (λ u. framesOf (ctrOf s) (packetFor u (viewOf s))) e)
     ∙ ap (λ (ys : List (List ℕ)). ys ++ packetsIn l (frames ours (slotOf s out .state) cs)) x
 
 module _ (l : ℕ) (inside : l < lists) (cs : List Call) (later : Later l cs) (s out : List ℕ) (r : room ≤ length out) (k : Undisturbed ours l (slotOf s out .state) cs) where
   -- an answer went
   by-the-answer : (far : ℕ) (q : List (List ℕ)) → Seen l far false q s → 1 ≤ far → far ≤ lists → turnOf s ≡ Answer → isOf l (answerOf s) ≡ false
       → Proceeds lists q far false (suc (slots cs)) (packetsIn l (frames ours s (SendingSlot out ∷ cs)))
+  unfolding viewOf
   by-the-answer far q x a b e n =
       let c : consistent s ≡ true = x .fit in
       let st : slotOf s out .state ≡ answerSent s = slot-state s out c r ∙ ap (λ t. turned t s) e in
@@ -119,6 +122,7 @@ module _ (l : ℕ) (inside : l < lists) (cs : List Call) (later : Later l cs) (s
 
   by-its-own : (far : ℕ) (last : Bool) (m : ℕ) → Next s l m → consistent s ≡ true → turnOf s ≡ Packet m
       → Proceeds lists (waitingOf s l) far last (suc (slots cs)) (packetsIn l (frames ours s (SendingSlot out ∷ cs)))
+  unfolding viewOf
   by-its-own far last m n c e =
       let w : (l + lists) % lists ≡ l = omega arith in
       let y = seen-packet l m lists (n .rest) n c e (n .left) w in
@@ -127,6 +131,7 @@ module _ (l : ℕ) (inside : l < lists) (cs : List Call) (later : Later l cs) (s
 
   by-another : (far : ℕ) (last : Bool) (q : List (List ℕ)) (j m near : ℕ) → Seen l far last q s → Next s j m → (l ≡ j → ⊥) → 1 ≤ near → near < far → far ≤ lists → (j + near) % lists ≡ l
       → turnOf s ≡ Packet m → Proceeds lists q far last (suc (slots cs)) (packetsIn l (frames ours s (SendingSlot out ∷ cs)))
+  unfolding viewOf
   by-another far last q j m near x n ne a b d t e =
       let c : consistent s ≡ true = x .fit in
       let y = seen-packet j m near q n c e (n .others l inside ne ∙ x .waiting) t in

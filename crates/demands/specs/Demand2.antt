@@ -28,17 +28,19 @@ use Rattle.words.specs.declared.Seed.the-variants.{For}
 use Rattle.model.specs.declared.Deed.the-variants.{Download}
 use Rattle.model.specs.declared.Sampling.the-variants.{Sampled}
 use Rattle.words.specs.declared.Evented.the-variants.{Done}
+use Rattle.model.specs.Calls.{packetFor}
+use Rattle.model.specs.View.{viewOf}
 use Rattle.demands.specs.Slave.{Slave}
 use Rattle.demands.specs.Runs.{Call, Byte, Event, SendingSlot, Elsewhere, afterCall, run, sends, each, frames}
 use Rattle.demands.specs.Life.{Device, Moment, PowerOn, Hears, Samples, Serves, passed, lived, sentIn, OfBytes}
 use Rattle.demands.specs.Heard.{Commands, doneAt, bringsKey, keyMatches}
-use Rattle.demands.specs.Waiting.{AllBut, waitingOf, packetFor, sampleOf, isSampled, isMissed}
+use Rattle.demands.specs.Waiting.{AllBut, waitingOf, sampleOf, isSampled, isMissed}
 
 -- the packets that are to go, slot by slot: with room enough, that of whose turn it is
 abbrev pub dueAt : List ℕ → Call → List (List ℕ)
 dueAt s (Byte cal meas b) = []
 dueAt s (Event cal meas event clock) = []
-dueAt s (SendingSlot out) = cond (ltb (length out) room) [] (packetFor (turnOf s) s)
+dueAt s (SendingSlot out) = cond (ltb (length out) room) [] (packetFor (turnOf s) (viewOf s))
 dueAt s Elsewhere = []
 
 abbrev pub due : Slave → List ℕ → List Call → List (List ℕ)
@@ -51,9 +53,9 @@ numbered c i (p ∷ ps) = frame ((c + i) % 256) p ∷ numbered c (suc i) ps
 
 -- a slot's frame: read from any place it is one good message, with the packet that waited
 abbrev pub ReadsBack : List (List ℕ) → List ℕ → Type 0
-ReadsBack [] s = packetFor (turnOf s) s ≡ []
+ReadsBack [] s = packetFor (turnOf s) (viewOf s) ≡ []
 ReadsBack (f ∷ fs) s =
-    (fs ≡ []) × (p : List ℕ) × (packetFor (turnOf s) s ≡ p ∷ [])
+    (fs ≡ []) × (p : List ℕ) × (packetFor (turnOf s) (viewOf s) ≡ p ∷ [])
     × ((place : Place) (m : List ℕ) → longest ≤ length m → line.run place m f ≡ heard place m (ctrOf s) p)
 
 -- the calibration resource is locked, or no session is open

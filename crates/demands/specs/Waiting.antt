@@ -9,14 +9,11 @@ use Rattle.line.specs.Wire.{unstuff}
 use Rattle.state.specs.Layout.{listOf}
 use Rattle.state.specs.Bytes.{block}
 use Rattle.state.specs.State.{waits, answerOf}
-use Rattle.lists.specs.Slot.{packetOf}
 use Rattle.model.specs.Model.{waitingIn}
 use Rattle.model.specs.Calls.{sampleIn}
 use Rattle.model.specs.View.{sessionOf}
 use Rattle.model.specs.declared.Sampling.{Sampling}
 use Rattle.model.specs.declared.Sampling.the-variants.{Idle, Sampled, Missed}
-use Rattle.model.specs.declared.Turn.{Turn}
-use Rattle.model.specs.declared.Turn.the-variants.{Nobody, Answer, Packet}
 
 -- t is s, but for the bytes from lo up to hi
 pub record AllBut (lo hi : ℕ) (s t : List ℕ) : Type 0 where
@@ -31,12 +28,6 @@ waitingAnswer s = cond (waits s) (answerOf s ∷ []) []
 -- the packets of list l that wait, in the order in which they leave
 abbrev pub waitingOf : List ℕ → ℕ → List (List ℕ)
 waitingOf s l = waitingIn (sessionOf s) l
-
--- the packet of whose turn it is
-abbrev pub packetFor : Turn → List ℕ → List (List ℕ)
-packetFor Nobody s = []
-packetFor Answer s = answerOf s ∷ []
-packetFor (Packet k) s = packetOf s k ∷ []
 
 -- ---- a sample of list l, as the memories are now
 abbrev pub sampleOf : List ℕ → ℕ → ℕ → List ℕ → List ℕ → List (List ℕ)

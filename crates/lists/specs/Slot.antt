@@ -2,7 +2,7 @@
 use Prim.Native.Nat.{ℕ, _+_, _%_, _≤_}
 use mathlib.Core.Path.{_≡_}
 use mathlib.Core.Bool.{cond}
-use mathlib.Core.List.{List, _∷_}
+use mathlib.Core.List.{List}
 use lib.Dec.{ltb}
 use lib.ListN.{length, set}
 use Rattle.line.specs.Message.{room}
@@ -11,8 +11,8 @@ use Rattle.line.specs.declared.Written.{Written}
 use Rattle.line.specs.declared.Written.the-variants.{Frame, BadLength, NoRoom}
 use Rattle.state.specs.Layout.{ctrAt, servedAt, lastAt, sampleAt, answerAt, answerBytesAt, listOf}
 use Rattle.state.specs.State.{consistent, ctrOf, answerKind, answerOf}
-use Rattle.model.specs.Calls.{turnIn}
-use Rattle.model.specs.View.{odtOf, viewOf}
+use Rattle.model.specs.Calls.{turnIn, packetFrom}
+use Rattle.model.specs.View.{sessionOf, viewOf}
 use Rattle.model.specs.declared.Turn.{Turn}
 use Rattle.model.specs.declared.Turn.the-variants.{Nobody, Answer, Packet}
 use Rattle.words.specs.declared.Slotted.{Slotted}
@@ -23,8 +23,8 @@ abbrev pub turnOf : List ℕ → Turn
 turnOf s = turnIn (viewOf s)
 
 -- the packet of ODT k: its number, and what was captured
-unfoldable pub packetOf : List ℕ → ℕ → List ℕ
-packetOf s k = k ∷ odtOf s k .store
+abbrev pub packetOf : List ℕ → ℕ → List ℕ
+packetOf s k = packetFrom (sessionOf s) k
 
 -- what the call answers, and the state and the lent bytes after it
 pub record Slot : Type 0 where

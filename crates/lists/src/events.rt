@@ -8,7 +8,7 @@ ghost use Rattle.state.specs.Layout.{lists, odts, entries, allOdts, events, odt
 ghost use Rattle.state.specs.Memory.{bytesOf};
 ghost use Rattle.state.specs.Lists.{sizeOf};
 ghost use Rattle.lists.specs.Lists.{odtBytes};
-ghost use Rattle.lists.specs.Event.{samplingOf, contentsOf, stored, capturedOdts, captured, sampledState, sampledBy, missedBy, Counts, tally, Happens, eventOf};
+ghost use Rattle.lists.specs.Event.{samplingOf, contentsOf, stored, captured, sampledState, sampledBy, missedBy, Counts, tally, Happens, eventOf};
 ghost use Rattle.model.specs.Model.{eachFits};
 ghost use Rattle.model.specs.Calls.{blockIn, blocksIn, leadOf};
 ghost use Rattle.model.specs.View.{entryOf, odtOf, sessionOf};

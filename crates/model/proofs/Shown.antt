@@ -2,13 +2,13 @@
 use Prim.Native.Nat.{ℕ, suc, _+_, _≤_, _<_}
 use mathlib.Core.Path.{_≡_, refl, ap, _∙_}
 use mathlib.Core.Bool.{Bool, true, false, cond}
-use mathlib.Core.List.{List, _++_}
+use mathlib.Core.List.{List, _∷_, _++_}
 use native.Mathlib.Omega.{arith}
 use borrow.Author.Tests.{ltb-false}
 use lib.Dec.{eqb, ltb, leb}
 use lib.ListN.{length, getD, length-set, set}
 use Rattle.line.proofs.Laws.{cond-ind}
-use Rattle.state.specs.Layout.{size, lists, firstOdt, odtCount, odtMost, allOdts, entryCount, storedMost, packetMost, servedAt, lastAt, sampleAt, answerAt, answerBytesAt, runningAt}
+use Rattle.state.specs.Layout.{size, lists, firstOdt, odtCount, odtMost, allOdts, listOf, entryCount, storedMost, packetMost, servedAt, lastAt, sampleAt, answerAt, answerBytesAt, runningAt}
 use Rattle.state.specs.State.{flagOf, openOf, waits, answerLength, answerKind, answerOf}
 use Rattle.state.specs.Lists.{sizeOf, modeOf, selectedOf, leastOf, storedLength}
 use Rattle.state.proofs.Sets.{block-length}
@@ -16,7 +16,8 @@ use Rattle.model.specs.declared.Sampling.the-variants.{Idle, Sampled, Mi
 use Rattle.model.specs.declared.Turn.the-variants.{Answer}
 use Rattle.model.specs.Model.{noEntry, noOdt, noList, Odt, DaqList, sizesOf, bytesIn, allBytes, eachFits, fits, runs, runsIn, hasPacket, somePacket, unsent}
 use Rattle.model.specs.Judge.{startable}
-use Rattle.model.specs.Calls.{blockIn, blocksIn, orElse, roundIn, turnIn, samplingIn}
+use Rattle.model.specs.Step.{odtIn}
+use Rattle.model.specs.Calls.{blockIn, blocksIn, orElse, roundIn, turnIn, odtAt, packetFrom, samplingIn}
 use Rattle.model.specs.View.{entryOf, odtOf, daqOf, listsOf, sessionOf, viewOf}
 use Rattle.model.proofs.Bounded.{upTo-at, upTo-above}
 
@@ -108,6 +109,16 @@ module _ (s : List ℕ) (l : ℕ) (there : l < lists) where
     pub some-next : length s ≡ size → somePacket (sessionOf s .list l) (suc o) ≡ cond (somePacket (sessionOf s .list l) o) true (ltb 0 (storedLength s (firstOdt l + o)))
     unfolding somePacket
     some-next whole = ap (λ (b : Bool). cond (somePacket (sessionOf s .list l) o) true b) (packet-at o whole h)
+
+-- ODT k, and its packet
+pub odt-by : (s : List ℕ) (k : ℕ) → k < allOdts → odtAt (sessionOf s) k ≡ odtOf s k
+odt-by s k h = odt-at s (listOf k) (omega arith) (odtIn k) (omega arith) ∙ ap (odtOf s) (back k) where
+  back : (k : ℕ) → firstOdt (listOf k) + odtIn k ≡ k
+  back k = omega arith
+
+pub packet-by : (s : List ℕ) (k : ℕ) → k < allOdts → packetFrom (sessionOf s) k ≡ k ∷ odtOf s k .store
+unfolding packetFrom
+packet-by s k h = ap (λ (y : Odt). k ∷ y .store) (odt-by s k h)
 
 -- ---- the answer that waits, and whose turn it is
 pub answer-most : (s : List ℕ) → answerLength s ≤ packetMost

@@ -57,6 +57,19 @@ turnIn v =
     Answer)
     (roundIn (v .session) (v .served))
 
+-- ODT k, and its packet: its number, and what was captured
+abbrev pub odtAt : Session → ℕ → Odt
+odtAt c k = c .list (listOf k) .odt (odtIn k)
+
+unfoldable pub packetFrom : Session → ℕ → List ℕ
+packetFrom c k = k ∷ odtAt c k .store
+
+-- the packet of whose turn it is
+abbrev pub packetFor : Turn → Slave → List (List ℕ)
+packetFor Nobody v = []
+packetFor Answer v = v .answer ∷ []
+packetFor (Packet k) v = packetFrom (v .session) k ∷ []
+
 -- ---- a frame is sent: the CTR grows by one, 255 to 0
 -- the answer no longer waits
 abbrev pub answerGone : Slave → Slave

@@ -16,12 +16,12 @@ use Rattle.model.specs.Step.{nextEntry}
 use Rattle.session.specs.Perform.{effect}
 use Rattle.session.specs.Receive.{heeded, meant, readOn, receiveOf}
 use Rattle.lists.specs.Event.{stored, capturedOdts, sampledState, tally, eventOf}
-use Rattle.lists.specs.Slot.{packetOf, answerSent, packetSent, sentBy, slotOf}
+use Rattle.lists.specs.Slot.{answerSent, packetSent, sentBy, slotOf}
 use Rattle.model.specs.Model.{upTo, put, sizesOf, allBytes, eachFits, fits, runs, someRuns, somePacket, inStores, waiting}
-use Rattle.model.specs.Calls.{firstPacket, packetIn, roundFrom, turnIn, samplingIn, blocksIn, contentsIn, sampleFrom}
+use Rattle.model.specs.Calls.{firstPacket, packetIn, roundFrom, turnIn, samplingIn, blocksIn, contentsIn, sampleFrom, packetFrom}
 use Rattle.session.specs.PowerUp.{powered, powerUpOf}
 use Rattle.demands.specs.Heard.{heeds, bringsKey, wrongKeyBy}
 
 unfoldable pub computed : Unit {0}
-unfolding takeOf writeOf u16At u32At put16 put32 copied cleared nextOf startOf keyOf insideOf blockSum byteOf bytesOf consistent flagOf generatorOf setGenerator maskOf seedOf setSeed mtaOf setMta pointerOf setPointer closed fresh placeOf setPlace messageOf setMessage answerLength answerKind answerOf answered sizeOf extensionOf addressOf modeOf leastOf storedLength upTo put sizesOf allBytes eachFits fits runs someRuns somePacket inStores waiting listsOf sessionOf viewOf dropped switched listCleared modeSet entryCleared entrySet stopEach startSelected stopSelected commandOf connectDeed getSeedDeed unlockBy setMtaDeed uploadDeed shortUploadDeed checksumDeed downloadTo downloadDeed clearDeed pointerDeed writeBlock writeDeed modeDeed startDeed startStopDeed synchDeed judgeThe judgeBy judge allStartable judgeIn nextEntry effect replyIn writes goodConnect heedingIn heeded meant readOn receiveOf samplingIn blocksIn contentsIn sampleFrom stored capturedOdts sampledState tally eventOf firstPacket packetIn roundFrom turnIn packetOf answerSent packetSent sentBy slotOf powered powerUpOf heeds bringsKey wrongKeyBy
+unfolding takeOf writeOf u16At u32At put16 put32 copied cleared nextOf startOf keyOf insideOf blockSum byteOf bytesOf consistent flagOf generatorOf setGenerator maskOf seedOf setSeed mtaOf setMta pointerOf setPointer closed fresh placeOf setPlace messageOf setMessage answerLength answerKind answerOf answered sizeOf extensionOf addressOf modeOf leastOf storedLength upTo put sizesOf allBytes eachFits fits runs someRuns somePacket inStores waiting listsOf sessionOf viewOf dropped switched listCleared modeSet entryCleared entrySet stopEach startSelected stopSelected commandOf connectDeed getSeedDeed unlockBy setMtaDeed uploadDeed shortUploadDeed checksumDeed downloadTo downloadDeed clearDeed pointerDeed writeBlock writeDeed modeDeed startDeed startStopDeed synchDeed judgeThe judgeBy judge allStartable judgeIn nextEntry effect replyIn writes goodConnect heedingIn heeded meant readOn receiveOf samplingIn blocksIn contentsIn sampleFrom stored capturedOdts sampledState tally eventOf firstPacket packetIn roundFrom turnIn packetFrom answerSent packetSent sentBy slotOf powered powerUpOf heeds bringsKey wrongKeyBy
 computed = tt

@@ -22,10 +22,11 @@ use Rattle.words.specs.declared.Resource.the-variants.{Calibration}
 use Rattle.words.specs.declared.Extension.the-variants.{Calibration as CalibrationMemory}
 use Rattle.words.specs.declared.Mta.{Mta}
 use Rattle.words.specs.declared.Mta.the-variants.{At}
+use Rattle.model.specs.Calls.{packetFor}
+use Rattle.model.specs.View.{viewOf}
 use Rattle.demands.specs.Slave.{Slave}
 use Rattle.demands.specs.Runs.{Byte, Event, SendingSlot}
 use Rattle.demands.specs.Heard.{packetEnded}
-use Rattle.demands.specs.Waiting.{packetFor}
 use Rattle.demands.specs.Demand1.{Demand1}
 use Rattle.demands.specs.Demand2.{Demand2, ReadsBack}
 use Rattle.demands.specs.Demand3.{Demand3}
@@ -139,7 +140,7 @@ allAtOnce-fails d =
     let e : _≡_ {A = ℕ} 19 7 = ap (λ fs. length (getD fs 0 [])) (d .numbers (reached allAtOnce (measuring (5 ∷ []))) (Event [] (5 ∷ []) 0 0 ∷ SendingSlot (replicate 46 0) ∷ []) refl (lit< tt)) in omega arith
 
 -- a frame that reads back carries the packet whose turn it was
-read-back : (f s p : List ℕ) → packetFor (turnOf s) s ≡ p ∷ [] → ReadsBack (f ∷ []) s → line.run Outside (replicate longest 0) f ≡ heard Outside (replicate longest 0) (ctrOf s) p
+read-back : (f s p : List ℕ) → packetFor (turnOf s) (viewOf s) ≡ p ∷ [] → ReadsBack (f ∷ []) s → line.run Outside (replicate longest 0) f ≡ heard Outside (replicate longest 0) (ctrOf s) p
 read-back f s p e r = subst (λ q. line.run Outside (replicate longest 0) f ≡ heard Outside (replicate longest 0) (ctrOf s) q) (ap (λ ps. getD ps 0 []) (sym (r .2) ∙ e)) (r .3 Outside (replicate longest 0) (lit≤ tt))
 
 -- the frame of FF 9A reads as one with a wrong checksum

@@ -15,8 +15,8 @@ use Rattle.state.specs.Lists.{storedLength}
 use Rattle.session.specs.Receive.{Step, only, obeyed, heeded, fedOf, receiveOf}
 use Rattle.model.specs.Heed.{goodConnect}
 use Rattle.lists.specs.Event.{Happened, stored, eventOf}
-use Rattle.model.specs.Calls.{blocksIn}
-use Rattle.model.specs.View.{odtOf}
+use Rattle.model.specs.Calls.{blocksIn, packetFor}
+use Rattle.model.specs.View.{odtOf, viewOf}
 use Rattle.lists.specs.Slot.{Slot, turnOf, slotOf}
 use Rattle.words.specs.Number.{slottedValue}
 use Rattle.session.specs.PowerUp.{powerUpOf}
@@ -31,7 +31,7 @@ use Rattle.words.specs.declared.Slotted.{Slotted}
 use Rattle.words.specs.declared.Slotted.the-variants.{Idle, Sent, NoRoom, NoState as SlotNoState}
 use Rattle.demands.specs.Slave.{Slave}
 use Rattle.demands.specs.Heard.{packetEnded, readBy}
-use Rattle.demands.specs.Waiting.{packetFor, packetInside}
+use Rattle.demands.specs.Waiting.{packetInside}
 
 -- ---- ours, but for one call
 abbrev pub receiving : (List ℕ → List ℕ → List ℕ → ℕ → Step) → Slave
@@ -139,7 +139,7 @@ inFrames NoRoom ps o ctr out = o
 inFrames SlotNoState ps o ctr out = o
 
 abbrev pub sumsEscaped : Slave
-sumsEscaped = sending (λ s out. inFrames (slotOf s out .slotted) (packetFor (turnOf s) s) (slotOf s out) (ctrOf s) out)
+sumsEscaped = sending (λ s out. inFrames (slotOf s out .slotted) (packetFor (turnOf s) (viewOf s)) (slotOf s out) (ctrOf s) out)
 
 -- ---- events
 -- counts are ours, and nothing is sampled

@@ -1,10 +1,9 @@
-use mathlib.Core.Path.{_≡_, refl, sym, _∙_}
+use mathlib.Core.Path.{_≡_, refl, _∙_}
 use Prim.Native.Nat.{_+_, _-_, _≤_}
 use native.Mathlib.Numerals.{add-one}
 use native.Mathlib.Omega.{arith}
 use lib.ListN.{length}
-use Rattle.state.specs.Layout.{odts, firstOdt, odtMost}
-use Rattle.lists.specs.Lists.{odtBytes}
+use Rattle.state.specs.Layout.{odts, firstOdt}
 use Rattle.lists.specs.Event.{capturedOdts}
 use Rattle.lists.proofs.Fitting.{fit-each}
 use Rattle.lists.proofs.Entries.{bytes-alike, contents-alike}

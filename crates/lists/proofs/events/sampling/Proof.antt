@@ -1,4 +1,3 @@
-use mathlib.Core.Path.{sym, _∙_}
 use borrow.Author.Tests.{not-true, not-false, eq-eqb, ne-eqb}
 use Rattle.model.proofs.Shown.{sampling-at}
 use borrow.Author.Needs.{needs}

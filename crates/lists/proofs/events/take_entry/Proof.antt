@@ -1,5 +1,4 @@
 use mathlib.Core.Path.{sym, _∙_}
-use native.Mathlib.Omega.{arith}
 use Rattle.state.specs.Memory.{bytesOf}
 use borrow.Author.Needs.{needs}
 use Rattle.lists.proofs.events.take_entry.Statement.{statement}

@@ -1,11 +1,11 @@
-use mathlib.Core.Path.{_≡_, sym, ap, _∙_}
-use mathlib.Core.Bool.{true, false}
-use Prim.Native.Nat.{suc, _+_, _*_, _-_, _≤_}
+use mathlib.Core.Path.{_≡_, sym, _∙_}
+use mathlib.Core.Bool.{true}
+use Prim.Native.Nat.{suc, _*_, _-_, _≤_}
 use native.Mathlib.Numerals.{add-one}
 use native.Mathlib.Omega.{arith}
 use borrow.Author.Tests.{eq-eqb, ne-eqb, le-leb, lt-leb}
-use lib.Dec.{eqb, leb}
-use Rattle.state.specs.Layout.{odts, odtMost, entries, entryMost, firstOdt}
+use lib.Dec.{eqb}
+use Rattle.state.specs.Layout.{odts, entries, entryMost}
 use Rattle.model.specs.Model.{allBytes, eachFits}
 use Rattle.model.specs.View.{sessionOf}
 use Rattle.model.proofs.Shown.{all-next, each-next}

@@ -1,5 +1,5 @@
 use borrow.Author.Tests.{not-true}
-use mathlib.Core.Path.{_≡_, sym, _∙_}
+use mathlib.Core.Path.{sym, _∙_}
 use Rattle.model.specs.Calls.{packetIn}
 use Rattle.model.specs.View.{sessionOf}
 use Rattle.model.proofs.Shown.{started-at}

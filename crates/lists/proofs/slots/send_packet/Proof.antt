@@ -1,4 +1,4 @@
-use mathlib.Core.Path.{_≡_, _∙_, ap}
+use mathlib.Core.Path.{_≡_, _∙_, sym, ap}
 use mathlib.Core.List.{List}
 use Prim.Native.Nat.{ℕ, suc, _+_, _-_}
 use native.Mathlib.Omega.{arith}
@@ -7,6 +7,7 @@ use lib.Seq.{set-set}
 use Rattle.line.specs.Writer.{writeOf}
 use Rattle.state.specs.Layout.{ctrAt, servedAt, lastAt}
 use Rattle.lists.specs.Slot.{slottedAs, sentBy, packetSent, packetOf}
+use Rattle.model.proofs.Shown.{packet-by}
 use Rattle.lists.proofs.Sending.{numbered}
 use borrow.Author.Needs.{needs}
 use Rattle.lists.proofs.slots.send_packet.Statement.{statement}
@@ -79,10 +80,10 @@ same-length-2 : tie.Need-same-length-2
 same-length-2 c = search needs
 
 returns : tie.Need-returns
-unfolding sentBy packetSent packetOf
+unfolding sentBy packetSent
 returns c = let at = c .before .before .before .before .before .before .before .before .before .before .before .before .sample-at .result in
     let n : (at + 1 + c .before .before .before .before .before .before .before .before .before .before .stored-length .result) - at ≡ suc (c .before .before .before .before .before .before .before .before .before .before .stored-length .result) = omega arith in
-    let e : take ((at + 1 + c .before .before .before .before .before .before .before .before .before .before .stored-length .result) - at) (drop at (set (c .before .before .before .before .before .before .before .before .before .before .before .before .before .before .before .args .s .now) at (c .before .before .before .before .before .before .before .before .before .before .before .before .before .before .before .args .k))) ≡ packetOf (c .before .before .before .before .before .before .before .before .before .before .before .before .before .before .before .args .s .now) (c .before .before .before .before .before .before .before .before .before .before .before .before .before .before .before .args .k) = rw n (numbered (c .before .before .before .before .before .before .before .before .before .before .before .before .before .before .before .args .s .now) at (c .before .before .before .before .before .before .before .before .before .before .before .before .before .before .before .args .k) (c .before .before .before .before .before .before .before .before .before .before .stored-length .result) (omega (arith, c .before .before .before .before .before .before .before .before .before .before .before .before .sample-at .ensures)) ∙ rw (c .before .before .before .before .before .before .before .before .before .before .before .before .sample-at .ensures, c .before .before .before .before .before .before .before .before .before .before .stored-length .ensures .0)) in
+    let e : take ((at + 1 + c .before .before .before .before .before .before .before .before .before .before .stored-length .result) - at) (drop at (set (c .before .before .before .before .before .before .before .before .before .before .before .before .before .before .before .args .s .now) at (c .before .before .before .before .before .before .before .before .before .before .before .before .before .before .before .args .k))) ≡ packetOf (c .before .before .before .before .before .before .before .before .before .before .before .before .before .before .before .args .s .now) (c .before .before .before .before .before .before .before .before .before .before .before .before .before .before .before .args .k) = rw n (numbered (c .before .before .before .before .before .before .before .before .before .before .before .before .before .before .before .args .s .now) at (c .before .before .before .before .before .before .before .before .before .before .before .before .before .before .before .args .k) (c .before .before .before .before .before .before .before .before .before .before .stored-length .result) (omega (arith, c .before .before .before .before .before .before .before .before .before .before .before .before .sample-at .ensures)) ∙ rw (c .before .before .before .before .before .before .before .before .before .before .before .before .sample-at .ensures, c .before .before .before .before .before .before .before .before .before .before .stored-length .ensures .0) (sym (packet-by (c .before .before .before .before .before .before .before .before .before .before .before .before .before .before .before .args .s .now) (c .before .before .before .before .before .before .before .before .before .before .before .before .before .before .before .args .k) (c .before .before .before .before .before .before .before .before .before .before .before .before .before .before .before .pre .1)))) in
     record {
       result = c .slotted .ensures ∙ ap slottedAs (c .before .before .before .before .before .write .ensures .result) ∙ ap (λ (p : List ℕ). slottedAs (writeOf p (getD (c .before .before .before .before .before .before .before .before .before .before .before .before .before .before .before .args .s .now) ctrAt 0) (c .before .before .before .before .before .before .before .before .before .before .before .before .before .before .before .args .out .now) .written)) e;
       state = ap (λ (t : List ℕ). set (set (set t ctrAt (c .before .before .next-ctr .result)) servedAt (c .before .list-of .result)) lastAt 0) (set-set (c .before .before .before .before .before .before .before .before .before .before .before .before .before .before .before .args .s .now) at (c .before .before .before .before .before .before .before .before .before .before .before .before .before .before .before .args .k) 0) ∙ rw (c .before .before .next-ctr .ensures, c .before .list-of .ensures, c .before .before .before .before .before .before .before .before .before .before .before .before .sample-at .ensures);
