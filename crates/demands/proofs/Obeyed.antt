@@ -1,14 +1,17 @@
 -- A command that is heard does what the model does, so every law of document 01's list of commands stands of it. Assumes nothing.
 use Prim.Native.Nat.{ℕ, _^_, _<_}
-use mathlib.Core.Path.{_≡_, sym, ap, subst, _∙_}
-use mathlib.Core.Bool.{true}
-use mathlib.Core.Option.{some}
+use mathlib.Core.Path.{_≡_, refl, sym, ap, subst, _∙_}
+use mathlib.Core.Bool.{Bool, true, false, cond}
+use mathlib.Core.Option.{Option, some}
 use mathlib.Core.List.{List}
+use borrow.Author.Tests.{eqb-true}
+use lib.Dec.{eqb, ltb}
 use lib.ListN.{length}
 use Rattle.line.specs.declared.Outcome.{Outcome}
 use Rattle.line.specs.declared.Outcome.the-variants as line
+use Rattle.line.proofs.Laws.{false-true}
 use Rattle.state.specs.Bytes.{block}
-use Rattle.state.specs.State.{consistent, generatorOf}
+use Rattle.state.specs.State.{consistent, generatorOf, openOf}
 use Rattle.model.specs.Answers.{written, doneBy, commandIn}
 use Rattle.session.specs.Perform.{after}
 use Rattle.session.specs.Receive.{Step, fedOf, receiveOf}
@@ -16,7 +19,12 @@ use Rattle.session.proofs.Looked.{judged-doable}
 use Rattle.fields.proofs.Readers.{apart}
 use Rattle.judge.specs.Doable.{Doable}
 use Rattle.model.specs.declared.Deed.{Deed}
-use Rattle.model.specs.Model.{Bytes, Session}
+use Rattle.model.specs.Model.{Bytes, Session, byte}
+use Rattle.words.specs.Command.{commandOf}
+use Rattle.words.specs.Number.{receivedNumber}
+use Rattle.model.specs.Judge.{connectDeed, judgeThe, judgeBy, judge, judgeIn}
+use Rattle.model.specs.Heed.{goodConnect}
+use Rattle.model.specs.declared.Deed.the-variants.{Connect}
 use Rattle.model.specs.View.{sessionOf, shown}
 use Rattle.views.specs.Commands.{Obeys}
 use Rattle.views.proofs.Bytes.{bytes-block, fed-bytes}
@@ -28,7 +36,7 @@ use Rattle.demands.specs.Slave.{ours}
 use Rattle.demands.specs.Heard.{packetBy, packetEnded, readBy, Commands, deedOf}
 use Rattle.demands.specs.Obeyed.{Obeyed}
 use Rattle.demands.proofs.ReadBy.{read-only, read-length, read-generator}
-use Rattle.demands.proofs.Received.{some-none, commanded}
+use Rattle.demands.proofs.Received.{Does, Reads, rests, acts, some-none, received, commanded}
 
 -- the packet of a good message is of bytes
 packet-bytes : (o : Outcome) (m p : List ℕ) → Bytes m → packetBy o m ≡ some p → Bytes p
@@ -39,6 +47,19 @@ packet-bytes line.BadEscape m p w e = absurd (some-none (sym e))
 packet-bytes line.BadChecksum m p w e = absurd (some-none (sym e))
 packet-bytes line.CutOff m p w e = absurd (some-none (sym e))
 packet-bytes line.ShortBuffer m p w e = absurd (some-none (sym e))
+
+some-same : {A : Type 0} {x y : A} → some x ≡ some y → x ≡ y
+some-same e = cc
+
+connect-judged : (p : List ℕ) (c : Session) (nc nm : ℕ) → goodConnect p ≡ true → judgeIn p c nc nm ≡ Connect
+unfolding judgeIn judge judgeBy judgeThe connectDeed commandOf goodConnect
+connect-judged p c nc nm g = go (eqb (byte p 0) 0xFF) (ltb (length p) 2) (eqb (byte p 1) 0) refl refl refl g where
+  go : (x y z : Bool) → eqb (byte p 0) 0xFF ≡ x → ltb (length p) 2 ≡ y → eqb (byte p 1) 0 ≡ z → cond x (cond y false z) false ≡ true
+      → judgeIn p c nc nm ≡ Connect
+  go true false true a b d e = simp (eqb-true (byte p 0) 0xFF a, b, d)
+  go true false false a b d e = absurd (false-true e)
+  go true true z a b d e = absurd (false-true e)
+  go false y z a b d e = absurd (false-true e)
 
 module _ (s : List ℕ) (b : ℕ) (c : consistent s ≡ true) (w : Bytes s) (low : b < 256) where
   -- a byte that is read leaves the session
@@ -65,14 +86,47 @@ module _ (s : List ℕ) (b : ℕ) (c : consistent s ≡ true) (w : Bytes s) (low
       shown-after (deedOf p t cal meas) t cal meas (length p) (read-length s b c) (judged-doable p t (length cal) (length meas)) (judged-fits p t (length cal) (length meas) v generator-low) p
       ∙ ap (λ (x : Session). commandIn p x cal meas) session-read
 
-  pub command-shown : (p cal meas : List ℕ) → Commands s b p → shown (receiveOf s cal meas b .state) (receiveOf s cal meas b .cal) ≡ commandIn p (sessionOf s) cal meas
-  command-shown p cal meas heard =
-      ap (λ (o : Step). shown (o .state) (o .cal)) (commanded s cal meas b p c heard) ∙ command-done p cal meas (ended-bytes p (heard .ends))
+  -- a good CONNECT without a session is what it leads to in one
+  connect-done : (p cal meas : List ℕ) → goodConnect p ≡ true → shown (after Connect (readBy s b) cal meas) (written Connect p cal) ≡ commandIn p (sessionOf s) cal meas
+  connect-done p cal meas g =
+      shown-done Connect p cal meas (length p) tt tt ∙ ap (λ (d : Deed). doneBy d p (sessionOf s) cal meas) (sym (connect-judged p (sessionOf s) (length cal) (length meas) g))
+
+  -- whatever is done at byte b is what the model does
+  does-shown : (d : Deed) (p cal meas : List ℕ) → Does s cal meas b d p → shown (after d (readBy s b) cal meas) (written d p cal) ≡ commandIn p (sessionOf s) cal meas
+  does-shown d p cal meas does = go (openOf s) refl where
+    go : (x : Bool) → openOf s ≡ x → shown (after d (readBy s b) cal meas) (written d p cal) ≡ commandIn p (sessionOf s) cal meas
+    go true e = ap (λ (x : Deed). shown (after x (readBy s b) cal meas) (written x p cal)) (does .opened e) ∙ command-done p cal meas (ended-bytes p (does .ended))
+    go false e = ap (λ (x : Deed). shown (after x (readBy s b) cal meas) (written x p cal)) (does .closed e .0) ∙ connect-done p cal meas (does .closed e .1)
+
+  taken-by : {o : Step} {x : Option Deed} (p cal meas : List ℕ) → packetEnded s b ≡ some p → receivedNumber (o .received) ≡ 1 → Reads s cal meas b o x → shown (o .state) (o .cal) ≡ commandIn p (sessionOf s) cal meas
+  taken-by p cal meas e one (rests r n few) = absurd (n one)
+  taken-by p cal meas e one (acts d q does) =
+      let same : q ≡ p = some-same (sym (does .ended) ∙ e) in
+      does-shown d q cal meas does ∙ ap (λ (x : List ℕ). commandIn x (sessionOf s) cal meas) same
+
+  pub taken-shown : (p cal meas : List ℕ) → packetEnded s b ≡ some p → receivedNumber (receiveOf s cal meas b .received) ≡ 1
+      → shown (receiveOf s cal meas b .state) (receiveOf s cal meas b .cal) ≡ commandIn p (sessionOf s) cal meas
+  taken-shown p cal meas e one = taken-by p cal meas e one (received s cal meas b c)
 
 as-model : AsModel (Obeyed ours)
 as-model p c cal meas o r =
-    r .after ∙ command-shown (r .state) (r .last) (r .sound) (r .bytes) (r .low) p cal meas (r .command) ∙ ap (λ (x : Session). commandIn p x cal meas) (sym (r .before))
+    r .after ∙ taken-shown (r .state) (r .last) (r .sound) (r .bytes) (r .low) p cal meas (r .ends) (r .taken) ∙ ap (λ (x : Session). commandIn p x cal meas) (sym (r .before))
 
 -- every command, of the received byte itself
 pub ours-obeys : Obeys (Obeyed ours)
 ours-obeys = obeys (Obeyed ours) as-model
+
+-- a command that is heard while a session is open and no answer waits is taken
+pub heard-obeyed : (s cal meas : List ℕ) (b : ℕ) (p : List ℕ) → consistent s ≡ true → Bytes s → b < 256 → Commands s b p
+    → Obeyed ours p (sessionOf s) cal meas (shown (ours .receive s cal meas b .state) (ours .receive s cal meas b .cal))
+heard-obeyed s cal meas b p c w low heard = record {
+  state = s;
+  last = b;
+  sound = c;
+  bytes = w;
+  low = low;
+  ends = heard .ends;
+  taken = ap (λ (o : Step). receivedNumber (o .received)) (commanded s cal meas b p c heard);
+  before = refl;
+  after = refl;
+}
