@@ -1,23 +1,20 @@
 -- A list's own bytes: the packets of it that wait are read from these alone, so a change elsewhere leaves them. Assumes nothing.
 use Prim.Native.Nat.{ℕ, _+_, _≤_, _<_}
 use mathlib.Core.Path.{_≡_, refl, sym, ap, _∙_}
-use mathlib.Core.Bool.{Bool, true, false, cond}
 use mathlib.Core.List.{List}
 use native.Mathlib.Omega.{arith}
-use borrow.Author.Tests.{ltb-false}
-use lib.Dec.{T, ltb, leb, le→leb, lit≤}
+use lib.Dec.{lit≤}
 use lib.ListN.{set}
 use Rattle.state.specs.Layout.{size, lists, sessionAt, openAt, calibrationAt, modeAt, selectedAt, runningAt, entriesAt, sampleAt, firstOdt, odtCount}
 use Rattle.state.specs.Bytes.{cleared}
-use Rattle.state.specs.Lists.{modeOf}
 use Rattle.lists.specs.Lists.{fitOf, runsOf}
 use Rattle.model.specs.Model.{Odt}
 use Rattle.model.specs.View.{sessionOf}
 use Rattle.model.proofs.Shown.{mode-at, odt-at, runs-at, unlisted-fits, unlisted-runs}
 use Rattle.model.proofs.Fits.{fits-same}
-use Rattle.fields.proofs.Stores.{out}
 use Rattle.fields.proofs.Frames.{Only, only-set, only-cleared}
 use Rattle.fields.proofs.Readers.{Same, same-part, same-then, flag-reads, open-reads, entries-own}
+use Rattle.views.proofs.Parts.{Misses, spared, mode-own}
 use Rattle.demands.specs.Waiting.{waitingOf}
 use Rattle.demands.proofs.Waiting.{listed, waiting-same}
 
@@ -55,10 +52,6 @@ own-then p q = record {
   stores = same-then (p .stores) (q .stores);
 }
 
--- of the bytes from lo up to hi none is one from a up to b
-abbrev pub Misses : ℕ → ℕ → ℕ → ℕ → Type 0
-Misses lo hi a b = (i : ℕ) → a ≤ i → i < b → lo ≤ i → hi ≤ i
-
 -- of the bytes from lo up to hi none is list l's own; `omega` proves it at once
 pub record Spares (l lo hi : ℕ) : Type 0 where
   pub opened : Misses lo hi openAt calibrationAt
@@ -67,23 +60,13 @@ pub record Spares (l lo hi : ℕ) : Type 0 where
   pub entered : Misses lo hi (entriesAt (firstOdt l)) (entriesAt (firstOdt l + odtCount l))
   pub stores : Misses lo hi (sampleAt (firstOdt l)) (sampleAt (firstOdt l + odtCount l))
 
--- a byte that does not lie among those from lo up to hi
-aside : (lo hi j : ℕ) → (lo ≤ j → hi ≤ j) → T (out lo hi j)
-aside lo hi j f = go (ltb j lo) refl where
-  go : (x : Bool) → ltb j lo ≡ x → T (cond x true (leb hi j))
-  go true e = tt
-  go false e = le→leb hi j (f (ltb-false j lo e))
-
-pub same-missed : {lo hi a b : ℕ} {s t : List ℕ} → Misses lo hi a b → Only lo hi s t → Same a b s t
-same-missed {lo} {hi} m w = record { long = w .long; byte = λ j p q. w .bytes j (aside lo hi j (m j p q)) }
-
 pub own-only : {l lo hi : ℕ} {s t : List ℕ} → Spares l lo hi → Only lo hi s t → Own l s t
 own-only m w = record {
-  opened = same-missed (m .opened) w;
-  mode = same-missed (m .mode) w;
-  running = same-missed (m .running) w;
-  entered = same-missed (m .entered) w;
-  stores = same-missed (m .stores) w;
+  opened = spared w (m .opened);
+  mode = spared w (m .mode);
+  running = spared w (m .running);
+  entered = spared w (m .entered);
+  stores = spared w (m .stores);
 }
 
 pub own-set : {l : ℕ} (s : List ℕ) (i a : ℕ) → Spares l i (i + 1) → Own l s (set s i a)
@@ -94,17 +77,13 @@ own-cleared s i n m = own-only m (only-cleared s i n (omega arith) (omega arith)
 
 -- ---- what is read from them
 module _ {s t : List ℕ} where
-  pub mode-own : (l : ℕ) → Own l s t → modeOf t l ≡ modeOf s l
-  unfolding modeOf
-  mode-own l w = rw (w .mode .byte (modeAt l) (omega arith) (omega arith))
-
   module _ (l : ℕ) (there : l < lists) (w : Own l s t) where
     entered-own : (o : ℕ) → o < odtCount l → sessionOf t .list l .odt o .entry ≡ sessionOf s .list l .odt o .entry
     entered-own o h =
         ap (λ (y : Odt). y .entry) (odt-at t l there o h) ∙ entries-own (firstOdt l + o) (same-part (omega arith) (omega arith) (w .entered)) ∙ ap (λ (y : Odt). y .entry) (sym (odt-at s l there o h))
 
     set-own : sessionOf t .list l .mode ≡ sessionOf s .list l .mode
-    set-own = mode-at t l there ∙ mode-own l w ∙ sym (mode-at s l there)
+    set-own = mode-at t l there ∙ mode-own l (w .mode) ∙ sym (mode-at s l there)
 
     listed-fit : fitOf t l ≡ fitOf s l
     listed-fit = fits-same l (sessionOf t .list l) (sessionOf s .list l) entered-own set-own

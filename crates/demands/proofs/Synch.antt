@@ -14,8 +14,9 @@ use Rattle.lists.specs.Lists.{runsOf, switched, stopEach, startOne, startSelect
 use Rattle.fields.proofs.Frames.{only-set}
 use Rattle.fields.proofs.Readers.{Same, same-then, flag-reads}
 use Rattle.fields.proofs.Effects.{only-stopEach, only-startSelected, only-stopSelected}
+use Rattle.views.proofs.Parts.{spared}
 use Rattle.demands.specs.Waiting.{waitingOf}
-use Rattle.demands.proofs.Own.{Own, own-none, own-then, same-missed, waiting-reads}
+use Rattle.demands.proofs.Own.{Own, own-none, own-then, waiting-reads}
 use Rattle.demands.proofs.ListChanges.{own-switched, own-selected, switched-waiting, resting-kept}
 
 -- list by list, list n is changed and then deselected
@@ -54,7 +55,7 @@ startSelected-waiting s (suc n) l h n4 l4 =
 
 -- ---- those selected are stopped
 selected-set : (s : List ℕ) (l i a : ℕ) → i ≢ selectedAt l → Same (selectedAt l) (selectedAt l + 1) s (set s i a)
-selected-set s l i a n = same-missed (omega arith) (only-set {lo = i} {hi = i + 1} s i a (omega arith) (omega arith))
+selected-set s l i a n = spared (only-set {lo = i} {hi = i + 1} s i a (omega arith) (omega arith)) (omega arith)
 
 selected-dropped : (s : List ℕ) (k n l : ℕ) → l < lists → Same (selectedAt l) (selectedAt l + 1) s (dropped s k n)
 unfolding dropped

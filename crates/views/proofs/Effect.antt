@@ -5,7 +5,7 @@ use mathlib.Core.Logic.{_≢_}
 use mathlib.Core.Bool.{Bool, true, false, cond}
 use mathlib.Core.List.{List}
 use native.Mathlib.Omega.{arith}
-use borrow.Author.Tests.{ltb-true, ltb-false, lt-ltb, le-ltb, eqb-true, eqb-false, eq-eqb}
+use borrow.Author.Tests.{ltb-true, ltb-false, lt-ltb, le-ltb, eqb-true, eqb-false}
 use lib.Dec.{eqb, ltb, lit≤}
 use lib.ListN.{length, set}
 use Rattle.line.proofs.Laws.{cond-ind}
@@ -30,7 +30,7 @@ use Rattle.model.specs.View.{daqOf, listsOf, sessionOf, viewOf}
 use Rattle.views.proofs.Fit.{Fit}
 use Rattle.model.proofs.Shown.{selected-at}
 use Rattle.model.proofs.Bounded.{either, upTo-above}
-use Rattle.views.proofs.Parts.{in-session, in-lists}
+use Rattle.views.proofs.Parts.{put-here, in-session, in-lists}
 use Rattle.views.proofs.Shows.{shows-seed, shows-generator, shows-mta, shows-pointer, shows-lock, shows-closed, shows-fresh, Changes, changes-switched, changes-selected, changes-mode, changes-cleared, changes-entryCleared, changes-entrySet}
 
 -- ---- one list changed
@@ -66,10 +66,6 @@ one-more f d t u n c e = c ∙ ap (λ (x : ℕ → DaqList). put n (f n (x n)) x
 put-put : (l : ℕ) (x y : DaqList) (d : ℕ → DaqList) → put l y (put l x d) ≡ put l y d
 unfolding put
 put-put l x y d = fun-ext (λ j. either (eqb j l) (λ b. rw b) (λ b. rw b))
-
-put-here : (l : ℕ) (x : DaqList) (d : ℕ → DaqList) → put l x d l ≡ x
-unfolding put
-put-here l x d = rw (eq-eqb l l refl)
 
 put-back : (l : ℕ) (d : ℕ → DaqList) → d ≡ put l (d l) d
 unfolding put

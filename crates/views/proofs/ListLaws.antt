@@ -8,7 +8,6 @@ use native.Mathlib.Omega.{arith}
 use borrow.Author.Tests.{eq-eqb, ne-eqb, eqb-true, eqb-false, ltb-false, leb-false}
 use lib.Dec.{eqb, ltb, leb}
 use lib.ListN.{length}
-use Rattle.line.proofs.Laws.{cond-ind}
 use Rattle.line.proofs.Stuffed.{false-true}
 use Rattle.state.specs.Layout.{lists, events, entryMost, lastEntry, listOf, firstOdt, odtCount, entryCount}
 use Rattle.state.specs.Bytes.{u16At, u32At}
@@ -26,6 +25,7 @@ use Rattle.model.specs.Step.{nextEntry, withPointer, withLists, withEntry, setE
 use Rattle.model.specs.Answers.{written, replyIn, doneBy, writes}
 use Rattle.model.specs.Model.{byte, put, Entry, noEntry, Odt, DaqList, Session, fits, runsIn}
 use Rattle.views.specs.Commands.{two, four, extensionNumber, TheGenerator, Whether-open, TheLocks, TheSeed, TheMta, ThePointer, TheLists, AllBut, AllButBoth, CLEAR-DAQ-LIST, SET-DAQ-PTR, WRITE-DAQ, SET-DAQ-LIST-MODE, Switched, Unswitched, START-STOP-DAQ-LIST, START-STOP-SYNCH}
+use Rattle.views.proofs.Parts.{put-by, put-here, put-there}
 use Rattle.views.proofs.Taken.{four-is, named-by, fe-ff, Taken, unless, provided, branch, judged, Leads}
 
 -- ---- what is left
@@ -55,19 +55,6 @@ but-both c f x TheSeed n m = refl
 but-both c f x TheMta n m = refl
 but-both c f x ThePointer n m = absurd (n refl)
 but-both c f x TheLists n m = absurd (m refl)
-
--- ---- one list, one ODT, one entry changed
-put-by : {A : Type 0} (P : A → Type 0) (i : ℕ) (x : A) (f : ℕ → A) (j : ℕ) → (j ≡ i → P x) → (j ≢ i → P (f j)) → P (put i x f j)
-unfolding put
-put-by P i x f j p q = cond-ind P (eqb j i) (λ b. p (eqb-true j i b)) (λ b. q (eqb-false j i b))
-
-put-here : {A : Type 0} (i : ℕ) (x : A) (f : ℕ → A) → put i x f i ≡ x
-unfolding put
-put-here i x f = rw (eq-eqb i i refl)
-
-put-there : {A : Type 0} (i : ℕ) (x : A) (f : ℕ → A) (j : ℕ) → j ≢ i → put i x f j ≡ f j
-unfolding put
-put-there i x f j n = rw (ne-eqb j i n)
 
 -- ---- E1 WRITE_DAQ
 module _ (l o e : ℕ) (x : Entry) (d : ℕ → DaqList) where

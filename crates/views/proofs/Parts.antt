@@ -1,11 +1,13 @@
 -- A change of some bytes leaves all that is read from others. Assumes nothing.
 use Prim.Native.Nat.{ℕ, _+_, _≤_, _<_}
 use mathlib.Core.Path.{_≡_, refl, fun-ext}
+use mathlib.Core.Logic.{_≢_}
 use mathlib.Core.Bool.{Bool, true, false, cond}
 use mathlib.Core.List.{List}
 use native.Mathlib.Omega.{arith}
-use borrow.Author.Tests.{ltb-false}
-use lib.Dec.{T, ltb, leb, le→leb, lit<, lit≤}
+use borrow.Author.Tests.{ltb-false, eqb-true, eqb-false, eq-eqb, ne-eqb}
+use lib.Dec.{T, eqb, ltb, leb, le→leb, lit<, lit≤}
+use Rattle.line.proofs.Laws.{cond-ind}
 use Rattle.state.specs.Layout.{size, lists, firstOdt, odtCount, generatorAt, ctrAt, servedAt, lastAt, calibrationAt, seedAt, mtaAt, pointerAt, modeAt, selectedAt, runningAt, entriesAt, sampleAt}
 use Rattle.state.specs.State.{generatorOf, unlockedOf, mtaOf, seedOf, pointerOf}
 use Rattle.state.specs.Lists.{modeOf}
@@ -13,7 +15,7 @@ use Rattle.fields.proofs.Stores.{out}
 use Rattle.fields.proofs.Frames.{Only}
 use Rattle.fields.proofs.Effects.{Effected}
 use Rattle.fields.proofs.Readers.{Same, apart, same-part, same-then, flag-reads, generator-reads, open-reads, lock-reads, seed-reads, mta-reads, pointer-reads, place-reads, message-reads, answer-reads, entries-own, store-own}
-use Rattle.model.specs.Model.{Odt, noOdt, DaqList, noList}
+use Rattle.model.specs.Model.{put, Odt, noOdt, DaqList, noList}
 use Rattle.model.specs.Step.{withSession, withGenerator, withSeed, withMta, withPointer, withLists}
 use Rattle.model.specs.View.{odtOf, daqOf, listsOf, sessionOf, viewOf}
 use Rattle.model.proofs.Bounded.{upTo-same}
@@ -34,6 +36,19 @@ spared {lo} {hi} w m = record { long = w .long; byte = λ j p q. w .bytes j (asi
 -- by two writes
 pub both : {lo hi lo′ hi′ a b : ℕ} {s t u : List ℕ} → Only lo hi s t → Only lo′ hi′ t u → Misses lo hi a b × Misses lo′ hi′ a b → Same a b s u
 both w v m = same-then (spared w (m .0)) (spared v (m .1))
+
+-- ---- one place of a function changed
+pub put-by : {A : Type 0} (P : A → Type 0) (i : ℕ) (x : A) (f : ℕ → A) (j : ℕ) → (j ≡ i → P x) → (j ≢ i → P (f j)) → P (put i x f j)
+unfolding put
+put-by P i x f j p q = cond-ind P (eqb j i) (λ b. p (eqb-true j i b)) (λ b. q (eqb-false j i b))
+
+pub put-here : {A : Type 0} (i : ℕ) (x : A) (f : ℕ → A) → put i x f i ≡ x
+unfolding put
+put-here i x f = rw (eq-eqb i i refl)
+
+pub put-there : {A : Type 0} (i : ℕ) (x : A) (f : ℕ → A) (j : ℕ) → j ≢ i → put i x f j ≡ f j
+unfolding put
+put-there i x f j n = rw (ne-eqb j i n)
 
 -- ---- records
 pub odt-from : {a b : Odt} → a .entry ≡ b .entry → a .store ≡ b .store → a ≡ b

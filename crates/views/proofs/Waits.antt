@@ -1,23 +1,24 @@
 -- What waits of a list, by whether it runs and what its ODTs have in store; what a sent packet and a sample make of it. Assumes nothing.
 use Prim.Native.Nat.{ℕ, zero, suc, _+_, _≤_, _<_}
-use mathlib.Core.Path.{_≡_, refl, ap, ap₂, subst, _∙_}
+use mathlib.Core.Path.{_≡_, refl, sym, ap, ap₂, subst, _∙_}
 use mathlib.Core.Logic.{_≢_}
 use mathlib.Core.Bool.{Bool, true, false, cond}
 use mathlib.Core.List.{List, [], _∷_, _++_}
 use native.Mathlib.Nat.{add-zero}
 use native.Mathlib.Omega.{arith}
-use borrow.Author.Tests.{eqb-true, eq-eqb, ne-eqb, lt-ltb}
+use borrow.Author.Tests.{lt-ltb}
 use lib.Dec.{eqb, ltb}
 use lib.ListN.{length}
 use Rattle.line.proofs.Laws.{cond-ind}
 use Rattle.state.specs.Layout.{firstOdt, odtCount}
 use Rattle.model.specs.declared.Sampling.{Sampling}
 use Rattle.model.specs.declared.Sampling.the-variants.{Idle, Sampled, Missed}
-use Rattle.model.specs.Model.{put, Odt, DaqList, Session, runsIn, hasPacket, somePacket, inStore, inStores, waiting, waitingIn}
+use Rattle.model.specs.Model.{Odt, DaqList, Session, runsIn, hasPacket, somePacket, inStore, inStores, waiting, waitingIn}
 use Rattle.model.specs.Step.{emptied, at}
 use Rattle.model.specs.Calls.{withoutPacket, samplingIn, contentsIn, sampled, packetWith, sampleFrom, sampleIn}
 use Rattle.model.proofs.Bounded.{either}
 use Rattle.model.proofs.Fits.{runs-same}
+use Rattle.views.proofs.Parts.{put-by, put-here, put-there}
 
 -- ---- by the stores
 module _ (l : ℕ) (x z : DaqList) where
@@ -72,29 +73,19 @@ none-waits c l z =
     let none : inStores l (c .list l) 0 (odtCount l) ≡ [] = skipped l (c .list l) 0 (odtCount l) 0 z in
     cond-ind (λ (ps : List (List ℕ)). ps ≡ []) (runsIn c l) (λ _. none) (λ _. refl)
 
--- ---- one place of a function changed
-put-here : {A : Type 0} (i : ℕ) (a : A) (f : ℕ → A) → put i a f i ≡ a
-unfolding put
-put-here i a f = rw (eq-eqb i i refl)
-
-put-other : {A : Type 0} (i j : ℕ) (a : A) (f : ℕ → A) → j ≢ i → put i a f j ≡ f j
-unfolding put
-put-other i j a f n = rw (ne-eqb j i n)
-
 -- ---- a packet is sent: the other lists' packets wait as they did
 pub sent-others : (c : Session) (j d l : ℕ) → l ≢ j → waitingIn (at j (withoutPacket d) c) l ≡ waitingIn c l
-sent-others c j d l n = ap (λ (x : DaqList). waiting (c .opened) l x) (put-other j l (withoutPacket d (c .list j)) (c .list) n)
+sent-others c j d l n = ap (λ (x : DaqList). waiting (c .opened) l x) (put-there j (withoutPacket d (c .list j)) (c .list) l n)
 
 module _ (x : DaqList) (d : ℕ) where
   entry-kept : (o : ℕ) → withoutPacket d x .odt o .entry ≡ x .odt o .entry
-  unfolding put
-  entry-kept o = either (eqb o d) (λ b. rw (b, eqb-true o d b)) (λ b. rw b)
+  entry-kept o = put-by (λ (y : Odt). y .entry ≡ x .odt o .entry) d (emptied (x .odt d)) (x .odt) o (λ e. ap (λ (i : ℕ). x .odt i .entry) (sym e)) (λ _. refl)
 
   store-gone : withoutPacket d x .odt d .store ≡ []
   store-gone = ap (λ (y : Odt). y .store) (put-here d (emptied (x .odt d)) (x .odt))
 
   store-kept : (o : ℕ) → o ≢ d → withoutPacket d x .odt o .store ≡ x .odt o .store
-  store-kept o n = ap (λ (y : Odt). y .store) (put-other d o (emptied (x .odt d)) (x .odt) n)
+  store-kept o n = ap (λ (y : Odt). y .store) (put-there d (emptied (x .odt d)) (x .odt) o n)
 
 -- the first packet of a list, that of its ODT d, goes; those of later ODTs stay
 module _ (c : Session) (l d n : ℕ) (run : runsIn c l ≡ true) (there : d + suc n ≡ odtCount l) (none : Empty (c .list l) 0 d) where
