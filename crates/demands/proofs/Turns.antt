@@ -60,7 +60,8 @@ module _ (s : List ℕ) (h : length s ≡ size) (j : ℕ) (q : j < lists) where
         inside = q;
         odt = omega arith;
         rest = inStores j x (d + 1) n;
-        waiting = first-waits (sessionOf s) j d n r e none a ∙ ap₂ (λ (i o : ℕ). ((firstOdt j + d) ∷ sessionOf s .list i .odt o .store) ∷ inStores j x (d + 1) n) (sym (list-of j d (omega arith))) (sym (odt-in j d (omega arith)));
+        waiting = first-waits (sessionOf s) j d n r e none a
+            ∙ ap₂ (λ (i o : ℕ). ((firstOdt j + d) ∷ sessionOf s .list i .odt o .store) ∷ inStores j x (d + 1) n) (sym (list-of j d (omega arith))) (sym (odt-in j d (omega arith)));
         left = ap (λ (c : Session). waitingIn c j) sent ∙ first-sent (sessionOf s) j d n r e none;
         others = λ l m z. ap (λ (c : Session). waitingIn c l) sent ∙ sent-others (sessionOf s) j d l z;
       }

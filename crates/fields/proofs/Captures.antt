@@ -23,7 +23,8 @@ only-stored : (s : List ℕ) (k : ℕ) (bs : List ℕ) → k < allOdts → lengt
 unfolding stored
 only-stored s k bs h q = only-sets s (sampleAt k) (length bs ∷ bs) (omega arith) (omega arith)
 
-only-odts : (s : List ℕ) (l clock : ℕ) (cal meas : List ℕ) (n : ℕ) → l < lists → eachFits l (sessionOf s .list l) (odtCount l) ≡ true → n ≤ odtCount l → Only (sampleAt 0) size s (capturedOdts s (firstOdt l) clock cal meas n)
+only-odts : (s : List ℕ) (l clock : ℕ) (cal meas : List ℕ) (n : ℕ) → l < lists → eachFits l (sessionOf s .list l) (odtCount l) ≡ true → n ≤ odtCount l
+    → Only (sampleAt 0) size s (capturedOdts s (firstOdt l) clock cal meas n)
 unfolding capturedOdts
 only-odts s l clock cal meas zero h f q = only-none
 only-odts s l clock cal meas (suc n) h f q =

@@ -47,7 +47,9 @@ module _ (t s : List ℕ) (same : Alike t s) (k : ℕ) (odt : k < allOdts) where
   pub blocks-alike : (cal meas : List ℕ) (n : ℕ) → n ≤ entries → blocksIn (odtOf t k) cal meas n ≡ blocksIn (odtOf s k) cal meas n
   unfolding blocksIn
   blocks-alike cal meas zero h = refl
-  blocks-alike cal meas (suc n) h = rw (blocks-alike cal meas n (omega arith), entry-at t k n (omega arith), entry-at s k n (omega arith)) (ap (λ (bs : List ℕ). blocksIn (odtOf s k) cal meas n ++ bs) (block-alike cal meas n (omega arith)))
+  blocks-alike cal meas (suc n) h =
+      rw (blocks-alike cal meas n (omega arith), entry-at t k n (omega arith), entry-at s k n (omega arith))
+      (ap (λ (bs : List ℕ). blocksIn (odtOf s k) cal meas n ++ bs) (block-alike cal meas n (omega arith)))
 
   sizes-alike : (n : ℕ) → n ≤ entries → sizesOf (odtOf t k) n ≡ sizesOf (odtOf s k) n
   unfolding sizesOf

@@ -49,7 +49,10 @@ nobody-in c l e = rw e (cond-ind (λ (t : Turn). t ≡ Nobody) (runsIn c l) (λ 
 -- nor has one that was not started
 pub never-started : (c : Session) (l : ℕ) → c .list l .started ≡ false → packetIn c l ≡ Nobody
 unfolding packetIn runs
-never-started c l e = ap (λ (b : Bool). cond (cond (c .opened) (cond b (fits l (c .list l)) false) false) (firstPacket l (c .list l) 0 (odtCount l)) Nobody) e ∙ (cond-ind (λ (r : Bool). cond r (firstPacket l (c .list l) 0 (odtCount l)) Nobody ≡ Nobody) (c .opened) (λ _. refl) (λ _. refl))
+never-started c l e =
+    let first : Turn = firstPacket l (c .list l) 0 (odtCount l) in
+    ap (λ (b : Bool). cond (cond (c .opened) (cond b (fits l (c .list l)) false) false) first Nobody) e
+    ∙ cond-ind (λ (r : Bool). cond r first Nobody ≡ Nobody) (c .opened) (λ _. refl) (λ _. refl)
 
 -- whose turn it is, with the round once: an answer goes before it or behind it
 or-nobody : (t : Turn) → orElse t Nobody ≡ t

@@ -1,5 +1,6 @@
 -- The slave as document 01 speaks of it, without a single offset. `Model`: what there is. `Seen`, `Judge`: what a command's checks look at, and what it
--- leads to; `Heed`: what a good message is to the slave. `Step`: what each deed makes of the session. `Answers`: what it answers. `Calls`: what else a call makes of the slave.
+-- leads to; `Heed`: what a good message is to the slave. `Step`: what each deed makes of the session. `Answers`: what it answers. `Calls`: whose
+-- turn it is, what an event is to a list, and what else a call makes of the slave.
 -- `View`: how the state in bytes shows it.
 pub mod Model
 pub mod Seen
