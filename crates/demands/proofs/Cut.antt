@@ -19,7 +19,7 @@ use Rattle.state.specs.Bytes.{block}
 use Rattle.state.specs.Memory.{reach, pick, insideOf, blockSum, byteOf, bytesOf}
 use Rattle.state.specs.State.{consistent, openOf, waits}
 use Rattle.judge.specs.Doable.{Inside, Doable}
-use Rattle.session.specs.Look.{judgeOf}
+use Rattle.look.specs.Look.{judgeOf}
 use Rattle.session.specs.Perform.{reply}
 use Rattle.session.specs.Receive.{Step, only, obeyed, heeded, meant, readOn, fedOf, receiveOf}
 use Rattle.model.specs.Heed.{goodConnect}
@@ -36,7 +36,7 @@ use Rattle.model.specs.declared.Deed.{Deed}
 use Rattle.model.specs.declared.Deed.the-variants.{Refuse, RefuseSize, WrongKey, Connect, Disconnect, Status, Synch, NoSeed, GiveSeed, Unlock, SetMta, Upload, ShortUpload, Checksum, Download, ClearList, SetPointer, ClearEntry, WriteEntry, SetMode, Stop, Start, KeepRunning, Select, StopAll, StartSelected, StopSelected, ProcessorInfo, ResolutionInfo}
 use Rattle.state.proofs.Inside.{inside-le}
 use Rattle.session.proofs.Data.{block-block}
-use Rattle.session.proofs.Looked.{judged-doable}
+use Rattle.look.proofs.Looked.{judged-doable}
 use Rattle.demands.specs.Slave.{ours}
 use Rattle.demands.specs.Demand2.{putBack}
 use Rattle.fields.proofs.Writes.{by-write}

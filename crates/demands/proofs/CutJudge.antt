@@ -18,7 +18,7 @@ use Rattle.words.specs.declared.Mta.the-variants.{Unset, At}
 use Rattle.words.specs.declared.Pointer.{Pointer}
 use Rattle.words.specs.declared.Pointer.the-variants.{Unset as NoEntry, At as Entry}
 use Rattle.model.specs.Seen.{Packet, Seen, numbersOf}
-use Rattle.session.specs.Look.{judgeOf}
+use Rattle.look.specs.Look.{judgeOf}
 
 -- two pairs of lengths of which as many bytes can be addressed
 module _ (nc nm nc′ nm′ : ℕ) (c : reach nc′ ≡ reach nc) (m : reach nm′ ≡ reach nm) where

@@ -10,7 +10,7 @@ use Rattle.state.specs.Layout.{placeAt, answerAt}
 use Rattle.state.specs.State.{consistent, waits, answerOf}
 use Rattle.session.specs.Receive.{Step, only, heeded, receiveOf}
 use Rattle.words.specs.declared.Received.the-variants.{Answered, Unread}
-use Rattle.session.proofs.Looked.{judged-doable}
+use Rattle.look.proofs.Looked.{judged-doable}
 use Rattle.fields.proofs.Effects.{after-waits}
 use Rattle.fields.proofs.Kept.{receive-kept}
 use Rattle.demands.specs.Slave.{ours}

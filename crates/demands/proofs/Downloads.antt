@@ -19,7 +19,7 @@ use Rattle.state.specs.Bytes.{block, u16At}
 use Rattle.state.specs.Memory.{insideOf}
 use Rattle.state.specs.State.{consistent, mtaOf, answerOf}
 use Rattle.words.specs.Command.{commandOf, needsOf}
-use Rattle.session.specs.Look.{judgeOf}
+use Rattle.look.specs.Look.{judgeOf}
 use Rattle.model.specs.Seen.{numbersOf}
 use Rattle.session.specs.Perform.{reply}
 use Rattle.session.specs.Receive.{Step, receiveOf}

@@ -21,7 +21,7 @@ use Rattle.state.specs.Bytes.{u32At, put32, bytes32}
 use Rattle.state.specs.Generator.{addend, rotatedLeft8, keyOf, nextOf}
 use Rattle.state.specs.State.{consistent, bitOf, generatorOf, setGenerator, openOf, unlockedOf, seedOf, setSeed, answered}
 use Rattle.words.specs.Command.{commandOf}
-use Rattle.session.specs.Look.{judgeOf}
+use Rattle.look.specs.Look.{judgeOf}
 use Rattle.session.specs.Perform.{effect, reply, after}
 use Rattle.session.specs.Receive.{obeyed, receiveOf}
 use Rattle.lists.specs.Event.{eventOf}

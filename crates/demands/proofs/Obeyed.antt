@@ -15,7 +15,7 @@ use Rattle.state.specs.State.{consistent, generatorOf, openOf}
 use Rattle.model.specs.Answers.{written, doneBy, commandIn}
 use Rattle.session.specs.Perform.{after}
 use Rattle.session.specs.Receive.{Step, fedOf, receiveOf}
-use Rattle.session.proofs.Looked.{judged-doable}
+use Rattle.look.proofs.Looked.{judged-doable}
 use Rattle.fields.proofs.Readers.{apart}
 use Rattle.judge.specs.Doable.{Doable}
 use Rattle.model.specs.declared.Deed.{Deed}

@@ -24,7 +24,7 @@ use Rattle.model.specs.declared.Deed.{Deed}
 use Rattle.model.specs.declared.Deed.the-variants.{Connect}
 use Rattle.words.specs.declared.Received.{Received}
 use Rattle.words.specs.declared.Received.the-variants.{Nothing, Silent, BadLength, BadEscape, BadChecksum, Unread, CutOff}
-use Rattle.session.proofs.Looked.{judged-doable}
+use Rattle.look.proofs.Looked.{judged-doable}
 use Rattle.fields.proofs.Effects.{after-answer}
 use Rattle.demands.specs.Heard.{packetBy, packetEnded, readBy, Commands, deedOf, heeds, doneAt}
 use Rattle.demands.proofs.Judged.{Found, judged}

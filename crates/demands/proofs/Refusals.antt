@@ -15,7 +15,7 @@ use Rattle.line.proofs.Laws.{cond-ind}
 use Rattle.line.proofs.Stuffed.{false-true}
 use Rattle.state.specs.State.{seedOf}
 use Rattle.words.specs.Command.{commandOf}
-use Rattle.session.specs.Look.{judgeOf}
+use Rattle.look.specs.Look.{judgeOf}
 use Rattle.session.specs.Perform.{effect, reply}
 use Rattle.words.specs.declared.Resource.{Resource}
 use Rattle.words.specs.declared.Seed.{Seed}

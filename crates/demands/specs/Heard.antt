@@ -12,7 +12,7 @@ use Rattle.state.specs.Layout.{selectedAt}
 use Rattle.state.specs.Bytes.{block, u32At}
 use Rattle.state.specs.Generator.{keyOf}
 use Rattle.state.specs.State.{flagOf, openOf, generatorOf, seedOf, waits}
-use Rattle.session.specs.Look.{judgeOf}
+use Rattle.look.specs.Look.{judgeOf}
 use Rattle.session.specs.Perform.{reply}
 use Rattle.session.specs.Receive.{fedOf, readOn}
 use Rattle.model.specs.Heed.{goodConnect}

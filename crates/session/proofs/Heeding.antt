@@ -10,7 +10,7 @@ use Rattle.model.specs.declared.Deed.{Deed}
 use Rattle.model.specs.declared.Deed.the-variants.{Connect}
 use Rattle.model.specs.Heed.{Dropped, Obeyed, Ignored, goodConnect, heedingIn}
 use Rattle.model.specs.View.{sessionOf}
-use Rattle.session.specs.Look.{judgeOf}
+use Rattle.look.specs.Look.{judgeOf}
 use Rattle.session.specs.Receive.{Step, only, obeyed, heededBy, heeded}
 
 module _ (p s cal meas : List ℕ) where

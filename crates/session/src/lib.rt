@@ -17,7 +17,6 @@ mod blocks;
 mod deeds;
 mod list_answers;
 mod list_deeds;
-mod look;
 mod perform;
 mod place;
 mod power;

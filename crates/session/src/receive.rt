@@ -7,10 +7,10 @@ ghost use Rattle.state.specs.Bytes.{block};
 ghost use Rattle.session.specs.Receive.{Receives, heeded, fedOf, receivedBy};
 ghost use Rattle.model.specs.Heed.{goodConnect};
 use crate::deeds;
-use crate::look::judge;
 use crate::perform::perform;
 use crate::place;
 use line::Outcome;
+use look::judge;
 use state::fields;
 use state::layout;
 use words::Received;
@@ -29,7 +29,7 @@ fn good_connect(s: &[u8], n: u8) -> bool
     s[layout::PACKET_1] == 0
 }
 
-// A good message, whose packet has n bytes. `perform` has one caller, so that it stands in its place when compiled.
+// A good message, whose packet has n bytes. `judge` and `perform` have one caller each, so that they stand in its place when compiled.
 fn heed(s: &mut [u8], cal: &mut [u8], meas: &[u8], n: u8) -> Received
     requires { ⌜ (length (now s) ≡ size) × (1 ≤ n) × (n ≤ packetMost) ⌝ }
     ensures { λ r. ⌜ Receives (heeded (block (now (s .entry)) packetAt n) (now (s .entry)) (now (cal .entry)) (now (meas .entry))) r (now (s .exit)) (now (cal .exit)) ⌝ }

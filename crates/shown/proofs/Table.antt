@@ -9,7 +9,7 @@ use lib.Seq.{sets}
 use Rattle.session.proofs.Heeding.{heeded-is}
 use Rattle.state.specs.Layout.{addressable}
 use Rattle.state.specs.State.{consistent, openOf, waits, answerOf}
-use Rattle.session.specs.Look.{judgeOf}
+use Rattle.look.specs.Look.{judgeOf}
 use Rattle.session.specs.Receive.{obeyed, heeded}
 use Rattle.model.specs.declared.Deed.{Deed}
 use Rattle.model.specs.declared.Deed.the-variants.{Refuse, Download}

@@ -7,7 +7,7 @@ use Rattle.line.specs.Message.{frame}
 use Rattle.state.specs.Layout.{ctrAt, addressable}
 use Rattle.state.specs.Bytes.{bytes32}
 use Rattle.state.specs.Generator.{keyOf}
-use Rattle.session.specs.Look.{judgeOf}
+use Rattle.look.specs.Look.{judgeOf}
 use Rattle.session.specs.Perform.{reply}
 use Rattle.session.specs.PowerUp.{powered}
 use Rattle.words.specs.declared.Resource.the-variants.{Calibration, Lists}

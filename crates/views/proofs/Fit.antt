@@ -34,7 +34,7 @@ use Rattle.words.specs.declared.Pointer.the-variants.{Unset as NoEntry, At as P
 use Rattle.model.specs.Seen.{Packet, Seen, numbersOf}
 use Rattle.model.specs.declared.Deed.{Deed}
 use Rattle.model.specs.declared.Deed.the-variants.{Refuse, RefuseSize, WrongKey, Connect, Disconnect, Status, Synch, NoSeed, GiveSeed, Unlock, SetMta, Upload, ShortUpload, Checksum, Download, ClearList, SetPointer, ClearEntry, WriteEntry, SetMode, Stop, Start, KeepRunning, Select, StopAll, StartSelected, StopSelected, ProcessorInfo, ResolutionInfo}
-use Rattle.session.specs.Look.{judgeOf}
+use Rattle.look.specs.Look.{judgeOf}
 use Rattle.model.specs.Model.{Bytes}
 
 -- a seed, an address and an entry fit in the bytes that they are stored in; g is the generator

@@ -1,5 +1,5 @@
 use native.Mathlib.Omega.{arith}
-use Rattle.session.proofs.Packet.{packet-length, packet-byte}
+use Rattle.look.proofs.Packet.{packet-length, packet-byte}
 use borrow.Author.Tests.{eq-eqb, le-ltb, lt-ltb, ne-eqb}
 use Rattle.model.specs.Heed.{goodConnect}
 use borrow.Author.Needs.{needs}

@@ -1,14 +1,11 @@
-use Rattle.state.specs.Layout.{packetAt}
 use mathlib.Core.Path.{refl, sym, _∙_}
 use borrow.Author.Tests.{lt-ltb, le-ltb}
 use lib.ListN.{length}
-use Rattle.state.specs.Bytes.{block}
 use Rattle.model.specs.Answers.{replyIn, writes}
 use Rattle.model.specs.View.{sessionOf}
 use Rattle.session.specs.Perform.{effect}
 use Rattle.session.proofs.Heeding.{heeded-is}
-use Rattle.session.proofs.Packet.{packet-length}
-use Rattle.session.proofs.Looked.{judged-doable}
+use Rattle.look.proofs.Looked.{judged-there, looked-doable}
 use borrow.Author.Needs.{needs}
 use Rattle.session.proofs.receive.heed.Statement.{statement}
 use Rattle.session.proofs.receive.heed.Tie as tie
@@ -29,7 +26,7 @@ judge-requires : tie.Need-judge-requires
 judge-requires c κs = search needs
 
 perform-requires : tie.Need-perform-requires
-perform-requires c κs = (c .before .before .before .before .before .before .before .before .before .before .before .before .before .pre .0, c .before .before .before .before .before .before .before .before .before .before .before .before .before .pre .2, rw (c .before .before .judge .ensures) (rw (packet-length (c .before .before .before .before .before .before .before .before .before .before .before .before .before .args .s .now) (c .before .before .before .before .before .before .before .before .before .before .before .before .before .args .n) (c .before .before .before .before .before .before .before .before .before .before .before .before .before .pre .2) (c .before .before .before .before .before .before .before .before .before .before .before .before .before .pre .0)) at (judged-doable (block (c .before .before .before .before .before .before .before .before .before .before .before .before .before .args .s .now) packetAt (c .before .before .before .before .before .before .before .before .before .before .before .before .before .args .n)) (c .before .before .before .before .before .before .before .before .before .before .before .before .before .args .s .now) (length (c .before .before .before .before .before .before .before .before .before .before .before .before .before .args .cal .now)) (length (c .before .before .before .before .before .before .before .before .before .before .before .before .before .args .meas .now)))))
+perform-requires c κs = (c .before .before .before .before .before .before .before .before .before .before .before .before .before .pre .0, c .before .before .before .before .before .before .before .before .before .before .before .before .before .pre .2, rw (c .before .before .judge .ensures) (looked-doable (c .before .before .before .before .before .before .before .before .before .before .before .before .before .args .s .now) (c .before .before .before .before .before .before .before .before .before .before .before .before .before .args .n) (length (c .before .before .before .before .before .before .before .before .before .before .before .before .before .args .cal .now)) (length (c .before .before .before .before .before .before .before .before .before .before .before .before .before .args .meas .now))))
 
 same-length-2 : tie.Need-same-length-2
 same-length-2 c = search needs
@@ -38,7 +35,7 @@ same-length-3 : tie.Need-same-length-3
 same-length-3 c = search needs
 
 returns-2 : tie.Need-returns-2
-returns-2 c = rw (heeded-is _ _ _ _) (simp (← (c .before .before .before .before .before .before .before .before .before .before .before .before .before .answer-length .ensures .0), le-ltb _ _ (c .before .before .before .before .before .before .before .before .before .before .before .before .if1 .left), sym (c .before .before .before .before .before .before .before .before .before .before .flag .ensures) ∙ c .before .before .before .before .before .before .before .before .before .if2 .taken, ← (c .before .before .before .before .before .before .before .judge .ensures)) (record { result = refl; state = c .before .before .before .before .perform .ensures .state; memory = c .before .before .before .before .perform .ensures .memory }))
+returns-2 c = rw (heeded-is _ _ _ _) (simp (← (c .before .before .before .before .before .before .before .before .before .before .before .before .before .answer-length .ensures .0), le-ltb _ _ (c .before .before .before .before .before .before .before .before .before .before .before .before .if1 .left), sym (c .before .before .before .before .before .before .before .before .before .before .flag .ensures) ∙ c .before .before .before .before .before .before .before .before .before .if2 .taken, ← (c .before .before .before .before .before .before .before .judge .ensures ∙ judged-there (c .before .before .before .before .before .before .before .before .before .before .before .before .before .before .before .before .before .before .args .s .now) (c .before .before .before .before .before .before .before .before .before .before .before .before .before .before .before .before .before .before .args .n) (length (c .before .before .before .before .before .before .before .before .before .before .before .before .before .before .before .before .before .before .args .cal .now)) (length (c .before .before .before .before .before .before .before .before .before .before .before .before .before .before .before .before .before .before .args .meas .now)) (c .before .before .before .before .before .before .before .before .before .before .before .before .before .before .before .before .before .before .pre .0) (c .before .before .before .before .before .before .before .before .before .before .before .before .before .before .before .before .before .before .pre .1) (c .before .before .before .before .before .before .before .before .before .before .before .before .before .before .before .before .before .before .pre .2))) (record { result = refl; state = c .before .before .before .before .perform .ensures .state; memory = c .before .before .before .before .perform .ensures .memory }))
 
 good-connect-requires : tie.Need-good-connect-requires
 good-connect-requires c κs = search needs

@@ -1,4 +1,4 @@
--- What the checks look at: the packet's numbers, and what is seen of the state.
+-- What the checks look at: the packet's numbers, and what is seen of the state. Total: a byte that is not there reads 0.
 use Prim.Native.Nat.{ℕ, _+_}
 use mathlib.Core.Bool.{Bool, false}
 use mathlib.Core.List.{List}

@@ -2,8 +2,8 @@ use borrow.Author.Tests.{ne-eqb}
 use mathlib.Core.Path.{_∙_}
 use Rattle.judge.proofs.Looking.{synch-asks}
 use borrow.Author.Needs.{needs}
-use Rattle.session.proofs.look.start_stop_synch.Statement.{statement}
-use Rattle.session.proofs.look.start_stop_synch.Tie as tie
+use Rattle.look.proofs.start_stop_synch.Statement.{statement}
+use Rattle.look.proofs.start_stop_synch.Tie as tie
 
 start-stop-synch-requires : tie.Need-start-stop-synch-requires
 start-stop-synch-requires c κs = search needs

@@ -1,8 +1,8 @@
 use mathlib.Core.Path.{_∙_}
 use Rattle.model.specs.Judge.{judgeThe}
 use borrow.Author.Needs.{needs}
-use Rattle.session.proofs.look.judge_the.Statement.{statement}
-use Rattle.session.proofs.look.judge_the.Tie as tie
+use Rattle.look.proofs.judge_the.Statement.{statement}
+use Rattle.look.proofs.judge_the.Tie as tie
 
 enum-told : tie.Need-enum-told
 enum-told c = search needs
@@ -10,8 +10,8 @@ enum-told c = search needs
 enum-told-2 : tie.Need-enum-told-2
 enum-told-2 c = search needs
 
-shared-slice-read-connect : tie.Need-shared-slice-read-connect
-shared-slice-read-connect c = search needs
+get-requires : tie.Need-get-requires
+get-requires c κs = search needs
 
 connect-requires : tie.Need-connect-requires
 connect-requires c κs = search needs
@@ -34,11 +34,11 @@ unlocked-requires c κs = search needs
 unlocked-requires-2 : tie.Need-unlocked-requires-2
 unlocked-requires-2 c κs = search needs
 
-shared-slice-read-get-seed : tie.Need-shared-slice-read-get-seed
-shared-slice-read-get-seed c = search needs
+get-requires-2 : tie.Need-get-requires-2
+get-requires-2 c κs = search needs
 
-shared-slice-read-get-seed-2 : tie.Need-shared-slice-read-get-seed-2
-shared-slice-read-get-seed-2 c = search needs
+get-requires-3 : tie.Need-get-requires-3
+get-requires-3 c κs = search needs
 
 get-seed-requires : tie.Need-get-seed-requires
 get-seed-requires c κs = search needs
@@ -46,8 +46,8 @@ get-seed-requires c κs = search needs
 enum-told-7 : tie.Need-enum-told-7
 enum-told-7 c = search needs
 
-shared-slice-read-unlock : tie.Need-shared-slice-read-unlock
-shared-slice-read-unlock c = search needs
+get-requires-4 : tie.Need-get-requires-4
+get-requires-4 c κs = search needs
 
 get32-requires : tie.Need-get32-requires
 get32-requires c κs = search needs
@@ -58,8 +58,8 @@ unlock-requires c κs = search needs
 enum-told-8 : tie.Need-enum-told-8
 enum-told-8 c = search needs
 
-shared-slice-read-set-mta : tie.Need-shared-slice-read-set-mta
-shared-slice-read-set-mta c = search needs
+get-requires-5 : tie.Need-get-requires-5
+get-requires-5 c κs = search needs
 
 get32-requires-2 : tie.Need-get32-requires-2
 get32-requires-2 c κs = search needs
@@ -73,8 +73,8 @@ enum-told-9 c = search needs
 mta-requires : tie.Need-mta-requires
 mta-requires c κs = search needs
 
-shared-slice-read-upload : tie.Need-shared-slice-read-upload
-shared-slice-read-upload c = search needs
+get-requires-6 : tie.Need-get-requires-6
+get-requires-6 c κs = search needs
 
 upload-requires : tie.Need-upload-requires
 upload-requires c κs = search needs
@@ -82,11 +82,11 @@ upload-requires c κs = search needs
 enum-told-10 : tie.Need-enum-told-10
 enum-told-10 c = search needs
 
-shared-slice-read-short-upload : tie.Need-shared-slice-read-short-upload
-shared-slice-read-short-upload c = search needs
+get-requires-7 : tie.Need-get-requires-7
+get-requires-7 c κs = search needs
 
-shared-slice-read-short-upload-2 : tie.Need-shared-slice-read-short-upload-2
-shared-slice-read-short-upload-2 c = search needs
+get-requires-8 : tie.Need-get-requires-8
+get-requires-8 c κs = search needs
 
 get32-requires-3 : tie.Need-get32-requires-3
 get32-requires-3 c κs = search needs
@@ -112,8 +112,8 @@ enum-told-12 c = search needs
 mta-requires-3 : tie.Need-mta-requires-3
 mta-requires-3 c κs = search needs
 
-shared-slice-read-download : tie.Need-shared-slice-read-download
-shared-slice-read-download c = search needs
+get-requires-9 : tie.Need-get-requires-9
+get-requires-9 c κs = search needs
 
 download-requires : tie.Need-download-requires
 download-requires c κs = search needs
@@ -133,11 +133,11 @@ enum-told-14 c = search needs
 get16-requires-2 : tie.Need-get16-requires-2
 get16-requires-2 c κs = search needs
 
-shared-slice-read-set-pointer : tie.Need-shared-slice-read-set-pointer
-shared-slice-read-set-pointer c = search needs
+get-requires-10 : tie.Need-get-requires-10
+get-requires-10 c κs = search needs
 
-shared-slice-read-set-pointer-2 : tie.Need-shared-slice-read-set-pointer-2
-shared-slice-read-set-pointer-2 c = search needs
+get-requires-11 : tie.Need-get-requires-11
+get-requires-11 c κs = search needs
 
 set-pointer-requires : tie.Need-set-pointer-requires
 set-pointer-requires c κs = search needs
@@ -145,14 +145,14 @@ set-pointer-requires c κs = search needs
 enum-told-15 : tie.Need-enum-told-15
 enum-told-15 c = search needs
 
-shared-slice-read-write-entry : tie.Need-shared-slice-read-write-entry
-shared-slice-read-write-entry c = search needs
+get-requires-12 : tie.Need-get-requires-12
+get-requires-12 c κs = search needs
 
-shared-slice-read-write-entry-2 : tie.Need-shared-slice-read-write-entry-2
-shared-slice-read-write-entry-2 c = search needs
+get-requires-13 : tie.Need-get-requires-13
+get-requires-13 c κs = search needs
 
-shared-slice-read-write-entry-3 : tie.Need-shared-slice-read-write-entry-3
-shared-slice-read-write-entry-3 c = search needs
+get-requires-14 : tie.Need-get-requires-14
+get-requires-14 c κs = search needs
 
 get32-requires-5 : tie.Need-get32-requires-5
 get32-requires-5 c κs = search needs
@@ -163,8 +163,8 @@ write-entry-requires c κs = search needs
 enum-told-16 : tie.Need-enum-told-16
 enum-told-16 c = search needs
 
-shared-slice-read-set-mode : tie.Need-shared-slice-read-set-mode
-shared-slice-read-set-mode c = search needs
+get-requires-15 : tie.Need-get-requires-15
+get-requires-15 c κs = search needs
 
 get16-requires-3 : tie.Need-get16-requires-3
 get16-requires-3 c κs = search needs
@@ -172,11 +172,11 @@ get16-requires-3 c κs = search needs
 get16-requires-4 : tie.Need-get16-requires-4
 get16-requires-4 c κs = search needs
 
-shared-slice-read-set-mode-2 : tie.Need-shared-slice-read-set-mode-2
-shared-slice-read-set-mode-2 c = search needs
+get-requires-16 : tie.Need-get-requires-16
+get-requires-16 c κs = search needs
 
-shared-slice-read-set-mode-3 : tie.Need-shared-slice-read-set-mode-3
-shared-slice-read-set-mode-3 c = search needs
+get-requires-17 : tie.Need-get-requires-17
+get-requires-17 c κs = search needs
 
 set-mode-requires : tie.Need-set-mode-requires
 set-mode-requires c κs = search needs
@@ -184,8 +184,8 @@ set-mode-requires c κs = search needs
 enum-told-17 : tie.Need-enum-told-17
 enum-told-17 c = search needs
 
-shared-slice-read-start-stop : tie.Need-shared-slice-read-start-stop
-shared-slice-read-start-stop c = search needs
+get-requires-18 : tie.Need-get-requires-18
+get-requires-18 c κs = search needs
 
 get16-requires-5 : tie.Need-get16-requires-5
 get16-requires-5 c κs = search needs
@@ -196,8 +196,8 @@ start-stop-requires c κs = search needs
 enum-told-18 : tie.Need-enum-told-18
 enum-told-18 c = search needs
 
-shared-slice-read-start-stop-synch : tie.Need-shared-slice-read-start-stop-synch
-shared-slice-read-start-stop-synch c = search needs
+get-requires-19 : tie.Need-get-requires-19
+get-requires-19 c κs = search needs
 
 start-stop-synch-requires : tie.Need-start-stop-synch-requires
 start-stop-synch-requires c κs = search needs
@@ -214,7 +214,7 @@ returns c = rw (c .enum-told .given .1)
 
 returns-2 : tie.Need-returns-2
 unfolding judgeThe
-returns-2 c = rw (c .before .before .enum-told2 .given .1) (c .connect .ensures)
+returns-2 c = rw (c .before .before .enum-told2 .given .1) (c .connect .ensures ∙ rw (c .before .get .ensures))
 
 returns-3 : tie.Need-returns-3
 unfolding judgeThe
@@ -230,23 +230,23 @@ returns-5 c = rw (c .enum-told5 .given .1)
 
 returns-6 : tie.Need-returns-6
 unfolding judgeThe
-returns-6 c = rw (c .before .before .before .before .before .enum-told6 .given .1) (c .get-seed .ensures ∙ rw (c .before .before .before .before .unlocked .ensures, c .before .before .before .unlocked2 .ensures))
+returns-6 c = rw (c .before .before .before .before .before .enum-told6 .given .1) (c .get-seed .ensures ∙ rw (c .before .before .before .before .unlocked .ensures, c .before .before .before .unlocked2 .ensures, c .before .before .get2 .ensures, c .before .get3 .ensures))
 
 returns-7 : tie.Need-returns-7
 unfolding judgeThe
-returns-7 c = rw (c .before .before .before .enum-told7 .given .1) (c .unlock .ensures ∙ rw (c .before .get32 .ensures))
+returns-7 c = rw (c .before .before .before .enum-told7 .given .1) (c .unlock .ensures ∙ rw (c .before .before .get4 .ensures, c .before .get32 .ensures))
 
 returns-8 : tie.Need-returns-8
 unfolding judgeThe
-returns-8 c = rw (c .before .before .before .enum-told8 .given .1) (c .set-mta .ensures ∙ rw (c .before .get322 .ensures))
+returns-8 c = rw (c .before .before .before .enum-told8 .given .1) (c .set-mta .ensures ∙ rw (c .before .before .get5 .ensures, c .before .get322 .ensures))
 
 returns-9 : tie.Need-returns-9
 unfolding judgeThe
-returns-9 c = rw (c .before .before .before .enum-told9 .given .1) (c .upload .ensures ∙ rw (c .before .before .mta .ensures))
+returns-9 c = rw (c .before .before .before .enum-told9 .given .1) (c .upload .ensures ∙ rw (c .before .before .mta .ensures, c .before .get6 .ensures))
 
 returns-10 : tie.Need-returns-10
 unfolding judgeThe
-returns-10 c = rw (c .before .before .before .before .enum-told10 .given .1) (c .short-upload .ensures ∙ rw (c .before .get323 .ensures))
+returns-10 c = rw (c .before .before .before .before .enum-told10 .given .1) (c .short-upload .ensures ∙ rw (c .before .before .before .get7 .ensures, c .before .before .get8 .ensures, c .before .get323 .ensures))
 
 returns-11 : tie.Need-returns-11
 unfolding judgeThe
@@ -254,7 +254,7 @@ returns-11 c = rw (c .before .before .before .enum-told11 .given .1) (c .build-c
 
 returns-12 : tie.Need-returns-12
 unfolding judgeThe
-returns-12 c = rw (c .before .before .before .enum-told12 .given .1) (c .download .ensures ∙ rw (c .before .before .mta3 .ensures))
+returns-12 c = rw (c .before .before .before .enum-told12 .given .1) (c .download .ensures ∙ rw (c .before .before .mta3 .ensures, c .before .get9 .ensures))
 
 returns-13 : tie.Need-returns-13
 unfolding judgeThe
@@ -262,23 +262,23 @@ returns-13 c = rw (c .before .before .enum-told13 .given .1) (c .clear-list .ens
 
 returns-14 : tie.Need-returns-14
 unfolding judgeThe
-returns-14 c = rw (c .before .before .before .before .enum-told14 .given .1) (c .set-pointer .ensures ∙ rw (c .before .before .before .get162 .ensures))
+returns-14 c = rw (c .before .before .before .before .enum-told14 .given .1) (c .set-pointer .ensures ∙ rw (c .before .before .before .get162 .ensures, c .before .before .get10 .ensures, c .before .get11 .ensures))
 
 returns-15 : tie.Need-returns-15
 unfolding judgeThe
-returns-15 c = rw (c .before .before .before .before .before .enum-told15 .given .1) (c .write-entry .ensures ∙ rw (c .before .get325 .ensures))
+returns-15 c = rw (c .before .before .before .before .before .enum-told15 .given .1) (c .write-entry .ensures ∙ rw (c .before .before .before .before .get12 .ensures, c .before .before .before .get13 .ensures, c .before .before .get14 .ensures, c .before .get325 .ensures))
 
 returns-16 : tie.Need-returns-16
 unfolding judgeThe
-returns-16 c = rw (c .before .before .before .before .before .before .enum-told16 .given .1) (c .set-mode .ensures ∙ rw (c .before .before .before .before .get163 .ensures, c .before .before .before .get164 .ensures))
+returns-16 c = rw (c .before .before .before .before .before .before .enum-told16 .given .1) (c .set-mode .ensures ∙ rw (c .before .before .before .before .before .get15 .ensures, c .before .before .before .before .get163 .ensures, c .before .before .before .get164 .ensures, c .before .before .get17 .ensures, c .before .get18 .ensures))
 
 returns-17 : tie.Need-returns-17
 unfolding judgeThe
-returns-17 c = rw (c .before .before .before .enum-told17 .given .1) (c .start-stop .ensures ∙ rw (c .before .get165 .ensures))
+returns-17 c = rw (c .before .before .before .enum-told17 .given .1) (c .start-stop .ensures ∙ rw (c .before .before .get19 .ensures, c .before .get165 .ensures))
 
 returns-18 : tie.Need-returns-18
 unfolding judgeThe
-returns-18 c = rw (c .before .before .enum-told18 .given .1) (c .start-stop-synch .ensures)
+returns-18 c = rw (c .before .before .enum-told18 .given .1) (c .start-stop-synch .ensures ∙ rw (c .before .get20 .ensures))
 
 returns-19 : tie.Need-returns-19
 unfolding judgeThe
@@ -294,7 +294,7 @@ judge-the-spec =
     (tie.spec
     enum-told
     enum-told-2
-    shared-slice-read-connect
+    get-requires
     connect-requires
     enum-told-3
     enum-told-4
@@ -302,24 +302,24 @@ judge-the-spec =
     enum-told-6
     unlocked-requires
     unlocked-requires-2
-    shared-slice-read-get-seed
-    shared-slice-read-get-seed-2
+    get-requires-2
+    get-requires-3
     get-seed-requires
     enum-told-7
-    shared-slice-read-unlock
+    get-requires-4
     get32-requires
     unlock-requires
     enum-told-8
-    shared-slice-read-set-mta
+    get-requires-5
     get32-requires-2
     set-mta-requires
     enum-told-9
     mta-requires
-    shared-slice-read-upload
+    get-requires-6
     upload-requires
     enum-told-10
-    shared-slice-read-short-upload
-    shared-slice-read-short-upload-2
+    get-requires-7
+    get-requires-8
     get32-requires-3
     short-upload-requires
     enum-told-11
@@ -328,35 +328,35 @@ judge-the-spec =
     build-checksum-requires
     enum-told-12
     mta-requires-3
-    shared-slice-read-download
+    get-requires-9
     download-requires
     enum-told-13
     get16-requires
     clear-list-requires
     enum-told-14
     get16-requires-2
-    shared-slice-read-set-pointer
-    shared-slice-read-set-pointer-2
+    get-requires-10
+    get-requires-11
     set-pointer-requires
     enum-told-15
-    shared-slice-read-write-entry
-    shared-slice-read-write-entry-2
-    shared-slice-read-write-entry-3
+    get-requires-12
+    get-requires-13
+    get-requires-14
     get32-requires-5
     write-entry-requires
     enum-told-16
-    shared-slice-read-set-mode
+    get-requires-15
     get16-requires-3
     get16-requires-4
-    shared-slice-read-set-mode-2
-    shared-slice-read-set-mode-3
+    get-requires-16
+    get-requires-17
     set-mode-requires
     enum-told-17
-    shared-slice-read-start-stop
+    get-requires-18
     get16-requires-5
     start-stop-requires
     enum-told-18
-    shared-slice-read-start-stop-synch
+    get-requires-19
     start-stop-synch-requires
     enum-told-19
     enum-told-20

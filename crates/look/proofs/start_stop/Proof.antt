@@ -2,8 +2,8 @@ use borrow.Author.Tests.{ne-eqb}
 use mathlib.Core.Path.{_∙_}
 use Rattle.judge.proofs.Looking.{start-asks}
 use borrow.Author.Needs.{needs}
-use Rattle.session.proofs.look.start_stop.Statement.{statement}
-use Rattle.session.proofs.look.start_stop.Tie as tie
+use Rattle.look.proofs.start_stop.Statement.{statement}
+use Rattle.look.proofs.start_stop.Tie as tie
 
 start-stop-requires : tie.Need-start-stop-requires
 start-stop-requires c κs = search needs

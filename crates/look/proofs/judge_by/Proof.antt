@@ -2,8 +2,8 @@ use mathlib.Core.Path.{sym, _∙_}
 use borrow.Author.Tests.{lt-ltb, le-ltb}
 use Rattle.model.specs.Judge.{judgeBy}
 use borrow.Author.Needs.{needs}
-use Rattle.session.proofs.look.judge_by.Statement.{statement}
-use Rattle.session.proofs.look.judge_by.Tie as tie
+use Rattle.look.proofs.judge_by.Statement.{statement}
+use Rattle.look.proofs.judge_by.Tie as tie
 
 fewest-requires : tie.Need-fewest-requires
 fewest-requires c κs = search needs

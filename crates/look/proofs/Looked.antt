@@ -23,8 +23,8 @@ use Rattle.judge.proofs.Doable.{judge-doable}
 use Rattle.state.proofs.Pointers.{pointed}
 use Rattle.judge.proofs.Looking.{Alike, Seeing, judge-alike, judge-looked}
 use Rattle.model.specs.View.{sessionOf}
-use Rattle.session.specs.Look.{numbersAt, pointedNamed, lookedAt, judgeOf}
-use Rattle.session.proofs.Packet.{packet-length, packet-byte, packet-u16, packet-u32}
+use Rattle.look.specs.Look.{numbersAt, pointedNamed, lookedAt, judgeOf}
+use Rattle.look.proofs.Packet.{packet-length, packet-byte, packet-u16, packet-u32}
 
 -- ---- the packet in the buffer
 packet-alike : (s : List ℕ) (n : ℕ) → length s ≡ size → 1 ≤ n → n ≤ packetMost → Alike (numbersAt s n) (numbersOf (block s packetAt n))
@@ -76,11 +76,14 @@ module _ (s : List ℕ) (n nc nm : ℕ) (whole : length s ≡ size) (some : 1 �
           ∙ judge-looked (numbersOf (block s packetAt n)) (lookedAt s) (seenIn (u16At (block s packetAt n) 2) (sessionOf s)) (seeing-all (u16At (block s packetAt n) 2) s whole) nc nm c
           (λ h _. named s (u16At (block s packetAt n) 2) whole (same .word2 (omega (arith, long, there))))
 
-  pub judged-there : judgeBy (commandOf (numbersAt s n .b0)) (numbersAt s n) (lookedAt s) nc nm ≡ judgeOf (block s packetAt n) s nc nm
+  pub judged-there : judge (numbersAt s n) (lookedAt s) nc nm ≡ judgeOf (block s packetAt n) s nc nm
   unfolding judgeIn judge
   judged-there = by-command (commandOf (numbersAt s n .b0)) ∙ ap (λ (b : ℕ). judgeBy (commandOf b) (numbersOf (block s packetAt n)) (seenIn (u16At (block s packetAt n) 2) (sessionOf s)) nc nm) (packet-alike s n whole some few .first)
 
--- what is judged can be done
+-- what is judged can be done, by what was looked up and by all that could be seen
+pub looked-doable : (s : List ℕ) (n nc nm : ℕ) → Doable (judge (numbersAt s n) (lookedAt s) nc nm) n nc nm
+looked-doable s n nc nm = judge-doable (numbersAt s n) (lookedAt s) (pointed s) nc nm
+
 pub judged-doable : (p s : List ℕ) (nc nm : ℕ) → Doable (judgeOf p s nc nm) (length p) nc nm
 unfolding judgeIn sessionOf
 judged-doable p s nc nm = judge-doable (numbersOf p) (seenIn (u16At p 2) (sessionOf s)) (pointed s) nc nm

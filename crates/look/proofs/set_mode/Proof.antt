@@ -1,7 +1,7 @@
 use mathlib.Core.Path.{_∙_}
 use borrow.Author.Needs.{needs}
-use Rattle.session.proofs.look.set_mode.Statement.{statement}
-use Rattle.session.proofs.look.set_mode.Tie as tie
+use Rattle.look.proofs.set_mode.Statement.{statement}
+use Rattle.look.proofs.set_mode.Tie as tie
 
 runs-requires : tie.Need-runs-requires
 runs-requires c κs = search needs

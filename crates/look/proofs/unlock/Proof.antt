@@ -1,7 +1,7 @@
 use mathlib.Core.Path.{_∙_}
 use borrow.Author.Needs.{needs}
-use Rattle.session.proofs.look.unlock.Statement.{statement}
-use Rattle.session.proofs.look.unlock.Tie as tie
+use Rattle.look.proofs.unlock.Statement.{statement}
+use Rattle.look.proofs.unlock.Tie as tie
 
 generator-requires : tie.Need-generator-requires
 generator-requires c κs = search needs

@@ -1,7 +1,7 @@
 use mathlib.Core.Path.{_∙_}
 use borrow.Author.Needs.{needs}
-use Rattle.session.proofs.look.clear_list.Statement.{statement}
-use Rattle.session.proofs.look.clear_list.Tie as tie
+use Rattle.look.proofs.clear_list.Statement.{statement}
+use Rattle.look.proofs.clear_list.Tie as tie
 
 runs-requires : tie.Need-runs-requires
 runs-requires c κs = search needs

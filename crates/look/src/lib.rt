@@ -1,16 +1,14 @@
 // What the command in the message buffer leads to. Of packet and state each command's checks look at what they need, and at no more.
+// No function leans on its caller: a byte that is not there reads 0.
 ghost use mathlib.Core.Path.{_≡_};
-ghost use Prim.Native.Nat.{_≤_};
-ghost use lib.ListN.{length};
-ghost use Rattle.state.specs.Layout.{packetMost, packetAt, size};
-ghost use Rattle.state.specs.Bytes.{block};
 ghost use Rattle.state.specs.State.{generatorOf, seedOf, pointerOf};
 ghost use Rattle.lists.specs.Lists.{runsNamed, fitsNamed, ready};
-ghost use Rattle.model.specs.Judge.{unlockBy, clearDeed, modeDeed, startStopDeed, synchDeed, writeDeed, judgeThe, lockedBy, judgeBy};
-ghost use Rattle.session.specs.Look.{numbersAt, pointedNamed, lookedAt, judgeOf};
+ghost use Rattle.model.specs.Judge.{unlockBy, clearDeed, modeDeed, startStopDeed, synchDeed, writeDeed, judgeThe, lockedBy, judgeBy, judge};
+ghost use Rattle.look.specs.Look.{numbersAt, pointedNamed, lookedAt};
 use judge::checks;
 use lists::asked;
 use model::Deed;
+use state::bytes::get;
 use state::bytes::get16;
 use state::bytes::get32;
 use state::fields;
@@ -88,27 +86,26 @@ fn start_stop_synch(s: &[u8], mode: u8) -> Deed
 
 // Each command's own checks.
 fn judge_the(command: Command, s: &[u8], n: u8, nc: usize, nm: usize) -> Deed
-    requires { ⌜ length (now s) ≡ size ⌝ }
     ensures { λ r. ⌜ r ≡ judgeThe command (numbersAt (now (s .entry)) n) (lookedAt (now (s .entry))) nc nm ⌝ }
 {
     match command {
         Command::Unknown => Deed::Refuse(Reason::Unknown),
-        Command::Connect => checks::connect(s[layout::PACKET_1]),
+        Command::Connect => checks::connect(get(s, layout::PACKET_1)),
         Command::Disconnect => Deed::Disconnect,
         Command::GetStatus => Deed::Status,
         Command::Synch => Deed::Synch,
         Command::GetSeed => checks::get_seed(
             fields::unlocked(s, Resource::Calibration),
             fields::unlocked(s, Resource::Lists),
-            s[layout::PACKET_1],
-            s[layout::PACKET_2],
+            get(s, layout::PACKET_1),
+            get(s, layout::PACKET_2),
         ),
-        Command::Unlock => unlock(s, s[layout::PACKET_1], n, get32(s, layout::PACKET_2)),
-        Command::SetMta => checks::set_mta(s[layout::PACKET_3], get32(s, layout::PACKET_4)),
-        Command::Upload => checks::upload(fields::mta(s), s[layout::PACKET_1], nc, nm),
+        Command::Unlock => unlock(s, get(s, layout::PACKET_1), n, get32(s, layout::PACKET_2)),
+        Command::SetMta => checks::set_mta(get(s, layout::PACKET_3), get32(s, layout::PACKET_4)),
+        Command::Upload => checks::upload(fields::mta(s), get(s, layout::PACKET_1), nc, nm),
         Command::ShortUpload => checks::short_upload(
-            s[layout::PACKET_1],
-            s[layout::PACKET_3],
+            get(s, layout::PACKET_1),
+            get(s, layout::PACKET_3),
             get32(s, layout::PACKET_4),
             nc,
             nm,
@@ -119,34 +116,34 @@ fn judge_the(command: Command, s: &[u8], n: u8, nc: usize, nm: usize) -> Deed
             nc,
             nm,
         ),
-        Command::Download => checks::download(fields::mta(s), s[layout::PACKET_1], n, nc),
+        Command::Download => checks::download(fields::mta(s), get(s, layout::PACKET_1), n, nc),
         Command::ClearDaqList => clear_list(s, get16(s, layout::PACKET_2)),
         Command::SetDaqPtr => checks::set_pointer(
             get16(s, layout::PACKET_2),
-            s[layout::PACKET_4],
-            s[layout::PACKET_5],
+            get(s, layout::PACKET_4),
+            get(s, layout::PACKET_5),
         ),
         Command::WriteDaq => write_entry(
             s,
-            s[layout::PACKET_1],
-            s[layout::PACKET_2],
-            s[layout::PACKET_3],
+            get(s, layout::PACKET_1),
+            get(s, layout::PACKET_2),
+            get(s, layout::PACKET_3),
             get32(s, layout::PACKET_4),
             nc,
             nm,
         ),
         Command::SetDaqListMode => set_mode(
             s,
-            s[layout::PACKET_1],
+            get(s, layout::PACKET_1),
             get16(s, layout::PACKET_2),
             get16(s, layout::PACKET_4),
-            s[layout::PACKET_6],
-            s[layout::PACKET_7],
+            get(s, layout::PACKET_6),
+            get(s, layout::PACKET_7),
         ),
         Command::StartStopDaqList => {
-            start_stop(s, s[layout::PACKET_1], get16(s, layout::PACKET_2))
+            start_stop(s, get(s, layout::PACKET_1), get16(s, layout::PACKET_2))
         }
-        Command::StartStopSynch => start_stop_synch(s, s[layout::PACKET_1]),
+        Command::StartStopSynch => start_stop_synch(s, get(s, layout::PACKET_1)),
         Command::GetDaqProcessorInfo => Deed::ProcessorInfo,
         Command::GetDaqResolutionInfo => Deed::ResolutionInfo,
     }
@@ -167,7 +164,6 @@ fn locked(needs: Needs, s: &[u8]) -> bool
 
 // Too short and locked are judged once for all; an unknown code is never either, and `judge_the` refuses it.
 fn judge_by(command: Command, s: &[u8], n: u8, nc: usize, nm: usize) -> Deed
-    requires { ⌜ length (now s) ≡ size ⌝ }
     ensures { λ r. ⌜ r ≡ judgeBy command (numbersAt (now (s .entry)) n) (lookedAt (now (s .entry))) nc nm ⌝ }
 {
     if n < commands::fewest(command) {
@@ -179,10 +175,9 @@ fn judge_by(command: Command, s: &[u8], n: u8, nc: usize, nm: usize) -> Deed
     judge_the(command, s, n, nc, nm)
 }
 
-// What the command in the packet of n bytes leads to.
+// What the command in the packet of n bytes leads to: in a state of the right size, the verdict on all that can be seen (`judged-there`).
 pub fn judge(s: &[u8], n: u8, nc: usize, nm: usize) -> Deed
-    requires { ⌜ (length (now s) ≡ size) × (1 ≤ n) × (n ≤ packetMost) ⌝ }
-    ensures { λ r. ⌜ r ≡ judgeOf (block (now (s .entry)) packetAt n) (now (s .entry)) nc nm ⌝ }
+    ensures { λ r. ⌜ r ≡ judge (numbersAt (now (s .entry)) n) (lookedAt (now (s .entry))) nc nm ⌝ }
 {
-    judge_by(commands::command(s[layout::PACKET]), s, n, nc, nm)
+    judge_by(commands::command(get(s, layout::PACKET)), s, n, nc, nm)
 }

@@ -1,7 +1,7 @@
 use mathlib.Core.Path.{_∙_}
 use borrow.Author.Needs.{needs}
-use Rattle.session.proofs.look.pointed_runs.Statement.{statement}
-use Rattle.session.proofs.look.pointed_runs.Tie as tie
+use Rattle.look.proofs.pointed_runs.Statement.{statement}
+use Rattle.look.proofs.pointed_runs.Tie as tie
 
 enum-told : tie.Need-enum-told
 enum-told c = search needs

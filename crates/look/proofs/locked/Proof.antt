@@ -1,8 +1,8 @@
 use mathlib.Core.Path.{ap}
 use mathlib.Core.Bool.{not}
 use borrow.Author.Needs.{needs}
-use Rattle.session.proofs.look.locked.Statement.{statement}
-use Rattle.session.proofs.look.locked.Tie as tie
+use Rattle.look.proofs.locked.Statement.{statement}
+use Rattle.look.proofs.locked.Tie as tie
 
 enum-told : tie.Need-enum-told
 enum-told c = search needs

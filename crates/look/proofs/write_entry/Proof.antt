@@ -1,7 +1,7 @@
 use mathlib.Core.Path.{_∙_}
 use borrow.Author.Needs.{needs}
-use Rattle.session.proofs.look.write_entry.Statement.{statement}
-use Rattle.session.proofs.look.write_entry.Tie as tie
+use Rattle.look.proofs.write_entry.Statement.{statement}
+use Rattle.look.proofs.write_entry.Tie as tie
 
 pointer-requires : tie.Need-pointer-requires
 pointer-requires c κs = search needs
