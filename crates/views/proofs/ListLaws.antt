@@ -1,6 +1,6 @@
 -- E3 to DD: what a command that is answered FF makes of the lists and the pointer. Assumes nothing.
-use Prim.Native.Nat.{ℕ, _+_, _<_}
-use mathlib.Core.Path.{_≡_, refl, sym, ap, ap₂, subst, _∙_}
+use Prim.Native.Nat.{ℕ, suc, _+_, _<_}
+use mathlib.Core.Path.{_≡_, refl, sym, ap, ap₂, subst, fun-ext, _∙_}
 use mathlib.Core.Logic.{_≢_}
 use mathlib.Core.Bool.{Bool, true, false, cond}
 use mathlib.Core.List.{List, [], _∷_}
@@ -8,6 +8,7 @@ use native.Mathlib.Omega.{arith}
 use borrow.Author.Tests.{eq-eqb, ne-eqb, eqb-true, eqb-false, ltb-false, leb-false}
 use lib.Dec.{eqb, ltb, leb}
 use lib.ListN.{length}
+use Rattle.line.proofs.Laws.{cond-ind}
 use Rattle.line.proofs.Stuffed.{false-true}
 use Rattle.state.specs.Layout.{lists, events, entryMost, lastEntry, listOf, firstOdt, odtCount, entryCount}
 use Rattle.state.specs.Bytes.{u16At, u32At}
@@ -18,12 +19,15 @@ use Rattle.words.specs.declared.Extension.{Extension}
 use Rattle.words.specs.declared.Pointer.{Pointer}
 use Rattle.words.specs.declared.Pointer.the-variants.{Unset as NoEntry, At as Points}
 use Rattle.words.specs.declared.Reason.the-variants.{OutOfRange, ListRuns, NotInside, CannotStart}
-use Rattle.model.specs.Judge.{extensionFrom, clearDeed, pointerDeed, writeBlock, writeDeed, modeDeed, startDeed, startStopDeed, synchDeed, judgeThe, pointedIn, allStartable, judgeIn}
+use Rattle.model.specs.Judge.{extensionFrom, clearDeed, pointerDeed, writeBlock, writeDeed, modeDeed, startDeed, startStopDeed, synchDeed, judgeThe, pointedIn, startable, allStartable, judgeIn}
 use Rattle.model.specs.declared.Deed.{Deed}
 use Rattle.model.specs.declared.Deed.the-variants.{ClearEntry, WriteEntry, Stop, Start, KeepRunning, Select, StopAll, StartSelected, StopSelected}
 use Rattle.model.specs.Step.{nextEntry, withPointer, withLists, withEntry, setEntry, odtIn, clear, setMode, switch, select, stopIt, startIfSelected, stopIfSelected, stepIn}
 use Rattle.model.specs.Answers.{written, replyIn, doneBy, writes}
-use Rattle.model.specs.Model.{byte, put, Entry, noEntry, Odt, DaqList, Session, fits, runsIn}
+use Rattle.model.specs.Model.{byte, put, Entry, noEntry, Odt, DaqList, Session, fits, runs, runsIn}
+use Rattle.model.proofs.Bounded.{either}
+use Rattle.model.proofs.Fits.{fits-same, runs-same}
+use Rattle.lists.proofs.Counting.{all-stays}
 use Rattle.views.specs.Commands.{two, four, extensionNumber, TheGenerator, Whether-open, TheLocks, TheSeed, TheMta, ThePointer, TheLists, AllBut, AllButBoth, CLEAR-DAQ-LIST, SET-DAQ-PTR, WRITE-DAQ, SET-DAQ-LIST-MODE, Switched, Unswitched, START-STOP-DAQ-LIST, START-STOP-SYNCH}
 use Rattle.views.proofs.Parts.{put-by, put-here, put-there}
 use Rattle.views.proofs.Taken.{four-is, named-by, fe-ff, Taken, unless, provided, branch, judged, Leads}
@@ -229,6 +233,30 @@ module _ (p : List ℕ) (c : Session) (cal meas : List ℕ) where
         answer = refl;
       })))))))
 
+-- ---- whether a list then runs
+runs-on : (l : ℕ) (x y : DaqList) (opened : Bool) → Switched true x y → opened ≡ true → fits l x ≡ true → runs opened l y ≡ true
+unfolding runs
+runs-on l x y opened w o f =
+    ap₂ (λ (a b : Bool). cond a (cond b (fits l y) false) false) o (w .started) ∙ fits-same l y x (λ k h. fun-ext (w .entries k)) (w .mode) ∙ f
+
+runs-still : (l : ℕ) (x y : DaqList) (opened : Bool) → Unswitched x y → runs opened l x ≡ true → runs opened l y ≡ true
+runs-still l x y opened w r = runs-same l y x (λ k h. ap (λ (z : Odt). z .entry) (w .odts k)) opened (w .mode) (w .started) ∙ r
+
+runs-off : (l : ℕ) (x y : DaqList) (opened : Bool) → Switched false x y → runs opened l y ≡ false
+unfolding runs
+runs-off l x y opened w =
+    ap (λ (b : Bool). cond opened (cond b (fits l y) false) false) (w .started) ∙ cond-ind (λ (b : Bool). b ≡ false) opened (λ _. refl) (λ _. refl)
+
+-- of lists that can all be started, each that is selected can
+one-not : (c : Session) (l : ℕ) → startable c l ≡ false → allStartable c (suc l) ≡ false
+unfolding allStartable
+one-not c l e = rw e (cond-ind (λ (b : Bool). b ≡ false) (allStartable c l) (λ _. refl) (λ _. refl))
+
+each-fits : (c : Session) (l : ℕ) → allStartable c lists ≡ true → l < lists → c .list l .selected ≡ true → fits l (c .list l) ≡ true
+each-fits c l all l4 s =
+    either (fits l (c .list l)) (λ f. f)
+    (λ f. absurd (false-true (sym (all-stays c (suc l) lists (omega arith) (one-not c l (ap₂ (λ (a b : Bool). cond a b true) s f))) ∙ all)))
+
 -- ---- DE START_STOP_DAQ_LIST
 switched : (on : Bool) (l : ℕ) (d : ℕ → DaqList) → Switched on (d l) (put l (switch on (d l)) d l)
 switched on l d =
@@ -252,15 +280,17 @@ module _ (p : List ℕ) (c : Session) (cal meas : List ℕ) where
         switches = λ _. ap (λ (y : DaqList). y .selected) is;
         selects = λ e. absurd (omega arith);
         stays = λ e. absurd (omega arith);
+        running = λ _ e. absurd (omega arith);
+        resting = λ _. runs-off list (c .list list) (put list (switch false (c .list list)) (c .list) list) (c .opened) (switched false list (c .list));
         others = put-there list (switch false (c .list list)) (c .list);
         rest = but-lists c (put list (switch false (c .list list)) (c .list));
         memory = refl;
         answer = refl;
       }
 
-  starts-list : byte p 1 ≡ 1 → runsIn c list ≡ false → Switches (Start list)
+  starts-list : byte p 1 ≡ 1 → runsIn c list ≡ false → fits list (c .list list) ≡ true → Switches (Start list)
   unfolding stepIn writes replyIn
-  starts-list m idle =
+  starts-list m idle fit =
       let is : put list (switch true (c .list list)) (c .list) list ≡ switch true (c .list list) = put-here list (switch true (c .list list)) (c .list) in
       record {
         stops = λ e. absurd (omega arith);
@@ -269,6 +299,8 @@ module _ (p : List ℕ) (c : Session) (cal meas : List ℕ) where
         switches = λ _. ap (λ (y : DaqList). y .selected) is;
         selects = λ e. absurd (omega arith);
         stays = λ e. absurd (omega arith);
+        running = λ open′ _. runs-on list (c .list list) (put list (switch true (c .list list)) (c .list) list) (c .opened) (switched true list (c .list)) open′ fit;
+        resting = λ e. absurd (omega arith);
         others = put-there list (switch true (c .list list)) (c .list);
         rest = but-lists c (put list (switch true (c .list list)) (c .list));
         memory = refl;
@@ -285,6 +317,8 @@ module _ (p : List ℕ) (c : Session) (cal meas : List ℕ) where
         switches = λ _. refl;
         selects = λ e. absurd (omega arith);
         stays = λ e. absurd (omega arith);
+        running = λ _ _. runs′;
+        resting = λ e. absurd (omega arith);
         others = λ l n. refl;
         rest = but-lists c (c .list);
         memory = refl;
@@ -302,6 +336,8 @@ module _ (p : List ℕ) (c : Session) (cal meas : List ℕ) where
         switches = λ e. absurd (omega (arith, ltb-false 2 (byte p 1) few));
         selects = λ _. ap (λ (y : DaqList). y .selected) is;
         stays = λ _. subst (Unswitched (c .list list)) (sym is) (record { mode = refl; started = refl; odts = λ k. refl });
+        running = λ _ e. absurd (m e);
+        resting = λ e. absurd (n e);
         others = put-there list (select true (c .list list)) (c .list);
         rest = but-lists c (put list (select true (c .list list)) (c .list));
         memory = refl;
@@ -317,7 +353,7 @@ module _ (p : List ℕ) (c : Session) (cal meas : List ℕ) where
       branch p c cal meas Switches (eqb (byte p 1) 0) (λ m _. stops-list (eqb-true (byte p 1) 0 m)) (λ n.
       branch p c cal meas Switches (eqb (byte p 1) 1)
       (λ m. branch p c cal meas Switches (runsIn c list) (λ r _. keeps-list (eqb-true (byte p 1) 1 m) r) (λ idle.
-      provided p c cal meas Switches (fits list (c .list list)) CannotStart (λ _ _. starts-list (eqb-true (byte p 1) 1 m) idle)))
+      provided p c cal meas Switches (fits list (c .list list)) CannotStart (λ fit _. starts-list (eqb-true (byte p 1) 1 m) idle fit)))
       (λ m _. selects-list (eqb-false (byte p 1) 0 n) (eqb-false (byte p 1) 1 m) few)))))
 
 -- ---- DD START_STOP_SYNCH
@@ -357,20 +393,34 @@ module _ (p : List ℕ) (c : Session) (cal meas : List ℕ) where
     keeps = λ e. absurd (omega arith);
     stops = λ e. absurd (omega arith);
     others = λ n. absurd (n m);
+    running = λ _ e. absurd (omega arith);
+    restingAll = λ _ l. runs-off l (c .list l) (stopIt (c .list l)) (c .opened) (record { mode = refl; started = refl; entries = λ k e. refl; dropped = λ k. refl });
+    resting = λ e. absurd (omega arith);
     deselected = λ l. refl;
     rest = but-lists c (λ l. stopIt (c .list l));
     memory = refl;
     answer = refl;
   }
 
-  selected-start : byte p 1 ≡ 1 → Synchs StartSelected
+  -- a list that was selected and could be started runs, whether it ran before or is started now
+  started-runs : (l : ℕ) → c .opened ≡ true → c .list l .selected ≡ true → fits l (c .list l) ≡ true → runs (c .opened) l (startIfSelected (c .opened) l (c .list l)) ≡ true
+  started-runs l open′ s f =
+      let x : DaqList = c .list l in
+      either (runsIn c l)
+      (λ r. runs-still l x (startIfSelected (c .opened) l x) (c .opened) (kept-if x (x .selected) (runsIn c l) s r) r)
+      (λ r. runs-on l x (startIfSelected (c .opened) l x) (c .opened) (started-if x (x .selected) (runsIn c l) s r) open′ f)
+
+  selected-start : byte p 1 ≡ 1 → allStartable c lists ≡ true → Synchs StartSelected
   unfolding stepIn writes replyIn
-  selected-start m = record {
+  selected-start m all = record {
     stopsAll = λ e. absurd (omega arith);
     starts = λ _ l s r. started-if (c .list l) (c .list l .selected) (runsIn c l) s r;
     keeps = λ _ l s r. kept-if (c .list l) (c .list l .selected) (runsIn c l) s r;
     stops = λ e. absurd (omega arith);
     others = λ _ l s. unstarted-if (c .list l) (c .list l .selected) (runsIn c l) s;
+    running = λ open′ _ l l4 s. started-runs l open′ s (each-fits c l all l4 s);
+    restingAll = λ e. absurd (omega arith);
+    resting = λ e. absurd (omega arith);
     deselected = λ l. refl;
     rest = but-lists c (λ l. startIfSelected (c .opened) l (c .list l));
     memory = refl;
@@ -385,6 +435,9 @@ module _ (p : List ℕ) (c : Session) (cal meas : List ℕ) where
     keeps = λ e. absurd (m e);
     stops = λ _ l s. stopped-if (c .list l) (c .list l .selected) s;
     others = λ _ l s. unstopped-if (c .list l) (c .list l .selected) s;
+    running = λ _ e. absurd (m e);
+    restingAll = λ e. absurd (n e);
+    resting = λ _ l s. runs-off l (c .list l) (stopIfSelected (c .list l)) (c .opened) (stopped-if (c .list l) (c .list l .selected) s);
     deselected = λ l. refl;
     rest = but-lists c (λ l. stopIfSelected (c .list l));
     memory = refl;
@@ -398,5 +451,5 @@ module _ (p : List ℕ) (c : Session) (cal meas : List ℕ) where
       (unless p c cal meas Synchs (ltb 2 (byte p 1)) OutOfRange (λ _.
       branch p c cal meas Synchs (eqb (byte p 1) 0) (λ m _. all-stop (eqb-true (byte p 1) 0 m)) (λ n.
       branch p c cal meas Synchs (eqb (byte p 1) 1)
-      (λ m. provided p c cal meas Synchs (allStartable c lists) CannotStart (λ _ _. selected-start (eqb-true (byte p 1) 1 m)))
+      (λ m. provided p c cal meas Synchs (allStartable c lists) CannotStart (λ all _. selected-start (eqb-true (byte p 1) 1 m) all))
       (λ m _. selected-stop (eqb-false (byte p 1) 0 n) (eqb-false (byte p 1) 1 m)))))

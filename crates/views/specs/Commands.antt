@@ -268,7 +268,7 @@ pub record Unswitched (x y : DaqList) : Type 0 where
   pub started : y .started ≡ x .started
   pub odts : (k : ℕ) → y .odt k ≡ x .odt k
 
--- mode 0 stops, 1 starts unless it runs, 2 selects; the answer has the number of the list's first ODT
+-- mode 0 stops, 1 starts unless it runs, 2 selects; in an open session a list that is started runs; the answer has the number of the list's first ODT
 pub record START-STOP-DAQ-LIST (p : List ℕ) (c : Session) (cal meas : List ℕ) (o : Done) : Type 0 where
   pub stops : byte p 1 ≡ 0 → Switched false (c .list (two p 2)) (o .session .list (two p 2))
   pub starts : byte p 1 ≡ 1 → runsIn c (two p 2) ≡ false → Switched true (c .list (two p 2)) (o .session .list (two p 2))
@@ -276,18 +276,24 @@ pub record START-STOP-DAQ-LIST (p : List ℕ) (c : Session) (cal meas : List ℕ
   pub switches : byte p 1 ≢ 2 → o .session .list (two p 2) .selected ≡ c .list (two p 2) .selected
   pub selects : byte p 1 ≡ 2 → o .session .list (two p 2) .selected ≡ true
   pub stays : byte p 1 ≡ 2 → Unswitched (c .list (two p 2)) (o .session .list (two p 2))
+  pub running : c .opened ≡ true → byte p 1 ≡ 1 → runsIn (o .session) (two p 2) ≡ true
+  pub resting : byte p 1 ≡ 0 → runsIn (o .session) (two p 2) ≡ false
   pub others : (l : ℕ) → l ≢ two p 2 → o .session .list l ≡ c .list l
   pub rest : AllBut TheLists c (o .session)
   pub memory : o .memory ≡ cal
   pub answer : o .answer ≡ 0xFF ∷ firstOdt (two p 2) ∷ []
 
--- mode 0 stops all, 1 starts the selected that do not run, 2 stops the selected; then none is selected
+-- mode 0 stops all, 1 starts the selected that do not run, 2 stops the selected; then none is selected. In an open session every list that was selected
+-- runs once they are started
 pub record START-STOP-SYNCH (p : List ℕ) (c : Session) (cal meas : List ℕ) (o : Done) : Type 0 where
   pub stopsAll : byte p 1 ≡ 0 → (l : ℕ) → Switched false (c .list l) (o .session .list l)
   pub starts : byte p 1 ≡ 1 → (l : ℕ) → c .list l .selected ≡ true → runsIn c l ≡ false → Switched true (c .list l) (o .session .list l)
   pub keeps : byte p 1 ≡ 1 → (l : ℕ) → c .list l .selected ≡ true → runsIn c l ≡ true → Unswitched (c .list l) (o .session .list l)
   pub stops : byte p 1 ≡ 2 → (l : ℕ) → c .list l .selected ≡ true → Switched false (c .list l) (o .session .list l)
   pub others : byte p 1 ≢ 0 → (l : ℕ) → c .list l .selected ≡ false → Unswitched (c .list l) (o .session .list l)
+  pub running : c .opened ≡ true → byte p 1 ≡ 1 → (l : ℕ) → l < lists → c .list l .selected ≡ true → runsIn (o .session) l ≡ true
+  pub restingAll : byte p 1 ≡ 0 → (l : ℕ) → runsIn (o .session) l ≡ false
+  pub resting : byte p 1 ≡ 2 → (l : ℕ) → c .list l .selected ≡ true → runsIn (o .session) l ≡ false
   pub deselected : (l : ℕ) → o .session .list l .selected ≡ false
   pub rest : AllBut TheLists c (o .session)
   pub memory : o .memory ≡ cal
