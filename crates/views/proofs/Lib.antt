@@ -11,6 +11,7 @@ pub mod Taken
 pub mod MemoryLaws
 pub mod SessionLaws
 pub mod ListLaws
+pub mod SampleLaws
 pub mod Obeys
 pub mod Settings
 pub mod Locked

@@ -52,7 +52,7 @@ block-byte : (mem : List ℕ) (a n i : ℕ) → i < n → byte (block mem a n) i
 block-byte mem a n i h = getD-take n (drop a mem) i 0 h ∙ getD-drop a mem i 0
 
 -- the memory that an extension stands for, and its length
-memory-is : (e : Extension) (cal meas : List ℕ) → pick e cal meas ≡ memoryOf e cal meas
+pub memory-is : (e : Extension) (cal meas : List ℕ) → pick e cal meas ≡ memoryOf e cal meas
 memory-is CalibrationMemory cal meas = refl
 memory-is Measured cal meas = refl
 

@@ -1,3 +1,4 @@
--- `Commands`: what stands of every command that is done. `Locked`: what no command changes while lists are locked.
+-- `Commands`: what stands of every command that is done. `Locked`: what no command changes while lists are locked. `Samples`: what an event captures.
 pub mod Commands
 pub mod Locked
+pub mod Samples
