@@ -44,12 +44,12 @@ bytes-set s i x w h j =
     (λ e. rw (getD-set-other s i j x 0 (eqb-false j i e)) (w j)))
     (λ t. rw (set-out s i x (ltb-false i (length s) t)) (w j))
 
-bytes-take : (n : ℕ) (s : List ℕ) → Bytes s → Bytes (take n s)
+pub bytes-take : (n : ℕ) (s : List ℕ) → Bytes s → Bytes (take n s)
 bytes-take zero s w = λ i. lit< tt
 bytes-take (suc n) [] w = λ i. lit< tt
 bytes-take (suc n) (x ∷ s) w = bytes-cons x (take n s) (w 0) (bytes-take n s (λ i. w (suc i)))
 
-bytes-drop : (n : ℕ) (s : List ℕ) → Bytes s → Bytes (drop n s)
+pub bytes-drop : (n : ℕ) (s : List ℕ) → Bytes s → Bytes (drop n s)
 bytes-drop n s w i = rw (getD-drop n s i 0) (w (n + i))
 
 pub bytes-block : (s : List ℕ) (i n : ℕ) → Bytes s → Bytes (block s i n)

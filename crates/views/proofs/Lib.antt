@@ -15,3 +15,4 @@ pub mod SampleLaws
 pub mod Obeys
 pub mod Settings
 pub mod Locked
+pub mod BytesKept

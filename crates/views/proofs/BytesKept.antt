@@ -1,0 +1,533 @@
+-- Bytes stay bytes through every call: of lent bytes that are below 256 each is below 256 after it. Assumes nothing.
+use Prim.{tt}
+use Prim.Native.Nat.{ℕ, zero, suc, _+_, _/_, _%_, _≤_, _<_}
+use mathlib.Core.Path.{_≡_, refl, sym, subst}
+use mathlib.Core.Bool.{Bool, true, false, cond}
+use mathlib.Core.Option.{Option, none, some}
+use mathlib.Core.List.{List, [], _∷_, _++_}
+use native.Mathlib.Nat.{mod-lt}
+use native.Mathlib.Omega.{arith}
+use borrow.Author.Tests.{eq-eqb, eqb-false, ltb-true, ltb-false}
+use lib.Dec.{T, eqb, ltb, leb, lit<, lit≤}
+use lib.ListN.{length, getD, set, take, drop, replicate}
+use lib.Seq.{sets}
+use Rattle.line.specs.Message.{byteForm, most, room, frame, headIn, sum}
+use Rattle.line.specs.Stuffing.{SYNC, ESC, stuffByte, stuff}
+use Rattle.line.specs.Unstuffing.{Fed}
+use Rattle.line.specs.Writer.{atFront, Sent, writeIn, writeOf}
+use Rattle.line.specs.declared.Place.{Place}
+use Rattle.line.specs.declared.Place.the-variants.{Outside, Inside, Escaped}
+use Rattle.line.specs.declared.Outcome.{Outcome}
+use Rattle.line.specs.declared.Outcome.the-variants as line
+use Rattle.line.proofs.Laws.{cond-ind}
+use Rattle.state.specs.Layout.{size, lists, lastList, events, allOdts, odtCount, firstOdt, entryCount, isFirst, listOf, lastEntry, entriesAt, listSize, entrySize, entryMost, storedMost, packetMost, mark, markAt, generatorAt, ctrAt, servedAt, lastAt, placeAt, countAt, messageAt, answerAt, answerBytesAt, sessionAt, sessionSize, openAt, seedAt, mtaAt, addressAt, pointerAt, pointerEntryAt, modeAt, selectedAt, runningAt, entryAt, sampleAt}
+use Rattle.state.specs.Bytes.{put16, put32, bytes32, block, cleared}
+use Rattle.state.specs.Generator.{nextOf, startOf}
+use Rattle.state.specs.Memory.{pick, reach, byteOf, bytesOf, blockSum}
+use Rattle.state.specs.State.{consistent, generatorOf, setGenerator, ctrOf, lockAt, bitOf, maskBy, setSeed, mtaTag, setMta, setPointer, Pointed, closed, fresh, setPlace, setMessage, answerLength, answerKind, answerOf, answered, waits}
+use Rattle.state.specs.Lists.{selectedOf, storedLength}
+use Rattle.words.specs.Command.{codeOf}
+use Rattle.words.specs.declared.Resource.{Resource}
+use Rattle.words.specs.declared.Resource.the-variants.{Calibration, Lists}
+use Rattle.words.specs.declared.Extension.{Extension}
+use Rattle.words.specs.declared.Extension.the-variants.{Calibration as CalibrationMemory, Measured}
+use Rattle.words.specs.declared.Seed.{Seed}
+use Rattle.words.specs.declared.Seed.the-variants.{None, For}
+use Rattle.words.specs.declared.Mta.{Mta}
+use Rattle.words.specs.declared.Mta.the-variants.{Unset, At}
+use Rattle.words.specs.declared.Pointer.{Pointer}
+use Rattle.words.specs.declared.Pointer.the-variants.{Unset as NoEntry, At as Points}
+use Rattle.words.specs.declared.Reason.{Reason}
+use Rattle.words.specs.declared.Reason.the-variants as reason
+use Rattle.model.specs.declared.Deed.{Deed}
+use Rattle.model.specs.declared.Deed.the-variants.{Refuse, RefuseSize, WrongKey, Connect, Disconnect, Status, Synch, NoSeed, GiveSeed, Unlock, SetMta, Upload, ShortUpload, Checksum, Download, ClearList, SetPointer, ClearEntry, WriteEntry, SetMode, Stop, Start, KeepRunning, Select, StopAll, StartSelected, StopSelected, ProcessorInfo, ResolutionInfo}
+use Rattle.model.specs.declared.Sampling.{Sampling}
+use Rattle.model.specs.declared.Sampling.the-variants.{Idle, Sampled, Missed}
+use Rattle.model.specs.declared.Turn.{Turn}
+use Rattle.model.specs.declared.Turn.the-variants.{Nobody, Answer, Packet}
+use Rattle.model.specs.Model.{Bytes, Odt, Session, someRuns, eachFits}
+use Rattle.model.specs.Heed.{Heeding, goodConnect, heedingIn}
+use Rattle.model.specs.Step.{unlock, nextEntry}
+use Rattle.model.specs.Answers.{replyIn, Write, writes, memoryAfter}
+use Rattle.model.specs.Calls.{blockIn, blocksIn, leadOf, contentsIn, packetFrom}
+use Rattle.model.specs.View.{odtOf, sessionOf, viewOf}
+use Rattle.model.proofs.Shown.{packet-by}
+use Rattle.judge.specs.Doable.{Doable}
+use Rattle.lists.specs.Lists.{runsOf, tagOf, dropped, switched, stopped, listCleared, modeSet, entryCleared, entrySet, stopEach, startOne, startSelected, stopOne, stopSelected}
+use Rattle.lists.specs.Event.{samplingOf, contentsOf, stored, capturedOdts, sampledState, tally, Happened, eventOf}
+use Rattle.lists.specs.Slot.{turnOf, Slot, nextCtr, answerSent, packetSent, sentBy, slotOf}
+use Rattle.lists.proofs.Fitting.{Fitting, sampling-fits, fit-each}
+use Rattle.lists.proofs.Gathered.{contents-most}
+use Rattle.lists.proofs.Sending.{Within, turn-within}
+use Rattle.session.specs.Look.{judgeOf}
+use Rattle.session.specs.Perform.{effect, reply}
+use Rattle.session.specs.PowerUp.{powered, powerUpOf}
+use Rattle.session.specs.Receive.{Step, obeyed, heededBy, heeded, meant, readOn, fedOf, receiveOf}
+use Rattle.session.proofs.Looked.{judged-doable}
+use Rattle.fields.proofs.Effects.{answering}
+use Rattle.views.proofs.Bytes.{bytes-cons, bytes-four, bytes-set, bytes-take, bytes-drop, bytes-block, fed-bytes}
+use Rattle.views.proofs.Fit.{Fit, generator-fits, judged-fits}
+
+-- ---- bytes written out, put together, and stored
+both : (a b : Bool) → T (cond a b false) → (a ≡ true) × T b
+both true b t = (refl, t)
+both false b t = absurd t
+
+abbrev low : List ℕ → Bool
+low [] = true
+low (x ∷ xs) = cond (ltb x 256) (low xs) false
+
+no-bytes : Bytes []
+no-bytes i = lit< tt
+
+-- `tt` proves it of numbers that are written out
+literal : (xs : List ℕ) → T (low xs) → Bytes xs
+literal [] t = no-bytes
+literal (x ∷ xs) t = let p = both (ltb x 256) (low xs) t in bytes-cons x xs (ltb-true x 256 (p .0)) (literal xs (p .1))
+
+one-byte : (x : ℕ) → x < 256 → Bytes (x ∷ [])
+one-byte x h = bytes-cons x [] h no-bytes
+
+bytes-append : (xs ys : List ℕ) → Bytes xs → Bytes ys → Bytes (xs ++ ys)
+bytes-append [] ys v w = w
+bytes-append (x ∷ xs) ys v w = bytes-cons x (xs ++ ys) (v 0) (bytes-append xs ys (λ i. v (suc i)) w)
+
+bytes-zeros : (n : ℕ) → Bytes (replicate n 0)
+bytes-zeros zero = no-bytes
+bytes-zeros (suc n) = bytes-cons 0 (replicate n 0) (lit< tt) (bytes-zeros n)
+
+bytes-sets : (xs s : List ℕ) (i : ℕ) → Bytes s → Bytes xs → Bytes (sets s i xs)
+bytes-sets [] s i w v = w
+bytes-sets (x ∷ xs) s i w v = bytes-sets xs (set s i x) (suc i) (bytes-set s i x w (v 0)) (λ j. v (suc j))
+
+bytes-cleared : (s : List ℕ) (i n : ℕ) → Bytes s → Bytes (cleared s i n)
+unfolding cleared
+bytes-cleared s i n w = bytes-sets (replicate n 0) s i w (bytes-zeros n)
+
+-- whatever the number, its last byte
+bytes-modulo : (s : List ℕ) (i x : ℕ) → Bytes s → Bytes (set s i (x % 256))
+bytes-modulo s i x w = bytes-set s i (x % 256) w (mod-lt x (lit< tt))
+
+bytes-put16 : (s : List ℕ) (i x : ℕ) → Bytes s → Bytes (put16 s i x)
+unfolding put16
+bytes-put16 s i x w = bytes-modulo (set s i (x % 256)) (i + 1) (x / 256) (bytes-modulo s i x w)
+
+bytes-put32 : (s : List ℕ) (i x : ℕ) → Bytes s → Bytes (put32 s i x)
+unfolding put32
+bytes-put32 s i x w =
+    let s₁ : List ℕ = set s i (x % 256) in
+    let s₂ : List ℕ = set s₁ (i + 1) (x / 256 % 256) in
+    let s₃ : List ℕ = set s₂ (i + 2) (x / 65536 % 256) in
+    bytes-modulo s₃ (i + 3) (x / 16777216) (bytes-modulo s₂ (i + 2) (x / 65536) (bytes-modulo s₁ (i + 1) (x / 256) (bytes-modulo s i x w)))
+
+-- ---- the fields
+bit-low : (r : Resource) → bitOf r < 256
+bit-low Calibration = lit< tt
+bit-low Lists = lit< tt
+
+bytes-seed : (s : List ℕ) (x : Seed) → Bytes s → Bytes (setSeed s x)
+unfolding setSeed
+bytes-seed s None w = bytes-set s seedAt 0 w (lit< tt)
+bytes-seed s (For r) w = bytes-set s seedAt (bitOf r) w (bit-low r)
+
+bytes-generator : (s : List ℕ) (x : ℕ) → Bytes s → Bytes (setGenerator s x)
+unfolding setGenerator
+bytes-generator s x w = bytes-put32 s generatorAt x w
+
+tag-low : (e : Extension) → (mtaTag e < 256) × (tagOf e < 256)
+tag-low CalibrationMemory = (lit< tt, lit< tt)
+tag-low Measured = (lit< tt, lit< tt)
+
+bytes-mta : (s : List ℕ) (m : Mta) → Bytes s → Bytes (setMta s m)
+unfolding setMta
+bytes-mta s Unset w = bytes-set s mtaAt 0 w (lit< tt)
+bytes-mta s (At e a) w = bytes-put32 (set s mtaAt (mtaTag e)) addressAt a (bytes-set s mtaAt (mtaTag e) w (tag-low e .0))
+
+bytes-pointer : (s : List ℕ) (p : Pointer) → Pointed p → Bytes s → Bytes (setPointer s p)
+unfolding setPointer
+bytes-pointer s NoEntry h w = bytes-set s pointerAt 0 w (lit< tt)
+bytes-pointer s (Points k e) h w = let few : e < entryCount k = h .1 in bytes-set (set s pointerAt ((k + 1) % 256)) pointerEntryAt e (bytes-modulo s pointerAt (k + 1) w) (omega arith)
+
+next-pointed : (k e : ℕ) → k < allOdts → e < entryCount k → Pointed (nextEntry k e)
+unfolding nextEntry
+next-pointed k e p q = cond-ind Pointed (eqb e lastEntry) (λ _. tt) (λ n. let other = eqb-false e lastEntry n in (p, omega arith))
+
+bytes-closed : (s : List ℕ) → Bytes s → Bytes (closed s)
+unfolding closed
+bytes-closed s w = bytes-cleared s sessionAt sessionSize w
+
+bytes-fresh : (s : List ℕ) → Bytes s → Bytes (fresh s)
+unfolding fresh
+bytes-fresh s w = bytes-set (closed s) openAt 1 (bytes-closed s w) (lit< tt)
+
+bytes-place : (s : List ℕ) (p : Place) → Bytes s → Bytes (setPlace s p)
+unfolding setPlace
+bytes-place s Outside w = bytes-set s placeAt 0 w (lit< tt)
+bytes-place s (Inside k) w = bytes-modulo (set s placeAt 1) countAt k (bytes-set s placeAt 1 w (lit< tt))
+bytes-place s (Escaped k) w = bytes-modulo (set s placeAt 2) countAt k (bytes-set s placeAt 2 w (lit< tt))
+
+bytes-message : (s m : List ℕ) → Bytes s → Bytes m → Bytes (setMessage s m)
+unfolding setMessage
+bytes-message s m w v =
+    bytes-append (take messageAt s) (m ++ drop answerAt s) (bytes-take messageAt s w) (bytes-append m (drop answerAt s) v (bytes-drop answerAt s w))
+
+bytes-readOn : (s : List ℕ) (f : Fed) → Bytes s → Bytes (f .message) → Bytes (readOn s f)
+unfolding readOn
+bytes-readOn s f w v = bytes-place (setMessage s (f .message)) (f .taken .place) (bytes-message s (f .message) w v)
+
+bytes-answered : (s bs : List ℕ) → Bytes s → Bytes bs → length bs ≤ packetMost → Bytes (answered s bs)
+unfolding answered
+bytes-answered s bs w v few = bytes-sets (length bs ∷ bs) s answerAt w (bytes-cons (length bs) bs (omega arith) v)
+
+-- ---- the lists
+bytes-dropped : (s : List ℕ) (k n : ℕ) → Bytes s → Bytes (dropped s k n)
+unfolding dropped
+bytes-dropped s k zero w = w
+bytes-dropped s k (suc n) w = bytes-set (dropped s k n) (sampleAt (k + n)) 0 (bytes-dropped s k n w) (lit< tt)
+
+bytes-switched : (s : List ℕ) (l on : ℕ) → on < 256 → Bytes s → Bytes (switched s l on)
+unfolding switched
+bytes-switched s l on h w = bytes-dropped (set s (runningAt l) on) (firstOdt l) (odtCount l) (bytes-set s (runningAt l) on w h)
+
+bytes-listCleared : (s : List ℕ) (l : ℕ) → Bytes s → Bytes (listCleared s l)
+unfolding listCleared
+bytes-listCleared s l w = bytes-cleared (cleared s (modeAt l) listSize) (entriesAt (firstOdt l)) _ (bytes-cleared s (modeAt l) listSize w)
+
+bytes-modeSet : (s : List ℕ) (l event : ℕ) → Bytes s → Bytes (modeSet s l event)
+unfolding modeSet
+bytes-modeSet s l event w = bytes-set (set s (modeAt l) ((event + 1) % 256)) (runningAt l) 0 (bytes-modulo s (modeAt l) (event + 1) w) (lit< tt)
+
+bytes-entryCleared : (s : List ℕ) (l k e : ℕ) → Bytes s → Bytes (entryCleared s l k e)
+unfolding entryCleared
+bytes-entryCleared s l k e w = bytes-cleared (set s (runningAt l) 0) (entryAt k e) entrySize (bytes-set s (runningAt l) 0 w (lit< tt))
+
+bytes-entrySet : (s : List ℕ) (l k e n : ℕ) (x : Extension) (a : ℕ) → n ≤ entryMost → Bytes s → Bytes (entrySet s l k e n x a)
+unfolding entrySet
+bytes-entrySet s l k e n x a few w =
+    let s₁ : List ℕ = set s (runningAt l) 0 in
+    let s₂ : List ℕ = set s₁ (entryAt k e) n in
+    bytes-put16 (set s₂ (entryAt k e + 1) (tagOf x)) (entryAt k e + 2) a
+    (bytes-set s₂ (entryAt k e + 1) (tagOf x) (bytes-set s₁ (entryAt k e) n (bytes-set s (runningAt l) 0 w (lit< tt)) (omega arith)) (tag-low x .1))
+
+bytes-selected : (s : List ℕ) (l on : ℕ) → on < 256 → Bytes s → Bytes (set s (selectedAt l) on)
+bytes-selected s l on h w = bytes-set s (selectedAt l) on w h
+
+bytes-stopEach : (s : List ℕ) (n : ℕ) → Bytes s → Bytes (stopEach s n)
+unfolding stopEach
+bytes-stopEach s zero w = w
+bytes-stopEach s (suc n) w = bytes-selected (stopped (stopEach s n) n) n 0 (lit< tt) (bytes-switched (stopEach s n) n 0 (lit< tt) (bytes-stopEach s n w))
+
+bytes-startSelected : (s : List ℕ) (n : ℕ) → Bytes s → Bytes (startSelected s n)
+unfolding startSelected
+bytes-startSelected s zero w = w
+bytes-startSelected s (suc n) w =
+    let t : List ℕ = startSelected s n in
+    let v : Bytes t = bytes-startSelected s n w in
+    bytes-selected (startOne t n) n 0 (lit< tt)
+    (cond-ind Bytes (selectedOf t n) (λ _. cond-ind Bytes (runsOf t n) (λ _. v) (λ _. bytes-switched t n 1 (lit< tt) v)) (λ _. v))
+
+bytes-stopSelected : (s : List ℕ) (n : ℕ) → Bytes s → Bytes (stopSelected s n)
+unfolding stopSelected
+bytes-stopSelected s zero w = w
+bytes-stopSelected s (suc n) w =
+    let t : List ℕ = stopSelected s n in
+    let v : Bytes t = bytes-stopSelected s n w in
+    bytes-selected (stopOne t n) n 0 (lit< tt) (cond-ind Bytes (selectedOf t n) (λ _. bytes-switched t n 0 (lit< tt) v) (λ _. v))
+
+-- ---- a deed
+bytes-effect : (d : Deed) (s : List ℕ) (n nc nm g : ℕ) → Doable d n nc nm → Fit d g → Bytes s → Bytes (effect d s)
+unfolding effect
+bytes-effect (Refuse r) s n nc nm g h f w = w
+bytes-effect RefuseSize s n nc nm g h f w = w
+bytes-effect WrongKey s n nc nm g h f w = bytes-closed s w
+bytes-effect Connect s n nc nm g h f w = bytes-fresh s w
+bytes-effect Disconnect s n nc nm g h f w = bytes-closed s w
+bytes-effect Status s n nc nm g h f w = w
+bytes-effect Synch s n nc nm g h f w = w
+bytes-effect NoSeed s n nc nm g h f w = w
+bytes-effect (GiveSeed r) s n nc nm g h f w = bytes-seed (setGenerator s (nextOf (generatorOf s))) (For r) (bytes-generator s (nextOf (generatorOf s)) w)
+bytes-effect (Unlock r) s n nc nm g h f w = bytes-seed (set s (lockAt r) 1) None (bytes-set s (lockAt r) 1 w (lit< tt))
+bytes-effect (SetMta e a) s n nc nm g h f w = bytes-mta s (At e a) w
+bytes-effect (Upload e a m) s n nc nm g h f w = bytes-mta s (At e (a + m)) w
+bytes-effect (ShortUpload e a m) s n nc nm g h f w = w
+bytes-effect (Checksum e a m) s n nc nm g h f w = bytes-mta s (At e (a + m)) w
+bytes-effect (Download a m) s n nc nm g h f w = bytes-mta s (At CalibrationMemory (a + m)) w
+bytes-effect (ClearList l) s n nc nm g h f w = bytes-listCleared s l w
+bytes-effect (SetPointer k e) s n nc nm g h f w = bytes-pointer s (Points k e) h w
+bytes-effect (ClearEntry k e) s n nc nm g h f w = bytes-pointer (entryCleared s (listOf k) k e) (nextEntry k e) (next-pointed k e (h .0) (h .1)) (bytes-entryCleared s (listOf k) k e w)
+bytes-effect (WriteEntry k e m x a) s n nc nm g h f w =
+    bytes-pointer (entrySet s (listOf k) k e m x a) (nextEntry k e) (next-pointed k e (h .0) (h .1)) (bytes-entrySet s (listOf k) k e m x a (f .0) w)
+bytes-effect (SetMode l event) s n nc nm g h f w = bytes-modeSet s l event w
+bytes-effect (Stop l) s n nc nm g h f w = bytes-switched s l 0 (lit< tt) w
+bytes-effect (Start l) s n nc nm g h f w = bytes-switched s l 1 (lit< tt) w
+bytes-effect (KeepRunning l) s n nc nm g h f w = w
+bytes-effect (Select l) s n nc nm g h f w = bytes-selected s l 1 (lit< tt) w
+bytes-effect StopAll s n nc nm g h f w = bytes-stopEach s lists w
+bytes-effect StartSelected s n nc nm g h f w = bytes-startSelected s lists w
+bytes-effect StopSelected s n nc nm g h f w = bytes-stopSelected s lists w
+bytes-effect ProcessorInfo s n nc nm g h f w = w
+bytes-effect ResolutionInfo s n nc nm g h f w = w
+
+-- its answer
+code-low : (r : Reason) → codeOf r < 256
+code-low reason.Unknown = lit< tt
+code-low reason.TooShort = lit< tt
+code-low reason.Locked = lit< tt
+code-low reason.Sequence = lit< tt
+code-low reason.OutOfRange = lit< tt
+code-low reason.DataMissing = lit< tt
+code-low reason.ListRuns = lit< tt
+code-low reason.ReadOnly = lit< tt
+code-low reason.NotInside = lit< tt
+code-low reason.CannotStart = lit< tt
+code-low reason.WrongKey = lit< tt
+
+either-low : (b : Bool) (x y : ℕ) → x < 256 → y < 256 → cond b x y < 256
+either-low true x y p q = p
+either-low false x y p q = q
+
+mask-low : (f : Resource → Bool) → maskBy f < 256
+mask-low f =
+    let few : (b : Bool) (r : Resource) → cond b 0 (bitOf r) ≤ 4 = bit-few in
+    omega (arith, few (f Calibration) Calibration, few (f Lists) Lists) where
+      bit-few : (b : Bool) (r : Resource) → cond b 0 (bitOf r) ≤ 4
+      bit-few true r = lit≤ tt
+      bit-few false Calibration = lit≤ tt
+      bit-few false Lists = lit≤ tt
+
+good : (bs : List ℕ) → Bytes bs → Bytes (0xFF ∷ bs)
+good bs w = bytes-cons 0xFF bs (lit< tt) w
+
+ok : Bytes (0xFF ∷ [])
+ok = good [] no-bytes
+
+first-low : (l : ℕ) → l < lists → Bytes (0xFF ∷ firstOdt l ∷ [])
+first-low l h = good (firstOdt l ∷ []) (one-byte (firstOdt l) (omega arith))
+
+module _ (cal meas : List ℕ) (wc : Bytes cal) (wm : Bytes meas) where
+  bytes-pick : (e : Extension) → Bytes (pick e cal meas)
+  bytes-pick CalibrationMemory = wc
+  bytes-pick Measured = wm
+
+  bytes-upload : (e : Extension) (a n : ℕ) → Bytes (0xFF ∷ block (pick e cal meas) a n)
+  bytes-upload e a n = good (block (pick e cal meas) a n) (bytes-block (pick e cal meas) a n (bytes-pick e))
+
+  bytes-reply : (d : Deed) (c : Session) (n nc nm : ℕ) → Doable d n nc nm → Bytes (replyIn d c cal meas)
+  unfolding replyIn
+  bytes-reply (Refuse r) c n nc nm h = bytes-cons 0xFE (codeOf r ∷ []) (lit< tt) (one-byte (codeOf r) (code-low r))
+  bytes-reply RefuseSize c n nc nm h = literal (replyIn RefuseSize c cal meas) tt
+  bytes-reply WrongKey c n nc nm h = literal (replyIn WrongKey c cal meas) tt
+  bytes-reply Connect c n nc nm h = literal (replyIn Connect c cal meas) tt
+  bytes-reply Disconnect c n nc nm h = ok
+  bytes-reply Status c n nc nm h =
+      let zeros : List ℕ = 0x00 ∷ 0x00 ∷ 0x00 ∷ [] in
+      let runs : ℕ = cond (someRuns c lists) 0x40 0x00 in
+      let locks : ℕ = maskBy (c .unlocked) in
+      good (runs ∷ locks ∷ zeros)
+      (bytes-cons runs (locks ∷ zeros) (either-low (someRuns c lists) 0x40 0x00 (lit< tt) (lit< tt))
+      (bytes-cons locks zeros (mask-low (c .unlocked)) (literal zeros tt)))
+  bytes-reply Synch c n nc nm h = literal (replyIn Synch c cal meas) tt
+  bytes-reply NoSeed c n nc nm h = literal (replyIn NoSeed c cal meas) tt
+  bytes-reply (GiveSeed r) c n nc nm h =
+      let front : List ℕ = 0xFF ∷ 0x04 ∷ [] in
+      bytes-append front (bytes32 (nextOf (c .generator))) (literal front tt) (bytes-four (nextOf (c .generator)))
+  bytes-reply (Unlock r) c n nc nm h = good (maskBy (unlock r (c .unlocked)) ∷ []) (one-byte (maskBy (unlock r (c .unlocked))) (mask-low (unlock r (c .unlocked))))
+  bytes-reply (SetMta e a) c n nc nm h = ok
+  bytes-reply (Upload e a m) c n nc nm h = bytes-upload e a m
+  bytes-reply (ShortUpload e a m) c n nc nm h = bytes-upload e a m
+  bytes-reply (Checksum e a m) c n nc nm h =
+      let front : List ℕ = 0xFF ∷ 0x02 ∷ 0x00 ∷ 0x00 ∷ [] in
+      let total : ℕ = blockSum (pick e cal meas) a m in
+      bytes-append front (bytes32 total) (literal front tt) (bytes-four total)
+  bytes-reply (Download a m) c n nc nm h = ok
+  bytes-reply (ClearList l) c n nc nm h = ok
+  bytes-reply (SetPointer k e) c n nc nm h = ok
+  bytes-reply (ClearEntry k e) c n nc nm h = ok
+  bytes-reply (WriteEntry k e m x a) c n nc nm h = ok
+  bytes-reply (SetMode l event) c n nc nm h = ok
+  bytes-reply (Stop l) c n nc nm h = first-low l h
+  bytes-reply (Start l) c n nc nm h = first-low l h
+  bytes-reply (KeepRunning l) c n nc nm h = first-low l h
+  bytes-reply (Select l) c n nc nm h = first-low l h
+  bytes-reply StopAll c n nc nm h = ok
+  bytes-reply StartSelected c n nc nm h = ok
+  bytes-reply StopSelected c n nc nm h = ok
+  bytes-reply ProcessorInfo c n nc nm h = literal (replyIn ProcessorInfo c cal meas) tt
+  bytes-reply ResolutionInfo c n nc nm h = literal (replyIn ResolutionInfo c cal meas) tt
+
+-- what it writes into calibration
+bytes-written : (x : Option Write) (p cal : List ℕ) → Bytes p → Bytes cal → Bytes (memoryAfter x p cal)
+bytes-written none p cal v w = w
+bytes-written (some x) p cal v w = bytes-sets (block p 2 (x .count)) cal (x .address) w (bytes-block p 2 (x .count) v)
+
+-- ---- a received byte
+abbrev Low : Step → Type 0
+Low o = Bytes (o .state) × Bytes (o .cal)
+
+module _ (cal meas : List ℕ) (wc : Bytes cal) (wm : Bytes meas) where
+  bytes-obeyed : (d : Deed) (p s : List ℕ) (n g : ℕ) → Doable d n (length cal) (length meas) → Fit d g → Bytes p → Bytes s → Low (obeyed d p s cal meas)
+  bytes-obeyed d p s n g h f v w = (
+    bytes-answered (effect d s) (reply d s cal meas) (bytes-effect d s n (length cal) (length meas) g h f w) (bytes-reply cal meas wc wm d (sessionOf s) n (length cal) (length meas) h) (answering d s cal meas n h .few),
+    bytes-written (writes d) p cal v wc,
+  )
+
+  bytes-heeded : (p s : List ℕ) → Bytes p → Bytes s → Low (heeded p s cal meas)
+  unfolding heeded heedingIn
+  bytes-heeded p s v w =
+      let P : Heeding → Type 0 = λ (x : Heeding). Low (heededBy x p s cal meas) in
+      cond-ind P (waits s) (λ _. (w, wc))
+      (λ _. cond-ind P (sessionOf s .opened)
+      (λ _. bytes-obeyed (judgeOf p s (length cal) (length meas)) p s (length p) (generatorOf s) (judged-doable p s (length cal) (length meas)) (judged-fits p s (length cal) (length meas) v (generator-fits s w)) v w)
+      (λ _. cond-ind P (goodConnect p) (λ _. bytes-obeyed Connect p s (length p) (generatorOf s) tt tt v w) (λ _. (w, wc))))
+
+  bytes-meant : (o : Outcome) (m s : List ℕ) → Bytes m → Bytes s → Low (meant o m s cal meas)
+  unfolding meant
+  bytes-meant line.Nothing m s v w = (w, wc)
+  bytes-meant (line.Good ctr at n) m s v w = bytes-heeded (block m at n) s (bytes-block m at n v) w
+  bytes-meant line.BadLength m s v w = (w, wc)
+  bytes-meant line.BadEscape m s v w = (w, wc)
+  bytes-meant line.BadChecksum m s v w = (w, wc)
+  bytes-meant line.CutOff m s v w = (w, wc)
+  bytes-meant line.ShortBuffer m s v w = (w, wc)
+
+pub receive-bytes : (s cal meas : List ℕ) (b : ℕ) → Bytes s → Bytes cal → Bytes meas → b < 256 → Bytes (receiveOf s cal meas b .state) × Bytes (receiveOf s cal meas b .cal)
+unfolding receiveOf
+receive-bytes s cal meas b w wc wm h =
+    let f : Fed = fedOf s b in
+    let v : Bytes (f .message) = fed-bytes s b w h in
+    cond-ind Low (consistent s) (λ _. bytes-meant cal meas wc wm (f .taken .outcome) (f .message) (readOn s f) v (bytes-readOn s f w v)) (λ _. (w, wc))
+
+-- ---- an event
+bytes-run : (mem : List ℕ) (a n : ℕ) → Bytes mem → Bytes (bytesOf mem a n)
+unfolding bytesOf byteOf
+bytes-run mem a zero w = no-bytes
+bytes-run mem a (suc n) w =
+    bytes-cons (byteOf mem a) (bytesOf mem (suc a) n) (either-low (ltb a (reach (length mem))) (getD mem a 0) 0 (w a) (lit< tt)) (bytes-run mem (suc a) n w)
+
+bytes-stored : (s : List ℕ) (k : ℕ) (bs : List ℕ) → length bs ≤ storedMost → Bytes bs → Bytes s → Bytes (stored s k bs)
+unfolding stored
+bytes-stored s k bs few v w = bytes-sets (length bs ∷ bs) s (sampleAt k) w (bytes-cons (length bs) bs (omega arith) v)
+
+module _ (cal meas : List ℕ) (wc : Bytes cal) (wm : Bytes meas) where
+  bytes-blocks : (y : Odt) (n : ℕ) → Bytes (blocksIn y cal meas n)
+  unfolding blocksIn
+  bytes-blocks y zero = no-bytes
+  bytes-blocks y (suc n) =
+      bytes-append (blocksIn y cal meas n) (blockIn (y .entry n) cal meas) (bytes-blocks y n)
+      (bytes-run (pick (y .entry n .extension) cal meas) (y .entry n .address) (y .entry n .size) (bytes-pick cal meas wc wm (y .entry n .extension)))
+
+  bytes-contents : (k clock : ℕ) (y : Odt) → Bytes (contentsIn k clock cal meas y)
+  unfolding contentsIn
+  bytes-contents k clock y =
+      bytes-append (leadOf k clock) (blocksIn y cal meas (entryCount k))
+      (cond-ind Bytes (isFirst k) (λ _. bytes-cons (clock % 256) (clock / 256 % 256 ∷ []) (mod-lt clock (lit< tt)) (one-byte (clock / 256 % 256) (mod-lt (clock / 256) (lit< tt)))) (λ _. no-bytes))
+      (bytes-blocks y (entryCount k))
+
+  bytes-captured : (s : List ℕ) (l clock n : ℕ) → l < lists → eachFits l (sessionOf s .list l) (odtCount l) ≡ true → n ≤ odtCount l → Bytes s → Bytes (capturedOdts s (firstOdt l) clock cal meas n)
+  unfolding capturedOdts
+  bytes-captured s l clock zero l4 fit h w = w
+  bytes-captured s l clock (suc n) l4 fit h w =
+      let k : ℕ = firstOdt l + n in
+      bytes-stored (capturedOdts s (firstOdt l) clock cal meas n) k (contentsOf s k clock cal meas)
+      (contents-most s k clock cal meas (fit-each s l n l4 fit (omega arith))) (bytes-contents k clock _) (bytes-captured s l clock n l4 fit (omega arith) w)
+
+  bytes-sampled : (c : Sampling) (s : List ℕ) (l clock : ℕ) → l < lists → Fitting s l c → Bytes s → Bytes (sampledState c s l clock cal meas)
+  unfolding sampledState
+  bytes-sampled Idle s l clock l4 fit w = w
+  bytes-sampled Sampled s l clock l4 fit w = bytes-captured s l clock (odtCount l) l4 fit (omega arith) w
+  bytes-sampled Missed s l clock l4 fit w = w
+
+  bytes-tally : (s : List ℕ) (event clock n : ℕ) → n ≤ lists → Bytes s → Bytes (tally s event clock cal meas n .state)
+  unfolding tally
+  bytes-tally s event clock zero h w = w
+  bytes-tally s event clock (suc n) h w =
+      let t : List ℕ = tally s event clock cal meas n .state in
+      bytes-sampled (samplingOf t n event) t n clock (omega arith) (sampling-fits t n event) (bytes-tally s event clock n (omega arith) w)
+
+pub event-bytes : (s cal meas : List ℕ) (event clock : ℕ) → Bytes s → Bytes cal → Bytes meas → Bytes (eventOf s cal meas event clock .state)
+unfolding eventOf
+event-bytes s cal meas event clock w wc wm =
+    let P : Happened → Type 0 = λ (h : Happened). Bytes (h .state) in
+    cond-ind P (consistent s) (λ _. cond-ind P (leb events event) (λ _. w) (λ _. bytes-tally cal meas wc wm s event clock lists (lit≤ tt) w)) (λ _. w)
+
+-- ---- a slot
+kind-low : (s : List ℕ) → answerKind s < 256
+unfolding answerKind
+kind-low s =
+    either-low (eqb (getD s answerBytesAt 0) 0xFE) (cond (eqb (answerLength s) 2) 0xFE (cond (eqb (answerLength s) 8) 0xFE 0xFF)) 0xFF
+    (either-low (eqb (answerLength s) 2) 0xFE (cond (eqb (answerLength s) 8) 0xFE 0xFF) (lit< tt) (either-low (eqb (answerLength s) 8) 0xFE 0xFF (lit< tt) (lit< tt))) (lit< tt)
+
+bytes-kind : (s : List ℕ) → Bytes s → Bytes (set s answerBytesAt (answerKind s))
+bytes-kind s w = bytes-set s answerBytesAt (answerKind s) w (kind-low s)
+
+bytes-answerSent : (s : List ℕ) → Bytes s → Bytes (answerSent s)
+unfolding answerSent
+bytes-answerSent s w =
+    let s₁ : List ℕ = set s answerBytesAt (answerKind s) in
+    let s₂ : List ℕ = set s₁ answerAt 0 in
+    bytes-set (set s₂ ctrAt (nextCtr s)) lastAt 1 (bytes-modulo s₂ ctrAt (ctrOf s + 1) (bytes-set s₁ answerAt 0 (bytes-kind s w) (lit< tt))) (lit< tt)
+
+bytes-packetSent : (s : List ℕ) (k : ℕ) → k < allOdts → Bytes s → Bytes (packetSent s k)
+unfolding packetSent
+bytes-packetSent s k h w =
+    let s₁ : List ℕ = set s (sampleAt k) 0 in
+    let s₂ : List ℕ = set s₁ ctrAt (nextCtr s) in
+    bytes-set (set s₂ servedAt (listOf k)) lastAt 0
+    (bytes-set s₂ servedAt (listOf k) (bytes-modulo s₁ ctrAt (ctrOf s + 1) (bytes-set s (sampleAt k) 0 w (lit< tt))) (omega arith)) (lit< tt)
+
+-- its frame
+bytes-stuffByte : (b : ℕ) → b < 256 → Bytes (stuffByte b)
+bytes-stuffByte b h =
+    cond-ind Bytes (eqb b SYNC) (λ _. literal (ESC ∷ 1 ∷ []) tt) (λ _. cond-ind Bytes (eqb b ESC) (λ _. literal (ESC ∷ 0 ∷ []) tt) (λ _. one-byte b h))
+
+bytes-stuff : (bs : List ℕ) → Bytes bs → Bytes (stuff bs)
+bytes-stuff [] w = no-bytes
+bytes-stuff (b ∷ bs) w = bytes-append (stuffByte b) (stuff bs) (bytes-stuffByte b (w 0)) (bytes-stuff bs (λ i. w (suc i)))
+
+bytes-frame : (ctr : ℕ) (p : List ℕ) → ctr < 256 → length p ≤ most → Bytes p → Bytes (frame ctr p)
+bytes-frame ctr p h few w =
+    let head : List ℕ = headIn byteForm ctr p in
+    let v : Bytes head = bytes-cons (length p) (ctr ∷ p) (omega arith) (bytes-cons ctr p h w) in
+    let end : List ℕ = byteForm .checksum head ∷ [] in
+    bytes-cons SYNC (stuff (head ++ end)) (lit< tt) (bytes-stuff (head ++ end) (bytes-append head end v (one-byte (byteForm .checksum head) (mod-lt (sum head) (lit< tt)))))
+
+bytes-front : (xs l : List ℕ) → Bytes xs → Bytes l → Bytes (atFront xs l)
+bytes-front [] l v w = w
+bytes-front (x ∷ xs) [] v w = no-bytes
+bytes-front (x ∷ xs) (y ∷ l) v w = bytes-cons x (atFront xs l) (v 0) (bytes-front xs l (λ i. v (suc i)) (λ i. w (suc i)))
+
+bytes-write : (p : List ℕ) (ctr : ℕ) (out : List ℕ) → Bytes p → ctr < 256 → Bytes out → Bytes (writeOf p ctr out .out)
+unfolding writeOf writeIn
+bytes-write p ctr out v h w =
+    let P : Sent → Type 0 = λ (x : Sent). Bytes (x .out) in
+    cond-ind P (eqb (length p) 0) (λ _. w)
+    (λ _. cond-ind P (ltb most (length p)) (λ _. w)
+    (λ few. cond-ind P (ltb (length out) room) (λ _. w) (λ _. bytes-front (frame ctr p) out (bytes-frame ctr p h (ltb-false most (length p) few) v) w)))
+
+bytes-sentBy : (t : Turn) (s out : List ℕ) → Within t → Bytes s → Bytes (sentBy t s out .state) × (Bytes out → Bytes (sentBy t s out .out))
+unfolding sentBy answerOf
+bytes-sentBy Nobody s out h w = (w, λ v. v)
+bytes-sentBy Answer s out h w =
+    (bytes-answerSent s w, λ v. bytes-write (answerOf s) (ctrOf s) out (bytes-block (set s answerBytesAt (answerKind s)) answerBytesAt (answerLength s) (bytes-kind s w)) (w ctrAt) v)
+bytes-sentBy (Packet k) s out h w =
+    let p : List ℕ = packetFrom (sessionOf s) k in
+    let b : Bytes p = subst Bytes (sym (packet-by s k h)) (bytes-cons k (odtOf s k .store) (omega arith) (bytes-block s (sampleAt k + 1) (storedLength s k) w)) in
+    (bytes-packetSent s k h w, λ v. bytes-write p (ctrOf s) out b (w ctrAt) v)
+
+pub slot-bytes : (s out : List ℕ) → Bytes s → Bytes (slotOf s out .state) × (Bytes out → Bytes (slotOf s out .out))
+unfolding slotOf
+slot-bytes s out w =
+    let P : Slot → Type 0 = λ (x : Slot). Bytes (x .state) × (Bytes out → Bytes (x .out)) in
+    cond-ind P (consistent s)
+    (λ _. cond-ind P (ltb (length out) room) (λ _. (w, λ v. v)) (λ _. bytes-sentBy (turnOf s) s out (turn-within (viewOf s)) w)) (λ _. (w, λ v. v))
+
+-- ---- power-up: whatever was lent
+bytes-powered : (start : ℕ) → Bytes (powered start)
+unfolding powered
+bytes-powered start =
+    let t : List ℕ = setGenerator (put32 (replicate size 0) markAt mark) (startOf start) in
+    bytes-set t servedAt lastList (bytes-generator (put32 (replicate size 0) markAt mark) (startOf start) (bytes-put32 (replicate size 0) markAt mark (bytes-zeros size))) (lit< tt)
+
+pub power-up-bytes : (s : List ℕ) (start : ℕ) → length s ≡ size → Bytes (powerUpOf s start .state)
+unfolding powerUpOf
+power-up-bytes s start h = rw (eq-eqb (length s) size h) (bytes-powered start)
