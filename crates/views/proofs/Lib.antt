@@ -7,6 +7,7 @@ pub mod Effect
 pub mod Calls
 pub mod Waits
 pub mod Done
+pub mod Receiving
 pub mod Taken
 pub mod MemoryLaws
 pub mod SessionLaws
