@@ -8,6 +8,7 @@ pub mod Calls
 pub mod Waits
 pub mod Done
 pub mod Receiving
+pub mod Happening
 pub mod Taken
 pub mod MemoryLaws
 pub mod SessionLaws
