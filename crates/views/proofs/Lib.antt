@@ -9,6 +9,7 @@ pub mod Waits
 pub mod Done
 pub mod Receiving
 pub mod Happening
+pub mod Sending
 pub mod Taken
 pub mod MemoryLaws
 pub mod SessionLaws
