@@ -4,14 +4,12 @@ use mathlib.Core.Bool.{Bool, true, false, cond}
 use mathlib.Core.List.{List}
 use lib.Dec.{ltb, leb}
 use lib.ListN.{length}
-use Rattle.line.specs.Message.{room}
+use Rattle.line.specs.Message.{room, frame}
 use Rattle.line.specs.Unstuffing.{Fed}
 use Rattle.line.specs.Reader.{takeOf}
-use Rattle.line.specs.Writer.{Sent, writeOf}
+use Rattle.line.specs.Writer.{atFront}
 use Rattle.line.specs.declared.Outcome.{Outcome}
 use Rattle.line.specs.declared.Outcome.the-variants as line
-use Rattle.line.specs.declared.Written.{Written}
-use Rattle.line.specs.declared.Written.the-variants as writer
 use Rattle.state.specs.Layout.{lists, events}
 use Rattle.state.specs.Bytes.{block}
 use Rattle.words.specs.declared.Received.{Received}
@@ -19,7 +17,7 @@ use Rattle.words.specs.declared.Received.the-variants.{Nothing, Answered, Silen
 use Rattle.words.specs.declared.Evented.{Evented}
 use Rattle.words.specs.declared.Evented.the-variants.{Done, BadEvent}
 use Rattle.words.specs.declared.Slotted.{Slotted}
-use Rattle.words.specs.declared.Slotted.the-variants as slot
+use Rattle.words.specs.declared.Slotted.the-variants.{Idle as NothingWaits, Sent, NoRoom}
 use Rattle.model.specs.declared.Sampling.{Sampling}
 use Rattle.model.specs.declared.Sampling.the-variants.{Idle, Sampled, Missed}
 use Rattle.model.specs.declared.Turn.{Turn}
@@ -115,23 +113,18 @@ pub record AfterSlot : Type 0 where
   pub slave : Slave
   pub out : List ℕ
 
--- by what the line's writer answers
-abbrev pub slottedAs : Written → Slotted
-slottedAs (writer.Frame n) = slot.Sent n
-slottedAs writer.BadLength = slot.Idle
-slottedAs writer.NoRoom = slot.NoRoom
+-- a packet goes: its frame at the front of the lent bytes, the bytes past it as they were; the call answers its size
+abbrev pub sentAs : List ℕ → ℕ → List ℕ → Slave → AfterSlot
+sentAs p ctr out v = record { slotted = Sent (length (frame ctr p)); slave = v; out = atFront (frame ctr p) out }
 
-abbrev pub sentAs : Sent → Slave → AfterSlot
-sentAs w v = record { slotted = slottedAs (w .written); slave = v; out = w .out }
-
--- one frame at the front of the lent bytes, by whose turn it is
+-- by whose turn it is
 unfoldable pub sentIn : Turn → Slave → List ℕ → AfterSlot
-sentIn Nobody v out = record { slotted = slot.Idle; slave = v; out = out }
-sentIn Answer v out = sentAs (writeOf (v .answer) (v .ctr) out) (answerGone v)
-sentIn (Packet k) v out = sentAs (writeOf (packetFrom (v .session) k) (v .ctr) out) (packetGone k v)
+sentIn Nobody v out = record { slotted = NothingWaits; slave = v; out = out }
+sentIn Answer v out = sentAs (v .answer) (v .ctr) out (answerGone v)
+sentIn (Packet k) v out = sentAs (packetFrom (v .session) k) (v .ctr) out (packetGone k v)
 
 -- fewer lent bytes than the room of the longest frame change nothing
 unfoldable pub slotIn : Slave → List ℕ → AfterSlot
 slotIn v out =
-    cond (ltb (length out) room) (record { slotted = slot.NoRoom; slave = v; out = out })
+    cond (ltb (length out) room) (record { slotted = NoRoom; slave = v; out = out })
     (sentIn (turnIn v) v out)
