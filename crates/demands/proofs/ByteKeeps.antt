@@ -1,35 +1,50 @@
 -- What a received byte does to what waits: packets go only if their list is stopped or its session ends or is renewed, an answer stays, and one is
 -- accepted only if none waits. Assumes nothing.
-use lib.Dec.{lit≤}
-use Prim.Native.Nat.{ℕ, _≤_, _<_}
-use mathlib.Core.Path.{_≡_, refl, sym, _∙_}
+use lib.Dec.{ltb, lit≤, lit<}
+use Prim.Native.Nat.{ℕ, _≤_}
+use mathlib.Core.Path.{_≡_, refl, sym, ap, ap₂, subst, _∙_}
 use mathlib.Core.Logic.{_≢_}
 use mathlib.Core.Bool.{Bool, true, false, cond}
 use mathlib.Core.Option.{Option}
-use mathlib.Core.List.{List, [], _++_, append-nil}
-use native.Mathlib.Omega.{arith}
+use mathlib.Core.List.{List, [], _∷_, _++_, append-nil}
 use lib.ListN.{length}
 use Rattle.line.proofs.Stuffed.{false-true}
-use Rattle.state.specs.Layout.{lists, packetMost, ctrAt, placeAt}
-use Rattle.state.specs.State.{consistent, waits, answerOf}
+use Rattle.state.specs.Layout.{packetMost, ctrAt, servedAt, lastAt, placeAt}
+use Rattle.state.specs.State.{consistent}
 use Rattle.session.specs.Perform.{effect, reply, after}
 use Rattle.session.specs.Receive.{Step, receiveOf}
+use Rattle.model.specs.Model.{DaqList, Session, Slave, waiting, waitingIn}
+use Rattle.model.specs.Step.{stepIn}
+use Rattle.model.specs.View.{sessionOf, viewOf}
 use Rattle.words.specs.Number.{receivedNumber}
 use Rattle.model.specs.declared.Deed.{Deed}
 use Rattle.words.specs.declared.Received.{Received}
 use Rattle.words.specs.declared.Received.the-variants.{Nothing, Answered, Silent, BadLength, BadEscape, BadChecksum, Unread, CutOff, NoState}
 use Rattle.fields.proofs.Frames.{only-answered}
-use Rattle.fields.proofs.Readers.{Same, apart, same-then, same-part}
+use Rattle.fields.proofs.Readers.{Same, apart, same-then, same-part, flag-reads}
 use Rattle.fields.proofs.Effects.{effected, answering, after-waits}
 use Rattle.demands.specs.Slave.{ours}
 use Rattle.demands.specs.Runs.{Byte}
-use Rattle.demands.specs.Heard.{readBy, stops, stopsBy, stopsAt}
-use Rattle.demands.specs.Waiting.{waitingAnswer, waitingOf}
+use Rattle.demands.specs.Heard.{readBy, Commands, deedOf, stops, stopsBy, stopsAt}
+use Rattle.demands.specs.Waiting.{hasAnswer, waitingAnswer, waitingOf}
 use Rattle.demands.specs.Kept.{answerBy, accepts}
-use Rattle.demands.proofs.Own.{own-only, waiting-reads}
-use Rattle.demands.proofs.Deeds.{effect-waiting, effect-stops}
-use Rattle.demands.proofs.ReadBy.{read-only, read-length, read-waits, read-answer}
-use Rattle.demands.proofs.Received.{Does, Reads, rests, acts, received}
+use Rattle.views.proofs.Calls.{session-reads}
+use Rattle.views.proofs.Stepped.{Steps, stepped}
+use Rattle.look.proofs.Looked.{judged-doable}
+use Rattle.demands.proofs.Judged.{judged, found-entered}
+use Rattle.demands.proofs.Deeds.{step-waiting, step-stops}
+use Rattle.demands.proofs.ReadBy.{waits-shown, read-only, read-length, read-session, read-answer}
+use Rattle.demands.proofs.Received.{Does, Reads, rests, acts, received, commanded}
+
+-- w has the CTR of v, the list served last, and whether the last frame was an answer
+pub record SameRound (v w : Slave) : Type 0 where
+  pub ctr : w .ctr ≡ v .ctr
+  pub served : w .served ≡ v .served
+  pub lastAnswer : w .lastAnswer ≡ v .lastAnswer
+
+pub round-reads : {s t : List ℕ} → Same ctrAt placeAt s t → SameRound (viewOf s) (viewOf t)
+unfolding viewOf
+round-reads w = record { ctr = w .byte ctrAt (lit≤ tt) (lit< tt); served = w .byte servedAt (lit≤ tt) (lit< tt); lastAnswer = flag-reads lastAt (same-part (lit≤ tt) (lit≤ tt) w) }
 
 -- an answer is accepted with number 1 alone
 none-accepted : (r : Received) (t : List ℕ) → receivedNumber r ≢ 1 → answerBy r t ≡ []
@@ -44,57 +59,80 @@ none-accepted CutOff t n = refl
 none-accepted NoState t n = refl
 
 module _ (s cal meas : List ℕ) (b : ℕ) (c : consistent s ≡ true) where
-  -- ---- a byte that is read, and a deed that is done
-  read-waiting : (l : ℕ) → l < lists → waitingOf (readBy s b) l ≡ waitingOf s l
-  read-waiting l l4 = waiting-reads l (own-only (omega arith) (read-only s b c))
-
+  -- ---- a deed that is done
   module _ (d : Deed) (p : List ℕ) (w : Does s cal meas b d p) where
     few : length (reply d (readBy s b) cal meas) ≤ packetMost
     few = answering d (readBy s b) cal meas (length p) (w .can) .few
 
-    answered-waiting : (l : ℕ) → l < lists → waitingOf (after d (readBy s b) cal meas) l ≡ waitingOf (effect d (readBy s b)) l
-    answered-waiting l l4 = waiting-reads l (own-only (omega arith) (only-answered (effect d (readBy s b)) (reply d (readBy s b) cal meas) few))
+    -- of the lists and the locks it leaves what it makes of the session
+    pub done-steps : Steps (stepIn d (sessionOf s)) (sessionOf (after d (readBy s b) cal meas))
+    done-steps =
+        let t : List ℕ = readBy s b in
+        let a = only-answered (effect d t) (reply d t cal meas) few in
+        subst (λ (x : Session). Steps (stepIn d (sessionOf s)) x) (sym (session-reads (apart tt a) (apart tt a)))
+        (subst (λ (x : Session). Steps (stepIn d x) (sessionOf (effect d t))) (read-session s b c)
+        (stepped d t (length p) (length cal) (length meas) (read-length s b c) (w .can) (found-entered d p (sessionOf s) (w .found))))
 
-    deed-waiting : (l : ℕ) → l < lists → (x : Bool) → stops l d (readBy s b) ≡ x → waitingOf (after d (readBy s b) cal meas) l ≡ cond x [] (waitingOf s l)
-    deed-waiting l l4 true e = answered-waiting l l4 ∙ effect-stops d (readBy s b) l (read-length s b c) l4 e
-    deed-waiting l l4 false e =
-        answered-waiting l l4 ∙ effect-waiting d p (readBy s b) l (length p) (length cal) (length meas) (read-length s b c) l4 (w .can) (w .found) e ∙ read-waiting l l4
+    deed-waiting : (l : ℕ) → (x : Bool) → stops l d (sessionOf s) ≡ x → waitingOf (after d (readBy s b) cal meas) l ≡ cond x [] (waitingOf s l)
+    deed-waiting l x e = ap₂ (λ (o : Bool) (f : ℕ → DaqList). waiting o l (f l)) (done-steps .opened) (done-steps .list) ∙ go x e where
+      go : (x : Bool) → stops l d (sessionOf s) ≡ x → waitingIn (stepIn d (sessionOf s)) l ≡ cond x [] (waitingOf s l)
+      go true e = step-stops d (sessionOf s) l e
+      go false e = step-waiting d p (sessionOf s) l (w .found) e
 
     deed-round : Same ctrAt placeAt (readBy s b) (after d (readBy s b) cal meas)
     deed-round =
         same-then (same-part (lit≤ tt) (lit≤ tt) (effected d (readBy s b) (length p) (length cal) (length meas) (w .can) .between)) (apart tt (only-answered (effect d (readBy s b)) (reply d (readBy s b) cal meas) few))
 
-    deed-waits : waits (after d (readBy s b) cal meas) ≡ true
-    deed-waits = after-waits d (readBy s b) cal meas (length p) (read-length s b c) (w .can)
+    pub deed-waits : hasAnswer (viewOf (after d (readBy s b) cal meas)) ≡ true
+    deed-waits =
+        sym (waits-shown (after d (readBy s b) cal meas) (only-answered (effect d (readBy s b)) (reply d (readBy s b) cal meas) few .long ∙ effected d (readBy s b) (length p) (length cal) (length meas) (w .can) .range .long ∙ read-length s b c))
+        ∙ after-waits d (readBy s b) cal meas (length p) (read-length s b c) (w .can)
 
   -- ---- the packets of a list
-  waiting-by : {o : Step} {x : Option Deed} (l : ℕ) → l < lists → Reads s cal meas b o x → waitingOf (o .state) l ≡ cond (stopsBy l x (readBy s b)) [] (waitingOf s l)
-  waiting-by l l4 (rests r n f) = read-waiting l l4
-  waiting-by l l4 (acts d p w) = deed-waiting d p w l l4 (stops l d (readBy s b)) refl
+  waiting-by : {o : Step} {x : Option Deed} (l : ℕ) → Reads s cal meas b o x → waitingOf (o .state) l ≡ cond (stopsBy l x (sessionOf s)) [] (waitingOf s l)
+  waiting-by l (rests r n f) = ap (λ (x : Session). waitingIn x l) (read-session s b c)
+  waiting-by l (acts d p w) = deed-waiting d p w l (stops l d (sessionOf s)) refl
 
-  pub byte-waiting : (l : ℕ) → l < lists → waitingOf (receiveOf s cal meas b .state) l ≡ cond (stopsAt l s cal meas b) [] (waitingOf s l)
-  byte-waiting l l4 = waiting-by l l4 (received s cal meas b c)
+  pub byte-waiting : (l : ℕ) → waitingOf (receiveOf s cal meas b .state) l ≡ cond (stopsAt l s cal meas b) [] (waitingOf s l)
+  byte-waiting l = waiting-by l (received s cal meas b c)
 
   -- ---- the CTR, the list that was served last, and whether the last frame was an answer
   round-by : {o : Step} {x : Option Deed} → Reads s cal meas b o x → Same ctrAt placeAt s (o .state)
   round-by (rests r n f) = apart tt (read-only s b c)
   round-by (acts d p w) = same-then (apart tt (read-only s b c)) (deed-round d p w)
 
-  pub byte-round : Same ctrAt placeAt s (receiveOf s cal meas b .state)
-  byte-round = round-by (received s cal meas b c)
+  pub byte-round : SameRound (viewOf s) (viewOf (receiveOf s cal meas b .state))
+  byte-round = round-reads (round-by (received s cal meas b c))
 
   -- ---- an answer that waits stays
-  kept-by : {o : Step} {x : Option Deed} → Reads s cal meas b o x → waits s ≡ true → (waits (o .state) ≡ true) × (answerOf (o .state) ≡ answerOf s)
-  kept-by (rests r n f) e = (read-waits s b c ∙ e, read-answer s b c)
+  kept-by : {o : Step} {x : Option Deed} → Reads s cal meas b o x → hasAnswer (viewOf s) ≡ true → viewOf (o .state) .answer ≡ viewOf s .answer
+  kept-by (rests r n f) e = read-answer s b c
   kept-by (acts d p w) e = absurd (false-true (sym (w .free) ∙ e))
 
-  pub byte-answer-kept : waits s ≡ true → (waits (receiveOf s cal meas b .state) ≡ true) × (answerOf (receiveOf s cal meas b .state) ≡ answerOf s)
+  pub byte-answer-kept : hasAnswer (viewOf s) ≡ true → viewOf (receiveOf s cal meas b .state) .answer ≡ viewOf s .answer
   byte-answer-kept = kept-by (received s cal meas b c)
 
   -- ---- and one is accepted only if none waits
   answer-by : {o : Step} {x : Option Deed} → Reads s cal meas b o x → waitingAnswer (o .state) ≡ waitingAnswer s ++ answerBy (o .received) (o .state)
-  answer-by (rests r n f) = rw (read-waits s b c, read-answer s b c, none-accepted r (readBy s b) n) (sym (append-nil (waitingAnswer s)))
-  answer-by (acts d p w) = rw (deed-waits d p w, w .free)
+  answer-by (rests r n f) = rw (none-accepted r (readBy s b) n) (ap (λ (bs : List ℕ). cond (ltb 0 (length bs)) (bs ∷ []) []) (read-answer s b c) ∙ sym (append-nil (waitingAnswer s)))
+  answer-by (acts d p w) =
+      ap (λ (x : Bool). cond x (viewOf (after d (readBy s b) cal meas) .answer ∷ []) []) (deed-waits d p w)
+      ∙ sym (ap (λ (x : Bool). cond x (viewOf s .answer ∷ []) [] ++ (viewOf (after d (readBy s b) cal meas) .answer ∷ [])) (w .free))
 
   pub byte-answer : waitingAnswer (receiveOf s cal meas b .state) ≡ waitingAnswer s ++ accepts ours s (Byte cal meas b)
   byte-answer = answer-by (received s cal meas b c)
+
+-- ---- a command that is heard leaves of the lists and the locks what it makes of the session
+pub command-steps : (s cal meas : List ℕ) (b : ℕ) (p : List ℕ) → consistent s ≡ true → Commands s b p
+    → Steps (stepIn (deedOf p (sessionOf s) cal meas) (sessionOf s)) (sessionOf (receiveOf s cal meas b .state))
+command-steps s cal meas b p c w =
+    let d : Deed = deedOf p (sessionOf s) cal meas in
+    subst (λ (o : Step). Steps (stepIn d (sessionOf s)) (sessionOf (o .state))) (sym (commanded s cal meas b p c w))
+    (done-steps s cal meas b c d p (record {
+      ended = w .ends;
+      free = w .free;
+      can = judged-doable p s (length cal) (length meas);
+      found = judged p (sessionOf s) (length cal) (length meas);
+      opened = λ _. refl;
+      closed = λ n. absurd (false-true (sym n ∙ w .opened));
+    }))

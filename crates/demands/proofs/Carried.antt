@@ -5,16 +5,20 @@ use mathlib.Core.Logic.{_≢_}
 use mathlib.Core.Bool.{Bool, true, false, cond}
 use mathlib.Core.List.{List, [], _∷_, _++_}
 use native.Mathlib.Omega.{arith}
-use borrow.Author.Tests.{eq-eqb, ne-eqb, lt-leb}
-use lib.Dec.{leb}
-use lib.ListN.{length}
-use lib.Seq.{take-at}
+use borrow.Author.Tests.{eq-eqb, ne-eqb, ltb-true, lt-leb}
+use lib.Dec.{eqb, leb}
+use lib.ListN.{length, getD, set, drop}
+use lib.Seq.{getD-set-same, getD-take, getD-drop, take-at}
 use Rattle.line.specs.Message.{message, frame, sum}
 use Rattle.line.proofs.Stuffed.{unstuff-stuff}
-use Rattle.state.specs.Layout.{listOf, allOdts}
-use Rattle.lists.specs.Slot.{packetOf}
+use Rattle.line.proofs.Laws.{cond-ind}
+use Rattle.state.specs.Layout.{size, listOf, allOdts, answerBytesAt}
+use Rattle.state.specs.State.{answerLength, answerKind, answerOf}
+use Rattle.model.specs.Model.{Session}
 use Rattle.model.specs.Calls.{packetFrom}
-use Rattle.demands.specs.Waiting.{packetInside, packetRead, isAnswer, isOf, carried}
+use Rattle.model.specs.View.{viewOf}
+use Rattle.demands.specs.Waiting.{hasAnswer, packetInside, packetRead, isAnswer, isOf, carried}
+use Rattle.demands.proofs.ReadBy.{waits-shown}
 
 -- a message's packet
 inside-message : (c : ℕ) (p : List ℕ) → packetInside (message c p) ≡ p
@@ -42,18 +46,36 @@ carries-none test c p h = rw (packet-read c p, h)
 low : (k : ℕ) → k < allOdts → leb 0xFE k ≡ false
 low k h = lt-leb 0xFE k (omega arith)
 
-pub packet-no-answer : (s : List ℕ) (k : ℕ) → k < allOdts → isAnswer (packetOf s k) ≡ false
+pub packet-no-answer : (c : Session) (k : ℕ) → k < allOdts → isAnswer (packetFrom c k) ≡ false
 unfolding packetFrom
-packet-no-answer s k h = low k h
+packet-no-answer c k h = low k h
 
-pub packet-own : (s : List ℕ) (j k : ℕ) → k < allOdts → listOf k ≡ j → isOf j (packetOf s k) ≡ true
+pub packet-own : (c : Session) (j k : ℕ) → k < allOdts → listOf k ≡ j → isOf j (packetFrom c k) ≡ true
 unfolding packetFrom
-packet-own s j k h e = rw (low k h) (eq-eqb (listOf k) j e)
+packet-own c j k h e = rw (low k h) (eq-eqb (listOf k) j e)
 
-pub packet-other : (s : List ℕ) (l j k : ℕ) → k < allOdts → listOf k ≡ j → l ≢ j → isOf l (packetOf s k) ≡ false
+pub packet-other : (c : Session) (l j k : ℕ) → k < allOdts → listOf k ≡ j → l ≢ j → isOf l (packetFrom c k) ≡ false
 unfolding packetFrom
-packet-other s l j k h e n = rw (low k h) (ne-eqb (listOf k) l (λ q. n (sym q ∙ e)))
+packet-other c l j k h e n = rw (low k h) (ne-eqb (listOf k) l (λ q. n (sym q ∙ e)))
 
--- an answer is no list's
+-- ---- an answer
+-- it begins FF or FE
+kind-high : (s : List ℕ) → leb 0xFE (answerKind s) ≡ true
+unfolding answerKind
+kind-high s =
+    let P : ℕ → Type 0 = λ (n : ℕ). leb 0xFE n ≡ true in
+    cond-ind P (eqb (getD s answerBytesAt 0) 0xFE)
+    (λ _. cond-ind P (eqb (answerLength s) 2) (λ _. refl) (λ _. cond-ind P (eqb (answerLength s) 8) (λ _. refl) (λ _. refl)))
+    (λ _. refl)
+
+pub answer-answers : (s : List ℕ) → length s ≡ size → hasAnswer (viewOf s) ≡ true → isAnswer (viewOf s .answer) ≡ true
+unfolding viewOf answerOf
+answer-answers s h w =
+    let t : List ℕ = set s answerBytesAt (answerKind s) in
+    let n : 0 < answerLength s = ltb-true 0 (answerLength s) (waits-shown s h ∙ w) in
+    let e = getD-take (answerLength s) (drop answerBytesAt t) 0 0 n ∙ getD-drop answerBytesAt t 0 0 ∙ getD-set-same s answerBytesAt (answerKind s) 0 (omega arith) in
+    rw e (kind-high s)
+
+-- it is no list's
 pub answer-of-none : (l : ℕ) (p : List ℕ) → isAnswer p ≡ true → isOf l p ≡ false
 answer-of-none l p e = rw e

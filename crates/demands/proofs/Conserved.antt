@@ -5,31 +5,29 @@ use mathlib.Core.Bool.{Bool, true, false, cond}
 use mathlib.Core.List.{List, [], _∷_, _++_, append-nil, append-assoc}
 use native.Mathlib.Nat.{lt-of-not-le}
 use native.Mathlib.Decide.{decLe, ℕ-discrete}
-use lib.Dec.{lit≤}
+use lib.Dec.{ltb}
 use lib.ListN.{length}
 use Rattle.line.specs.Message.{room}
 use Rattle.state.specs.Layout.{size, lists}
-use Rattle.state.specs.State.{consistent, ctrOf, answerOf}
-use Rattle.lists.specs.Slot.{turnOf, packetOf, packetSent, slotOf}
+use Rattle.state.specs.State.{consistent}
+use Rattle.lists.specs.Slot.{slotOf}
 use Rattle.model.specs.declared.Turn.{Turn}
 use Rattle.model.specs.declared.Turn.the-variants.{Packet}
 use Rattle.state.proofs.Consistent.{consistent-size}
-use Rattle.fields.proofs.Readers.{same-part, waits-reads, answer-reads}
-use Rattle.fields.proofs.Served.{answerSent-waits, packetSent-rest}
-use Rattle.model.specs.Calls.{packetFor}
+use Rattle.model.specs.Model.{Slave, waitingIn}
+use Rattle.model.specs.Calls.{turnIn, packetFrom, packetFor, packetGone}
 use Rattle.model.specs.View.{viewOf}
 use Rattle.demands.specs.Slave.{ours}
 use Rattle.demands.specs.Runs.{Call, Byte, Event, SendingSlot, Elsewhere, afterCall, run, sends, each, frames}
 use Rattle.demands.specs.Heard.{stopsAt}
-use Rattle.demands.specs.Waiting.{waitingAnswer, waitingOf, isAnswer, isOf, carried, answersIn}
+use Rattle.demands.specs.Waiting.{hasAnswer, waitingAnswer, waitingOf, isAnswer, isOf, carried, answersIn}
 use Rattle.demands.specs.Kept.{accepts, gains, goes as goesOf, NothingLost}
 use Rattle.demands.proofs.Reached.{after-kept}
 use Rattle.demands.proofs.Turns.{Fair, nobody, answer, list, fair}
-use Rattle.demands.proofs.Sends.{turned, framesOf, slot-state, slot-stays, slot-sends, slot-silent}
-use Rattle.demands.proofs.After.{answer-waiting, answer-answers}
-use Rattle.demands.proofs.Carried.{carried-append, carries, carries-none, packet-no-answer, packet-own, packet-other, answer-of-none}
+use Rattle.demands.proofs.Sends.{turned, framesOf, slot-shows, slot-stays, slot-sends, slot-silent}
+use Rattle.demands.proofs.Carried.{carried-append, carries, carries-none, packet-no-answer, packet-own, packet-other, answer-answers, answer-of-none}
 use Rattle.demands.proofs.ByteKeeps.{byte-waiting, byte-answer}
-use Rattle.demands.proofs.Events.{event-waiting, event-waits, event-answer}
+use Rattle.demands.proofs.Events.{event-waiting, event-answer}
 
 -- ---- whatever waits, goes and comes: if each call keeps the sum, a run does
 module _ (waiting : List ℕ → List (List ℕ)) (goes comes : List ℕ → Call → List (List ℕ)) where
@@ -47,29 +45,31 @@ module _ (waiting : List ℕ → List (List ℕ)) (goes comes : List ℕ → Cal
       ∙ append-assoc (waiting s) (comes s c) (each comes ours (afterCall ours s c) cs)
 
 -- ---- a slot, of which w is left and whose frames carry what passes a test
-slot-balanced : (test : List ℕ → Bool) (w : List ℕ → List (List ℕ)) (s out : List ℕ) → consistent s ≡ true
-    → ((t : Turn) → Fair s t → carried test (framesOf (ctrOf s) (packetFor t (viewOf s))) ++ w (turned t s) ≡ w s)
-    → carried test (sends ours s (SendingSlot out)) ++ w (slotOf s out .state) ≡ w s ++ []
+slot-balanced : (test : List ℕ → Bool) (w : Slave → List (List ℕ)) (s out : List ℕ) → consistent s ≡ true
+    → ((t : Turn) → Fair (viewOf s) t → carried test (framesOf (viewOf s .ctr) (packetFor t (viewOf s))) ++ w (turned t (viewOf s)) ≡ w (viewOf s))
+    → carried test (sends ours s (SendingSlot out)) ++ w (viewOf (slotOf s out .state)) ≡ w (viewOf s) ++ []
 slot-balanced test w s out c f = elim (decLe room (length out)) [ yes r ↦ with-room r | no r ↦ without (lt-of-not-le r) ] where
-  with-room : room ≤ length out → carried test (sends ours s (SendingSlot out)) ++ w (slotOf s out .state) ≡ w s ++ []
-  with-room r = rw (slot-sends s out c r, slot-state s out c r) (f (turnOf s) (fair s (consistent-size s c)) ∙ sym (append-nil (w s)))
+  with-room : room ≤ length out → carried test (sends ours s (SendingSlot out)) ++ w (viewOf (slotOf s out .state)) ≡ w (viewOf s) ++ []
+  with-room r = rw (slot-sends s out c r, slot-shows s out c r) (f (turnIn (viewOf s)) (fair (viewOf s)) ∙ sym (append-nil (w (viewOf s))))
 
-  without : length out < room → carried test (sends ours s (SendingSlot out)) ++ w (slotOf s out .state) ≡ w s ++ []
-  without r = rw (slot-silent s out c r, slot-stays s out c r) (sym (append-nil (w s)))
+  without : length out < room → carried test (sends ours s (SendingSlot out)) ++ w (viewOf (slotOf s out .state)) ≡ w (viewOf s) ++ []
+  without r = rw (slot-silent s out c r, slot-stays s out c r) (sym (append-nil (w (viewOf s))))
 
 -- ---- answers
-answered-turn : (s : List ℕ) (t : Turn) → length s ≡ size → Fair s t → carried isAnswer (framesOf (ctrOf s) (packetFor t (viewOf s))) ++ waitingAnswer (turned t s) ≡ waitingAnswer s
-unfolding viewOf
+abbrev answerIn : Slave → List (List ℕ)
+answerIn v = cond (hasAnswer v) (v .answer ∷ []) []
+
+answered-turn : (s : List ℕ) (t : Turn) → length s ≡ size → Fair (viewOf s) t
+    → carried isAnswer (framesOf (viewOf s .ctr) (packetFor t (viewOf s))) ++ answerIn (turned t (viewOf s)) ≡ answerIn (viewOf s)
 answered-turn s _ h nobody = refl
-answered-turn s _ h (answer w) = rw (carries isAnswer (ctrOf s) (answerOf s) (answer-answers s h w), answerSent-waits s h, w)
-answered-turn s _ h (list j k n) =
-    let y = packetSent-rest s k in
-    rw (carries-none isAnswer (ctrOf s) (packetOf s k) (packet-no-answer s k (n .odt)), waits-reads (same-part (lit≤ tt) (lit≤ tt) y), answer-reads (same-part (lit≤ tt) (lit≤ tt) y))
+answered-turn s _ h (answer w) = rw (carries isAnswer (viewOf s .ctr) (viewOf s .answer) (answer-answers s h w), w)
+answered-turn s _ h (list j k n) = rw (carries-none isAnswer (viewOf s .ctr) (packetFrom (viewOf s .session) k) (packet-no-answer (viewOf s .session) k (n .odt)))
 
 answers-step : (s : List ℕ) (c : Call) → consistent s ≡ true → answersIn (sends ours s c) ++ waitingAnswer (afterCall ours s c) ≡ waitingAnswer s ++ accepts ours s c
 answers-step s (Byte cal meas b) h = byte-answer s cal meas b h
-answers-step s (Event cal meas event clock) h = rw (event-waits s cal meas event clock, event-answer s cal meas event clock) (sym (append-nil (waitingAnswer s)))
-answers-step s (SendingSlot out) h = slot-balanced isAnswer waitingAnswer s out h (λ t f. answered-turn s t (consistent-size s h) f)
+answers-step s (Event cal meas event clock) h =
+    ap (λ (bs : List ℕ). cond (ltb 0 (length bs)) (bs ∷ []) []) (event-answer s cal meas event clock) ∙ sym (append-nil (waitingAnswer s))
+answers-step s (SendingSlot out) h = slot-balanced isAnswer answerIn s out h (λ t f. answered-turn s t (consistent-size s h) f)
 answers-step s Elsewhere h = sym (append-nil (waitingAnswer s))
 
 -- the answers that a run's frames carry, call by call
@@ -79,25 +79,29 @@ answers-each s (c ∷ cs) =
     carried-append isAnswer (sends ours s c) (frames ours (afterCall ours s c) cs) ∙ ap (λ (x : List (List ℕ)). answersIn (sends ours s c) ++ x) (answers-each (afterCall ours s c) cs)
 
 -- ---- the packets of list l
-packet-turn : (s : List ℕ) (l : ℕ) (t : Turn) → length s ≡ size → l < lists → Fair s t → carried (isOf l) (framesOf (ctrOf s) (packetFor t (viewOf s))) ++ waitingOf (turned t s) l ≡ waitingOf s l
-unfolding viewOf
-packet-turn s l _ h q nobody = refl
-packet-turn s l _ h q (answer w) = rw (carries-none (isOf l) (ctrOf s) (answerOf s) (answer-of-none l (answerOf s) (answer-answers s h w))) (answer-waiting s l q)
-packet-turn s l _ h q (list j k n) = elim (ℕ-discrete l j) [ yes e ↦ own e | no e ↦ another e ] where
-  own : l ≡ j → carried (isOf l) (framesOf (ctrOf s) (packetFor (Packet k) (viewOf s))) ++ waitingOf (packetSent s k) l ≡ waitingOf s l
-  own e = rw (e, carries (isOf j) (ctrOf s) (packetOf s k) (packet-own s j k (n .odt) (n .list)), n .left, n .waiting)
+packet-turn : (s : List ℕ) (l : ℕ) (t : Turn) → length s ≡ size → Fair (viewOf s) t
+    → carried (isOf l) (framesOf (viewOf s .ctr) (packetFor t (viewOf s))) ++ waitingIn (turned t (viewOf s) .session) l ≡ waitingIn (viewOf s .session) l
+packet-turn s l _ h nobody = refl
+packet-turn s l _ h (answer w) = rw (carries-none (isOf l) (viewOf s .ctr) (viewOf s .answer) (answer-of-none l (viewOf s .answer) (answer-answers s h w)))
+packet-turn s l _ h (list j k n) = elim (ℕ-discrete l j) [ yes e ↦ own e | no e ↦ another e ] where
+  v : Slave
+  v = viewOf s
 
-  another : (l ≡ j → ⊥) → carried (isOf l) (framesOf (ctrOf s) (packetFor (Packet k) (viewOf s))) ++ waitingOf (packetSent s k) l ≡ waitingOf s l
-  another e = rw (carries-none (isOf l) (ctrOf s) (packetOf s k) (packet-other s l j k (n .odt) (n .list) e)) (n .others l q e)
+  own : l ≡ j → carried (isOf l) (framesOf (v .ctr) (packetFor (Packet k) v)) ++ waitingIn (packetGone k v .session) l ≡ waitingIn (v .session) l
+  own e = rw (e, carries (isOf j) (v .ctr) (packetFrom (v .session) k) (packet-own (v .session) j k (n .odt) (n .list)), n .left, n .waiting)
+
+  another : (l ≡ j → ⊥) → carried (isOf l) (framesOf (v .ctr) (packetFor (Packet k) v)) ++ waitingIn (packetGone k v .session) l ≡ waitingIn (v .session) l
+  another e = rw (carries-none (isOf l) (v .ctr) (packetFrom (v .session) k) (packet-other (v .session) l j k (n .odt) (n .list) e)) (n .others l e)
 
 stopped-or-kept : (t : Bool) (w : List (List ℕ)) → cond t w [] ++ cond t [] w ≡ w ++ []
 stopped-or-kept true w = refl
 stopped-or-kept false w = sym (append-nil w)
 
 packets-step : (l : ℕ) → l < lists → (s : List ℕ) (c : Call) → consistent s ≡ true → goesOf ours l s c ++ waitingOf (afterCall ours s c) l ≡ waitingOf s l ++ gains l s c
-packets-step l q s (Byte cal meas b) h = rw (byte-waiting s cal meas b h l q) (stopped-or-kept (stopsAt l s cal meas b) (waitingOf s l))
+unfolding viewOf
+packets-step l q s (Byte cal meas b) h = rw (byte-waiting s cal meas b h l) (stopped-or-kept (stopsAt l s cal meas b) (waitingOf s l))
 packets-step l q s (Event cal meas event clock) h = event-waiting s cal meas event clock l h q
-packets-step l q s (SendingSlot out) h = slot-balanced (isOf l) (λ (t : List ℕ). waitingOf t l) s out h (λ t f. packet-turn s l t (consistent-size s h) q f)
+packets-step l q s (SendingSlot out) h = slot-balanced (isOf l) (λ (v : Slave). waitingIn (v .session) l) s out h (λ t f. packet-turn s l t (consistent-size s h) f)
 packets-step l q s Elsewhere h = sym (append-nil (waitingOf s l))
 
 pub nothing-lost : NothingLost ours

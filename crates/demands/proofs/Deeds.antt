@@ -1,116 +1,145 @@
 -- What a deed does to the packets that wait: those of a list that it stops, or whose session it ends or renews, are gone; all others wait as they
 -- did. Assumes nothing.
-use Prim.Native.Nat.{ℕ, _<_}
-use mathlib.Core.Path.{_≡_, refl, sym, subst, _∙_}
-use mathlib.Core.Bool.{true, false}
+use Prim.Native.Nat.{ℕ}
+use mathlib.Core.Path.{_≡_, refl, sym, ap, _∙_}
+use mathlib.Core.Logic.{_≢_}
+use mathlib.Core.Bool.{Bool, true, false, cond}
 use mathlib.Core.List.{List, []}
-use native.Mathlib.Omega.{arith}
 use borrow.Author.Tests.{eqb-true, eqb-false}
-use lib.Dec.{lit≤}
-use lib.ListN.{length, set}
+use lib.Dec.{eqb}
+use Rattle.line.proofs.Laws.{cond-ind}
 use Rattle.line.proofs.Stuffed.{false-true}
-use Rattle.state.specs.Layout.{size, lists, listOf}
-use Rattle.state.specs.Generator.{nextOf}
-use Rattle.state.specs.State.{generatorOf, setGenerator, lockAt, setMta, setPointer, closed, fresh}
-use Rattle.lists.specs.Lists.{switched, listCleared, modeSet, entryCleared, entrySet}
-use Rattle.judge.specs.Doable.{Doable}
-use Rattle.model.specs.Step.{nextEntry}
-use Rattle.session.specs.Perform.{effect}
-use Rattle.words.specs.declared.Seed.the-variants.{None, For}
-use Rattle.words.specs.declared.Mta.{Mta}
-use Rattle.words.specs.declared.Pointer.{Pointer}
+use Rattle.state.specs.Layout.{listOf}
+use Rattle.model.specs.Model.{noEntry, DaqList, noList, Session, fits, runs, runsIn, waiting, waitingIn}
+use Rattle.model.specs.Step.{at, stopIt, clear, setMode, setEntry, odtIn, switch, select, startIfSelected, stopIfSelected, stepIn}
 use Rattle.model.specs.declared.Deed.{Deed}
 use Rattle.model.specs.declared.Deed.the-variants.{Refuse, RefuseSize, WrongKey, Connect, Disconnect, Status, Synch, NoSeed, GiveSeed, Unlock, SetMta, Upload, ShortUpload, Checksum, Download, ClearList, SetPointer, ClearEntry, WriteEntry, SetMode, Stop, Start, KeepRunning, Select, StopAll, StartSelected, StopSelected, ProcessorInfo, ResolutionInfo}
-use Rattle.fields.proofs.Fields.{bare-runs, closed-bare, fresh-bare}
-use Rattle.fields.proofs.Frames.{only-generator, only-lock, only-seed, only-mta, only-pointer}
+use Rattle.model.proofs.Fits.{runs-same}
+use Rattle.views.proofs.Parts.{put-by}
+use Rattle.views.proofs.Waits.{waits-alike, rests, none-waits}
 use Rattle.demands.specs.Heard.{stops}
-use Rattle.demands.specs.Waiting.{waitingOf}
-use Rattle.demands.proofs.Own.{own-then, own-only, waiting-reads}
-use Rattle.demands.proofs.ListChanges.{rests-waiting, own-switched, own-listCleared, own-modeSet, own-entryCleared, own-entrySet, own-selected, switched-waiting, listCleared-waiting, modeSet-waiting, entryCleared-waiting, entrySet-waiting, resting-kept}
-use Rattle.demands.proofs.Synch.{stopEach-waiting, startSelected-waiting, stopSelected-keeps, stopSelected-drops}
 use Rattle.demands.proofs.Judged.{Found}
 
--- ---- the MTA and the entry pointer are no list's
-mta-waiting : (s : List ℕ) (m : Mta) (l : ℕ) → l < lists → waitingOf (setMta s m) l ≡ waitingOf s l
-mta-waiting s m l l4 = waiting-reads l (own-only (omega arith) (only-mta s m))
+off : (o b f : Bool) → b ≡ false → cond o (cond b f false) false ≡ false
+off true b f e = rw e
+off false b f e = refl
 
-pointer-waiting : (s : List ℕ) (p : Pointer) (l : ℕ) → l < lists → waitingOf (setPointer s p) l ≡ waitingOf s l
-pointer-waiting s p l l4 = waiting-reads l (own-only (omega arith) (only-pointer s p))
+-- ---- of one list: nothing waits if it was not started, or was just switched; its selection is no matter
+module _ (o : Bool) (l : ℕ) (x : DaqList) where
+  unstarted : x .started ≡ false → waiting o l x ≡ []
+  unfolding runs
+  unstarted e = rests o l x (off o (x .started) (fits l x) e)
+
+  switched : (on : Bool) → waiting o l (switch on x) ≡ []
+  switched on = none-waits o l (switch on x) (λ i h. refl)
+
+  selected : (on : Bool) → waiting o l (select on x) ≡ waiting o l x
+  selected on = waits-alike l (select on x) x o o (runs-same l (select on x) x (λ i h. refl) o refl refl) (λ i h. refl)
+
+-- what is deselected after a change waits as after the change alone
+deselected : (o : Bool) (l : ℕ) (x : DaqList) (w : List (List ℕ)) → waiting o l x ≡ w → waiting o l (select false x) ≡ w
+deselected o l x w e = selected o l x false ∙ e
+
+module _ (o : Bool) (l : ℕ) (x : DaqList) where
+  -- of one that is started unless it runs, what waited waits
+  started : waiting o l (startIfSelected o l x) ≡ waiting o l x
+  started =
+      let P : DaqList → Type 0 = λ (y : DaqList). waiting o l y ≡ waiting o l x in
+      deselected o l (cond (x .selected) (cond (runs o l x) x (switch true x)) x) (waiting o l x)
+      (cond-ind P (x .selected) (λ _. cond-ind P (runs o l x) (λ _. refl) (λ r. switched o l x true ∙ sym (rests o l x r))) (λ _. refl))
+
+  stopped : x .selected ≡ false → waiting o l (stopIfSelected x) ≡ waiting o l x
+  stopped e =
+      deselected o l (cond (x .selected) (switch false x) x) (waiting o l x)
+      (cond-ind (λ (y : DaqList). waiting o l y ≡ waiting o l x) (x .selected) (λ t. absurd (false-true (sym e ∙ t))) (λ _. refl))
+
+  dropped : x .selected ≡ true → waiting o l (stopIfSelected x) ≡ []
+  dropped e =
+      deselected o l (cond (x .selected) (switch false x) x) []
+      (cond-ind (λ (y : DaqList). waiting o l y ≡ []) (x .selected) (λ _. switched o l x false) (λ f. absurd (false-true (sym f ∙ e))))
+
+-- ---- of list j changed, and of every other
+module _ (c : Session) (j l : ℕ) (f : DaqList → DaqList) where
+  changed : (w : List (List ℕ)) → (l ≡ j → waiting (c .opened) j (f (c .list j)) ≡ w) → (l ≢ j → waitingIn c l ≡ w) → waitingIn (at j f c) l ≡ w
+  changed w here there =
+      put-by (λ (x : DaqList). waiting (c .opened) l x ≡ w) j (f (c .list j)) (c .list) l (λ e. ap (λ (i : ℕ). waiting (c .opened) i (f (c .list j))) e ∙ here e) there
+
+  -- so that what waits of it stays
+  kept : waiting (c .opened) j (f (c .list j)) ≡ waitingIn c j → waitingIn (at j f c) l ≡ waitingIn c l
+  kept e = changed (waitingIn c l) (λ same. e ∙ ap (waitingIn c) (sym same)) (λ _. refl)
+
+  -- as when it does not run and is not started then
+  resting : runsIn c j ≡ false → f (c .list j) .started ≡ false → waitingIn (at j f c) l ≡ waitingIn c l
+  resting r e = kept (unstarted (c .opened) j (f (c .list j)) e ∙ sym (rests (c .opened) j (c .list j) r))
+
+  other : eqb l j ≡ false → waitingIn (at j f c) l ≡ waitingIn c l
+  other e = changed (waitingIn c l) (λ same. absurd (eqb-false l j e same)) (λ _. refl)
+
+  own : eqb l j ≡ true → waiting (c .opened) j (f (c .list j)) ≡ [] → waitingIn (at j f c) l ≡ []
+  own e gone = changed [] (λ _. gone) (λ not. absurd (not (eqb-true l j e)))
 
 -- ---- a deed that does not stop list l
-pub effect-waiting : (d : Deed) (p s : List ℕ) (l n nc nm : ℕ) → length s ≡ size → l < lists → Doable d n nc nm → Found d p s → stops l d s ≡ false → waitingOf (effect d s) l ≡ waitingOf s l
-unfolding effect
-effect-waiting (Refuse r) p s l n nc nm h l4 can found e = refl
-effect-waiting RefuseSize p s l n nc nm h l4 can found e = refl
-effect-waiting WrongKey p s l n nc nm h l4 can found e = absurd (false-true (sym e))
-effect-waiting Connect p s l n nc nm h l4 can found e = absurd (false-true (sym e))
-effect-waiting Disconnect p s l n nc nm h l4 can found e = absurd (false-true (sym e))
-effect-waiting Status p s l n nc nm h l4 can found e = refl
-effect-waiting Synch p s l n nc nm h l4 can found e = refl
-effect-waiting NoSeed p s l n nc nm h l4 can found e = refl
-effect-waiting (GiveSeed r) p s l n nc nm h l4 can found e =
-    let x : ℕ = nextOf (generatorOf s) in
-    waiting-reads l (own-then (own-only (omega arith) (only-generator s x)) (own-only (omega arith) (only-seed (setGenerator s x) (For r))))
-effect-waiting (Unlock r) p s l n nc nm h l4 can found e =
-    waiting-reads l (own-then (own-only (omega arith) (only-lock s r 1)) (own-only (omega arith) (only-seed (set s (lockAt r) 1) None)))
-effect-waiting (SetMta x a) p s l n nc nm h l4 can found e = mta-waiting s _ l l4
-effect-waiting (Upload x a m) p s l n nc nm h l4 can found e = mta-waiting s _ l l4
-effect-waiting (ShortUpload x a m) p s l n nc nm h l4 can found e = refl
-effect-waiting (Checksum x a m) p s l n nc nm h l4 can found e = mta-waiting s _ l l4
-effect-waiting (Download a m) p s l n nc nm h l4 can found e = mta-waiting s _ l l4
-effect-waiting (ClearList j) p s l n nc nm h l4 can found e =
-    resting-kept s (listCleared s j) j l found (listCleared-waiting s j h can) (λ d. own-listCleared l4 can d s)
-effect-waiting (SetPointer k i) p s l n nc nm h l4 can found e = pointer-waiting s _ l l4
-effect-waiting (ClearEntry k i) p s l n nc nm h l4 can found e =
-    let t : List ℕ = entryCleared s (listOf k) k i in
-    pointer-waiting t (nextEntry k i) l l4
-    ∙ resting-kept s t (listOf k) l found (entryCleared-waiting s k i h (can .0) (can .1)) (λ d. own-entryCleared l4 (can .0) (can .1) d s)
-effect-waiting (WriteEntry k i m x a) p s l n nc nm h l4 can found e =
-    let t : List ℕ = entrySet s (listOf k) k i m x a in
-    pointer-waiting t (nextEntry k i) l l4
-    ∙ resting-kept s t (listOf k) l found (entrySet-waiting s k i h (can .0) (can .1) m x a) (λ d. own-entrySet l4 (can .0) (can .1) d s m x a)
-effect-waiting (SetMode j event) p s l n nc nm h l4 can found e =
-    resting-kept s (modeSet s j event) j l found (modeSet-waiting s j h (can .0) event) (λ d. own-modeSet l4 (can .0) d s event)
-effect-waiting (Stop j) p s l n nc nm h l4 can found e = waiting-reads l (own-switched l4 can (λ d. eqb-false l j e (sym d)) s 0)
-effect-waiting (Start j) p s l n nc nm h l4 can found e =
-    resting-kept s (switched s j 1) j l found (switched-waiting s j h can 1) (λ d. own-switched l4 can d s 1)
-effect-waiting (KeepRunning j) p s l n nc nm h l4 can found e = refl
-effect-waiting (Select j) p s l n nc nm h l4 can found e = waiting-reads l (own-selected s j 1 l4 can)
-effect-waiting StopAll p s l n nc nm h l4 can found e = absurd (false-true (sym e))
-effect-waiting StartSelected p s l n nc nm h l4 can found e = startSelected-waiting s lists l h (lit≤ tt) l4
-effect-waiting StopSelected p s l n nc nm h l4 can found e = waiting-reads l (stopSelected-keeps s lists l (lit≤ tt) l4 e)
-effect-waiting ProcessorInfo p s l n nc nm h l4 can found e = refl
-effect-waiting ResolutionInfo p s l n nc nm h l4 can found e = refl
+pub step-waiting : (d : Deed) (p : List ℕ) (c : Session) (l : ℕ) → Found d p c → stops l d c ≡ false → waitingIn (stepIn d c) l ≡ waitingIn c l
+unfolding stepIn
+step-waiting (Refuse r) p c l found e = refl
+step-waiting RefuseSize p c l found e = refl
+step-waiting WrongKey p c l found e = absurd (false-true (sym e))
+step-waiting Connect p c l found e = absurd (false-true (sym e))
+step-waiting Disconnect p c l found e = absurd (false-true (sym e))
+step-waiting Status p c l found e = refl
+step-waiting Synch p c l found e = refl
+step-waiting NoSeed p c l found e = refl
+step-waiting (GiveSeed r) p c l found e = refl
+step-waiting (Unlock r) p c l found e = refl
+step-waiting (SetMta x a) p c l found e = refl
+step-waiting (Upload x a m) p c l found e = refl
+step-waiting (ShortUpload x a m) p c l found e = refl
+step-waiting (Checksum x a m) p c l found e = refl
+step-waiting (Download a m) p c l found e = refl
+step-waiting (ClearList j) p c l found e = resting c j l clear found refl
+step-waiting (SetPointer k i) p c l found e = refl
+step-waiting (ClearEntry k i) p c l found e = resting c (listOf k) l (setEntry (odtIn k) i noEntry) found refl
+step-waiting (WriteEntry k i m x a) p c l found e = resting c (listOf k) l (setEntry (odtIn k) i (record { size = m; extension = x; address = a })) (found .still) refl
+step-waiting (SetMode j event) p c l found e = resting c j l (setMode event) found refl
+step-waiting (Stop j) p c l found e = other c j l (switch false) e
+step-waiting (Start j) p c l found e = kept c j l (switch true) (switched (c .opened) j (c .list j) true ∙ sym (rests (c .opened) j (c .list j) found))
+step-waiting (KeepRunning j) p c l found e = refl
+step-waiting (Select j) p c l found e = kept c j l (select true) (selected (c .opened) j (c .list j) true)
+step-waiting StopAll p c l found e = absurd (false-true (sym e))
+step-waiting StartSelected p c l found e = started (c .opened) l (c .list l)
+step-waiting StopSelected p c l found e = stopped (c .opened) l (c .list l) e
+step-waiting ProcessorInfo p c l found e = refl
+step-waiting ResolutionInfo p c l found e = refl
 
 -- ---- a deed that does
-pub effect-stops : (d : Deed) (s : List ℕ) (l : ℕ) → length s ≡ size → l < lists → stops l d s ≡ true → waitingOf (effect d s) l ≡ []
-unfolding effect
-effect-stops (Refuse r) s l h l4 e = absurd (false-true e)
-effect-stops RefuseSize s l h l4 e = absurd (false-true e)
-effect-stops WrongKey s l h l4 e = rests-waiting (closed s) l (bare-runs (closed s) l (closed-bare s h) l4)
-effect-stops Connect s l h l4 e = rests-waiting (fresh s) l (bare-runs (fresh s) l (fresh-bare s h) l4)
-effect-stops Disconnect s l h l4 e = rests-waiting (closed s) l (bare-runs (closed s) l (closed-bare s h) l4)
-effect-stops Status s l h l4 e = absurd (false-true e)
-effect-stops Synch s l h l4 e = absurd (false-true e)
-effect-stops NoSeed s l h l4 e = absurd (false-true e)
-effect-stops (GiveSeed r) s l h l4 e = absurd (false-true e)
-effect-stops (Unlock r) s l h l4 e = absurd (false-true e)
-effect-stops (SetMta x a) s l h l4 e = absurd (false-true e)
-effect-stops (Upload x a m) s l h l4 e = absurd (false-true e)
-effect-stops (ShortUpload x a m) s l h l4 e = absurd (false-true e)
-effect-stops (Checksum x a m) s l h l4 e = absurd (false-true e)
-effect-stops (Download a m) s l h l4 e = absurd (false-true e)
-effect-stops (ClearList j) s l h l4 e = absurd (false-true e)
-effect-stops (SetPointer k i) s l h l4 e = absurd (false-true e)
-effect-stops (ClearEntry k i) s l h l4 e = absurd (false-true e)
-effect-stops (WriteEntry k i m x a) s l h l4 e = absurd (false-true e)
-effect-stops (SetMode j event) s l h l4 e = absurd (false-true e)
-effect-stops (Stop j) s l h l4 e = subst (λ (i : ℕ). waitingOf (switched s i 0) l ≡ []) (eqb-true l j e) (switched-waiting s l h l4 0)
-effect-stops (Start j) s l h l4 e = absurd (false-true e)
-effect-stops (KeepRunning j) s l h l4 e = absurd (false-true e)
-effect-stops (Select j) s l h l4 e = absurd (false-true e)
-effect-stops StopAll s l h l4 e = stopEach-waiting s lists l h (lit≤ tt) l4
-effect-stops StartSelected s l h l4 e = absurd (false-true e)
-effect-stops StopSelected s l h l4 e = stopSelected-drops s lists l h (lit≤ tt) l4 e
-effect-stops ProcessorInfo s l h l4 e = absurd (false-true e)
-effect-stops ResolutionInfo s l h l4 e = absurd (false-true e)
+pub step-stops : (d : Deed) (c : Session) (l : ℕ) → stops l d c ≡ true → waitingIn (stepIn d c) l ≡ []
+unfolding stepIn
+step-stops (Refuse r) c l e = absurd (false-true e)
+step-stops RefuseSize c l e = absurd (false-true e)
+step-stops WrongKey c l e = unstarted false l noList refl
+step-stops Connect c l e = unstarted true l noList refl
+step-stops Disconnect c l e = unstarted false l noList refl
+step-stops Status c l e = absurd (false-true e)
+step-stops Synch c l e = absurd (false-true e)
+step-stops NoSeed c l e = absurd (false-true e)
+step-stops (GiveSeed r) c l e = absurd (false-true e)
+step-stops (Unlock r) c l e = absurd (false-true e)
+step-stops (SetMta x a) c l e = absurd (false-true e)
+step-stops (Upload x a m) c l e = absurd (false-true e)
+step-stops (ShortUpload x a m) c l e = absurd (false-true e)
+step-stops (Checksum x a m) c l e = absurd (false-true e)
+step-stops (Download a m) c l e = absurd (false-true e)
+step-stops (ClearList j) c l e = absurd (false-true e)
+step-stops (SetPointer k i) c l e = absurd (false-true e)
+step-stops (ClearEntry k i) c l e = absurd (false-true e)
+step-stops (WriteEntry k i m x a) c l e = absurd (false-true e)
+step-stops (SetMode j event) c l e = absurd (false-true e)
+step-stops (Stop j) c l e = own c j l (switch false) e (switched (c .opened) j (c .list j) false)
+step-stops (Start j) c l e = absurd (false-true e)
+step-stops (KeepRunning j) c l e = absurd (false-true e)
+step-stops (Select j) c l e = absurd (false-true e)
+step-stops StopAll c l e = unstarted (c .opened) l (stopIt (c .list l)) refl
+step-stops StartSelected c l e = absurd (false-true e)
+step-stops StopSelected c l e = dropped (c .opened) l (c .list l) e
+step-stops ProcessorInfo c l e = absurd (false-true e)
+step-stops ResolutionInfo c l e = absurd (false-true e)

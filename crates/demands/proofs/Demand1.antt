@@ -18,53 +18,42 @@ use Rattle.line.proofs.Laws.{cond-ind}
 use Rattle.line.proofs.Stuffed.{false-true}
 use Rattle.state.specs.Layout.{placeAt, answerAt, size, sessionAt, sessionSize, packetMost}
 use Rattle.state.specs.Bytes.{cleared}
-use Rattle.state.specs.State.{consistent, ctrOf, seedOf, generatorOf, closed, answerOf}
+use Rattle.state.specs.State.{consistent, ctrOf, closed, answerOf}
+use Rattle.model.specs.Model.{byte}
+use Rattle.model.specs.View.{sessionOf, viewOf}
 use Rattle.session.specs.Perform.{effect, reply, after}
-use Rattle.model.specs.Answers.{written, writes}
+use Rattle.model.specs.Answers.{replyIn, written, writes}
 use Rattle.session.specs.Receive.{Step, obeyed, receiveOf}
 use Rattle.lists.specs.Event.{eventOf}
 use Rattle.lists.specs.Slot.{packetOf, turnOf, slottedAs, sentBy, slotOf}
 use Rattle.session.specs.PowerUp.{powerUpOf}
 use Rattle.words.specs.Number.{receivedNumber, eventedNumber, slottedNumber, poweredUpNumber}
 use Rattle.judge.specs.Doable.{Doable}
-use Rattle.words.specs.declared.Seed.{Seed}
-use Rattle.words.specs.declared.Seed.the-variants.{None, For}
 use Rattle.model.specs.declared.Deed.{Deed}
 use Rattle.model.specs.declared.Deed.the-variants.{WrongKey, Disconnect}
 use Rattle.model.specs.declared.Turn.{Turn}
 use Rattle.model.specs.declared.Turn.the-variants.{Nobody, Answer, Packet}
-use Rattle.fields.proofs.Effects.{answering, after-answer}
+use Rattle.fields.proofs.Effects.{answering}
 use Rattle.fields.proofs.Frames.{Only, only-then, only-wider, only-between, only-answered}
 use Rattle.fields.proofs.Readers.{Same}
 use Rattle.fields.proofs.Kept.{receive-kept, event-kept, slot-kept, power-up-consistent}
 use Rattle.demands.specs.Slave.{ours}
-use Rattle.demands.specs.Heard.{readBy, Commands, wrongKeyBy, wrongKey, wrongKeyIn, wrongKeyAt}
+use Rattle.demands.specs.Heard.{readBy, Commands, wrongKey, wrongKeyIn, wrongKeyAt}
 use Rattle.demands.specs.Waiting.{AllBut}
 use Rattle.demands.specs.Demand1.{Demand1}
 use Rattle.demands.proofs.Judged.{Found}
-use Rattle.demands.proofs.ReadBy.{read-only, read-length, read-seed, read-generator}
-use Rattle.demands.proofs.Received.{Does, Reads, rests, acts, received, commanded}
+use Rattle.demands.proofs.ReadBy.{read-only}
+use Rattle.demands.proofs.Received.{Does, Reads, rests, acts, received, commanded, done-answer}
 use Rattle.demands.proofs.Unchanged.{all-but, same-sets}
 use Rattle.demands.proofs.Refusals.{Idles, refusal, wrong-judged, disconnect-judged}
 use Rattle.demands.proofs.Life.{life-kept}
 
 -- ---- a refused command
--- a byte that is read changes no key
-wrong-by : (x : Seed) (p s t : List ℕ) → generatorOf t ≡ generatorOf s → wrongKeyBy x p t ≡ wrongKeyBy x p s
-unfolding wrongKeyBy
-wrong-by None p s t e = refl
-wrong-by (For r) p s t e = rw e
-
-wrong-same : (s p : List ℕ) (b : ℕ) → consistent s ≡ true → wrongKey p (readBy s b) ≡ wrongKey p s
-wrong-same s p b c =
-    let t : List ℕ = readBy s b in
-    wrong-by (seedOf t) p s t (read-generator s b c) ∙ ap (λ (x : Seed). wrongKeyBy x p s) (read-seed s b c)
-
-not-wrong : (s cal meas : List ℕ) (b : ℕ) (d : Deed) (p : List ℕ) → consistent s ≡ true → wrongKeyAt s b ≡ false → Does s cal meas b d p → d ≢ WrongKey
-not-wrong s cal meas b d p c n w e =
-    let f : wrongKey p (readBy s b) ≡ true = subst (λ (x : Deed). Found x p (readBy s b)) e (w .found) in
-    let k : wrongKey p s ≡ false = sym (ap (λ (o : Option (List ℕ)). wrongKeyIn o s) (w .ended)) ∙ n in
-    false-true (sym k ∙ sym (wrong-same s p b c) ∙ f)
+not-wrong : (s cal meas : List ℕ) (b : ℕ) (d : Deed) (p : List ℕ) → wrongKeyAt s b ≡ false → Does s cal meas b d p → d ≢ WrongKey
+not-wrong s cal meas b d p n w e =
+    let f : wrongKey p (sessionOf s) ≡ true = subst (λ (x : Deed). Found x p (sessionOf s)) e (w .found) in
+    let k : wrongKey p (sessionOf s) ≡ false = sym (ap (λ (o : Option (List ℕ)). wrongKeyIn o (sessionOf s)) (w .ended)) ∙ n in
+    false-true (sym k ∙ f)
 
 -- the answer alone, behind the reader
 answer-only : (d : Deed) (s t cal meas : List ℕ) (n : ℕ) → Only placeAt answerAt s t → effect d t ≡ t → Doable d n (length cal) (length meas) → Only placeAt sessionAt s (after d t cal meas)
@@ -73,12 +62,12 @@ answer-only d s t cal meas n w e can =
     only-then (only-wider (lit≤ tt) (lit≤ tt) w) (only-wider (lit≤ tt) (lit≤ tt) a)
 
 refused-by : {s cal meas : List ℕ} {b : ℕ} {o : Step} {x : Option Deed} → consistent s ≡ true → receivedNumber (o .received) ≡ 1
-    → getD (answerOf (o .state)) 0 0 ≡ 0xFE → wrongKeyAt s b ≡ false → Reads s cal meas b o x → AllBut placeAt sessionAt s (o .state) × (o .cal ≡ cal)
+    → byte (viewOf (o .state) .answer) 0 ≡ 0xFE → wrongKeyAt s b ≡ false → Reads s cal meas b o x → AllBut placeAt sessionAt s (o .state) × (o .cal ≡ cal)
 refused-by c one fe n (rests r other few) = absurd (other one)
 refused-by {s} {cal} {meas} {b} c one fe n (acts d p w) =
     let t : List ℕ = readBy s b in
-    let said : answerOf (after d t cal meas) ≡ reply d t cal meas = after-answer d t cal meas (length p) (read-length s b c) (w .can) in
-    let i : Idles d p t cal = refusal d p t cal meas (not-wrong s cal meas b d p c n w) (sym (ap (λ (l : List ℕ). getD l 0 0) said) ∙ fe) in
+    let said : viewOf (after d t cal meas) .answer ≡ replyIn d (sessionOf s) cal meas = done-answer s cal meas b d (length p) c (w .can) in
+    let i : Idles d p t cal = refusal d p (sessionOf s) t cal meas (not-wrong s cal meas b d p n w) (sym (ap (λ (l : List ℕ). byte l 0) said) ∙ fe) in
     (all-but (answer-only d s t cal meas (length p) (read-only s b c) (i .state) (w .can)), i .memory)
 
 -- ---- a wrong key
@@ -117,29 +106,29 @@ closes-to d s cal meas b w c =
     let answer : Only answerAt sessionAt (effect d t) (after d t cal meas) = only-answered (effect d t) (reply d t cal meas) few in
     only-then (closed-alike (only-wider (lit≤ tt) (lit≤ tt) (read-only s b c))) (only-wider (lit≤ tt) (lit≤ tt) (subst (λ (u : List ℕ). Only answerAt sessionAt u (after d t cal meas)) (w .state t) answer))
 
-wrong-step : (s cal meas : List ℕ) (b : ℕ) (p : List ℕ) → consistent s ≡ true → Commands s b p → wrongKey p s ≡ true
+wrong-step : (s cal meas : List ℕ) (b : ℕ) (p : List ℕ) → consistent s ≡ true → Commands s b p → wrongKey p (sessionOf s) ≡ true
     → receiveOf s cal meas b ≡ obeyed WrongKey p (readBy s b) cal meas
 wrong-step s cal meas b p u w wrong =
-    commanded s cal meas b p u w ∙ ap (λ (d : Deed). obeyed d p (readBy s b) cal meas) (wrong-judged p (readBy s b) (length cal) (length meas) (wrong-same s p b u ∙ wrong))
+    commanded s cal meas b p u w ∙ ap (λ (d : Deed). obeyed d p (readBy s b) cal meas) (wrong-judged p (sessionOf s) (length cal) (length meas) wrong)
 
 -- but for the answer it is the closed session
 wrong-only : (t cal meas : List ℕ) → Only answerAt sessionAt (closed t) (after WrongKey t cal meas)
 unfolding effect
 wrong-only t cal meas = only-answered (closed t) (reply WrongKey t cal meas) (answering WrongKey t cal meas 0 tt .few)
 
-wrong-key-ends : (s cal meas : List ℕ) (b : ℕ) (p : List ℕ) → consistent s ≡ true → Commands s b p → wrongKey p s ≡ true
+wrong-key-ends : (s cal meas : List ℕ) (b : ℕ) (p : List ℕ) → consistent s ≡ true → Commands s b p → wrongKey p (sessionOf s) ≡ true
     → AllBut answerAt sessionAt (closed (readBy s b)) (receiveOf s cal meas b .state) × (receiveOf s cal meas b .cal ≡ cal)
 wrong-key-ends s cal meas b p u w wrong =
     let e : receiveOf s cal meas b ≡ obeyed WrongKey p (readBy s b) cal meas = wrong-step s cal meas b p u w wrong in
     (rw e (all-but (wrong-only (readBy s b) cal meas)), ap (λ (o : Step). o .cal) e ∙ wrong-closes .memory p cal)
 
 as-disconnect : (s t cal meas cal′ meas′ : List ℕ) (b c : ℕ) (p q : List ℕ) → consistent s ≡ true → consistent t ≡ true → AllBut placeAt sessionAt s t
-    → Commands s b p → wrongKey p s ≡ true → Commands t c q → getD q 0 0 ≡ 0xFE
+    → Commands s b p → wrongKey p (sessionOf s) ≡ true → Commands t c q → byte q 0 ≡ 0xFE
     → AllBut placeAt sessionAt (receiveOf s cal meas b .state) (receiveOf t cal′ meas′ c .state)
 as-disconnect s t cal meas cal′ meas′ b c p q u v alike w wrong x code =
     let left : receiveOf s cal meas b ≡ obeyed WrongKey p (readBy s b) cal meas = wrong-step s cal meas b p u w wrong in
     let right : receiveOf t cal′ meas′ c ≡ obeyed Disconnect q (readBy t c) cal′ meas′ =
-    commanded t cal′ meas′ c q v x ∙ ap (λ (d : Deed). obeyed d q (readBy t c) cal′ meas′) (disconnect-judged q (readBy t c) (length cal′) (length meas′) code) in
+    commanded t cal′ meas′ c q v x ∙ ap (λ (d : Deed). obeyed d q (readBy t c) cal′ meas′) (disconnect-judged q (sessionOf t) (length cal′) (length meas′) code) in
     let same : Only placeAt sessionAt s t = only-between placeAt sessionAt (alike .long) (alike .front) (alike .back) in
     rw (left, right)
     (all-but (only-then (only-back (closes-to WrongKey s cal meas b wrong-closes u)) (only-then (closed-alike same) (closes-to Disconnect t cal′ meas′ c disconnect-closes v))))

@@ -1,26 +1,30 @@
 -- The third demand is met. Assumes nothing.
-use Prim.Native.Nat.{ℕ}
+use Prim.Native.Nat.{ℕ, _<_}
 use mathlib.Core.Path.{_≡_, ap, _∙_, subst}
 use mathlib.Core.Bool.{true}
 use mathlib.Core.Option.{some}
 use mathlib.Core.List.{List}
+use borrow.Author.Tests.{lt-ltb}
+use lib.Dec.{ltb}
 use lib.ListN.{length}
-use Rattle.session.proofs.Heeding.{heeded-is}
 use Rattle.state.specs.Layout.{placeAt, answerAt}
-use Rattle.state.specs.State.{consistent, waits, answerOf}
-use Rattle.session.specs.Receive.{Step, only, heeded, receiveOf}
+use Rattle.state.specs.State.{consistent}
+use Rattle.session.specs.Receive.{Step, only, receiveOf}
+use Rattle.model.specs.Heed.{heedingIn}
+use Rattle.model.specs.View.{sessionOf, viewOf}
 use Rattle.words.specs.declared.Received.the-variants.{Answered, Unread}
 use Rattle.look.proofs.Looked.{judged-doable}
-use Rattle.fields.proofs.Effects.{after-waits}
+use Rattle.fields.proofs.Effects.{answering}
 use Rattle.fields.proofs.Kept.{receive-kept}
 use Rattle.demands.specs.Slave.{ours}
 use Rattle.demands.specs.Runs.{Call, run}
+use Rattle.demands.specs.Waiting.{hasAnswer}
 use Rattle.demands.specs.Heard.{packetEnded, readBy, Commands, deedOf, answerTo}
 use Rattle.demands.specs.Demand1.{ChangesOnly}
 use Rattle.demands.specs.Demand3.{LeavesWithin, AnsweredSoon, AnsweredBy, Demand3}
-use Rattle.demands.proofs.ReadBy.{read-only, read-length, read-waits}
+use Rattle.demands.proofs.ReadBy.{read-only}
 use Rattle.demands.proofs.Unchanged.{all-but}
-use Rattle.demands.proofs.Received.{heeds-right, commanded, command-answer}
+use Rattle.demands.proofs.Received.{heeded-at, heeds-right, commanded, command-answer}
 use Rattle.demands.proofs.Reading.{frame-ends}
 use Rattle.demands.proofs.Reached.{run-kept}
 use Rattle.demands.proofs.Soon.{answer-leaves}
@@ -31,14 +35,14 @@ module _ (s cal meas : List ℕ) (b : ℕ) (p : List ℕ) (c : consistent s ≡ 
   command-number : receiveOf s cal meas b .received ≡ Answered
   command-number = ap (λ (o : Step). o .received) (commanded s cal meas b p c w)
 
-  command-waits : waits (receiveOf s cal meas b .state) ≡ true
-  command-waits =
-      ap (λ (o : Step). waits (o .state)) (commanded s cal meas b p c w)
-      ∙ after-waits (deedOf p (readBy s b) cal meas) (readBy s b) cal meas (length p) (read-length s b c) (judged-doable p (readBy s b) (length cal) (length meas))
+  command-waits : hasAnswer (viewOf (receiveOf s cal meas b .state)) ≡ true
+  command-waits = ap (λ (bs : List ℕ). ltb 0 (length bs)) (command-answer s cal meas b p c w) ∙ lt-ltb 0 (length (answerTo p (sessionOf s) cal meas)) long where
+    long : 0 < length (answerTo p (sessionOf s) cal meas)
+    long = answering (deedOf p (sessionOf s) cal meas) s cal meas (length p) (judged-doable p s (length cal) (length meas)) .some
 
   command-soon : (later : List Call) → AnsweredSoon 2 ours s cal meas b p later
   command-soon later =
-      let a : answerOf (receiveOf s cal meas b .state) ≡ answerTo p (readBy s b) cal meas = command-answer s cal meas b p c w in
+      let a : viewOf (receiveOf s cal meas b .state) .answer ≡ answerTo p (sessionOf s) cal meas = command-answer s cal meas b p c w in
       record {
         number = command-number;
         waiting = command-waits;
@@ -52,11 +56,11 @@ answered-soon s before cal meas b later ctr p c one few e o f =
     command-soon (run ours s before) cal meas b p (run-kept s before c) (record { ends = frame-ends s before b ctr p c one few e; opened = o; free = f }) later
 
 -- ---- good messages while an answer waits
-unread : (s cal meas : List ℕ) (b : ℕ) (p : List ℕ) → consistent s ≡ true → waits s ≡ true → packetEnded s b ≡ some p
+unread : (s cal meas : List ℕ) (b : ℕ) (p : List ℕ) → consistent s ≡ true → hasAnswer (viewOf s) ≡ true → packetEnded s b ≡ some p
     → (receiveOf s cal meas b .received ≡ Unread) × ChangesOnly placeAt answerAt ours s cal meas b
+unfolding heedingIn
 unread s cal meas b p c w e =
-    let q : heeded p (readBy s b) cal meas ≡ only Unread (readBy s b) cal = heeded-is p (readBy s b) cal meas ∙ simp (read-waits s b c ∙ w) in
-    let o : receiveOf s cal meas b ≡ only Unread (readBy s b) cal = heeds-right s cal meas b p c e ∙ q in
+    let o : receiveOf s cal meas b ≡ only Unread (readBy s b) cal = heeds-right s cal meas b p c e ∙ heeded-at s cal meas b p c ∙ simp w in
     (ap (λ (x : Step). x .received) o, record { state = rw o (all-but (read-only s b c)); memory = ap (λ (x : Step). x .cal) o })
 
 pub demand3 : Demand3 ours

@@ -8,20 +8,19 @@ use native.Mathlib.Nat.{le-refl}
 use native.Mathlib.Omega.{arith}
 use borrow.Author.Tests.{eqb-false, ltb-false, ne-eqb, le-ltb}
 use lib.Dec.{eqb, ltb}
-use lib.ListN.{length, getD}
+use lib.ListN.{length}
 use lib.Seq.{sets, length-sets}
 use Rattle.model.specs.Judge.{seenIn, judgeIn, uploadDeed, downloadTo, downloadDeed, judgeThe, judgeBy, judge, lockedBy}
 use Rattle.model.specs.Answers.{replyIn, written, writes}
-use Rattle.model.specs.View.{sessionOf}
+use Rattle.model.specs.Model.{byte, Session}
+use Rattle.model.specs.View.{sessionOf, viewOf}
 use Rattle.state.specs.Layout.{uploadMost, downloadMost}
 use Rattle.line.proofs.Laws.{cond-ind}
 use Rattle.state.specs.Bytes.{block, u16At}
 use Rattle.state.specs.Memory.{insideOf}
-use Rattle.state.specs.State.{consistent, mtaOf, answerOf}
+use Rattle.state.specs.State.{consistent}
 use Rattle.words.specs.Command.{commandOf, needsOf}
-use Rattle.look.specs.Look.{judgeOf}
 use Rattle.model.specs.Seen.{numbersOf}
-use Rattle.session.specs.Perform.{reply}
 use Rattle.session.specs.Receive.{Step, receiveOf}
 use Rattle.words.specs.declared.Command.the-variants as command
 use Rattle.words.specs.declared.Extension.the-variants.{Calibration}
@@ -34,10 +33,9 @@ use Rattle.state.proofs.Inside.{inside-le}
 use Rattle.state.proofs.Sets.{block-length}
 use Rattle.fields.proofs.Stores.{block-sets}
 use Rattle.demands.specs.Slave.{ours}
-use Rattle.demands.specs.Heard.{readBy, deedOf}
+use Rattle.demands.specs.Heard.{deedOf}
 use Rattle.demands.specs.Waiting.{AllBut}
 use Rattle.demands.specs.Demand2.{Downloads, Uploads}
-use Rattle.demands.proofs.ReadBy.{read-mta}
 use Rattle.demands.proofs.Received.{commanded, command-answer}
 use Rattle.demands.proofs.Unchanged.{all-but}
 
@@ -53,13 +51,13 @@ record Loads (p : List ℕ) (a n nc : ℕ) (d : Deed) : Type 0 where
 fe-ff : (a : List ℕ) → 0xFE ∷ a ≡ 0xFF ∷ [] → ⊥
 fe-ff a e = let z : _≡_ {A = ℕ} 0xFE 0xFF = cc in omega arith
 
-module _ (p s cal meas : List ℕ) (a n : ℕ) where
+module _ (p : List ℕ) (c : Session) (cal meas : List ℕ) (a n : ℕ) where
   -- a deed that is answered FF is that
   abbrev Good : Deed → Type 0
-  Good d = reply d s cal meas ≡ 0xFF ∷ [] → Loads p a n (length cal) d
+  Good d = replyIn d c cal meas ≡ 0xFF ∷ [] → Loads p a n (length cal) d
 
   download-good : Good (downloadDeed (At Calibration a) n (length p) (length cal))
-  unfolding downloadDeed downloadTo replyIn sessionOf
+  unfolding downloadDeed downloadTo replyIn
   download-good =
       cond-ind Good (eqb n 0) (λ _ e. absurd (fe-ff _ e)) (λ z.
       cond-ind Good (ltb downloadMost n) (λ _ e. absurd (fe-ff _ e)) (λ f.
@@ -68,39 +66,39 @@ module _ (p s cal meas : List ℕ) (a n : ℕ) where
       (λ i _. record { done = refl; some = eqb-false n 0 z; few = ltb-false downloadMost n f; there = ltb-false (length p) (n + 2) t; inside = i })
       (λ _ e. absurd (fe-ff _ e)))))
 
-  the-good : mtaOf s ≡ At Calibration a → getD p 1 0 ≡ n → Good (judgeThe command.Download (numbersOf p) (seenIn (u16At p 2) (sessionOf s)) (length cal) (length meas))
-  unfolding judgeThe sessionOf
+  the-good : c .mta ≡ At Calibration a → byte p 1 ≡ n → Good (judgeThe command.Download (numbersOf p) (seenIn (u16At p 2) c) (length cal) (length meas))
+  unfolding judgeThe
   the-good there count =
-      subst (λ (m : Mta). Good (downloadDeed m (getD p 1 0) (length p) (length cal))) (sym there)
+      subst (λ (m : Mta). Good (downloadDeed m (byte p 1) (length p) (length cal))) (sym there)
       (subst (λ (k : ℕ). Good (downloadDeed (At Calibration a) k (length p) (length cal))) (sym count) download-good)
 
-  by-good : mtaOf s ≡ At Calibration a → getD p 1 0 ≡ n → Good (judgeBy command.Download (numbersOf p) (seenIn (u16At p 2) (sessionOf s)) (length cal) (length meas))
-  unfolding judgeBy replyIn sessionOf
+  by-good : c .mta ≡ At Calibration a → byte p 1 ≡ n → Good (judgeBy command.Download (numbersOf p) (seenIn (u16At p 2) c) (length cal) (length meas))
+  unfolding judgeBy replyIn
   by-good there count =
       cond-ind Good (ltb (length p) 2) (λ _ e. absurd (fe-ff _ e)) (λ _.
-      cond-ind Good (lockedBy (needsOf command.Download) (seenIn (u16At p 2) (sessionOf s))) (λ _ e. absurd (fe-ff _ e)) (λ _. the-good there count))
+      cond-ind Good (lockedBy (needsOf command.Download) (seenIn (u16At p 2) c)) (λ _ e. absurd (fe-ff _ e)) (λ _. the-good there count))
 
-  judged-good : getD p 0 0 ≡ 0xF0 → mtaOf s ≡ At Calibration a → getD p 1 0 ≡ n → Good (deedOf p s cal meas)
-  unfolding judgeIn sessionOf judge commandOf
+  judged-good : byte p 0 ≡ 0xF0 → c .mta ≡ At Calibration a → byte p 1 ≡ n → Good (deedOf p c cal meas)
+  unfolding judgeIn judge commandOf
   judged-good code there count =
-      subst (λ (c : ℕ). Good (judgeBy (commandOf c) (numbersOf p) (seenIn (u16At p 2) (sessionOf s)) (length cal) (length meas))) (sym code) (by-good there count)
+      subst (λ (k : ℕ). Good (judgeBy (commandOf k) (numbersOf p) (seenIn (u16At p 2) c) (length cal) (length meas))) (sym code) (by-good there count)
 
 -- ---- UPLOAD
 -- a byte that is not 0 is there
-there-is : (q : List ℕ) (n : ℕ) → getD q 1 0 ≡ n → n ≢ 0 → 2 ≤ length q
+there-is : (q : List ℕ) (n : ℕ) → byte q 1 ≡ n → n ≢ 0 → 2 ≤ length q
 there-is [] n e z = absurd (z (sym e))
 there-is (x ∷ []) n e z = absurd (z (sym e))
 there-is (x ∷ y ∷ q) n e z = omega arith
 
-upload-judged : (q t : List ℕ) (a n nc nm : ℕ) → getD q 0 0 ≡ 0xF5 → mtaOf t ≡ At Calibration a → getD q 1 0 ≡ n → n ≢ 0 → n ≤ uploadMost → insideOf a n nc ≡ true
-    → judgeOf q t nc nm ≡ Upload Calibration a n
-unfolding judgeIn sessionOf judge judgeBy judgeThe commandOf uploadDeed
-upload-judged q t a n nc nm code there count z few inside =
+upload-judged : (q : List ℕ) (c : Session) (a n nc nm : ℕ) → byte q 0 ≡ 0xF5 → c .mta ≡ At Calibration a → byte q 1 ≡ n → n ≢ 0 → n ≤ uploadMost → insideOf a n nc ≡ true
+    → judgeIn q c nc nm ≡ Upload Calibration a n
+unfolding judgeIn judge judgeBy judgeThe commandOf uploadDeed
+upload-judged q c a n nc nm code there count z few inside =
     simp (code, le-ltb (length q) 2 (there-is q n count z), there, count, ne-eqb n 0 z, le-ltb uploadMost n few, inside)
 
-upload-says : (a n : ℕ) (t cal meas : List ℕ) → reply (Upload Calibration a n) t cal meas ≡ 0xFF ∷ block cal a n
-unfolding replyIn sessionOf
-upload-says a n t cal meas = refl
+upload-says : (a n : ℕ) (c : Session) (cal meas : List ℕ) → replyIn (Upload Calibration a n) c cal meas ≡ 0xFF ∷ block cal a n
+unfolding replyIn
+upload-says a n c cal meas = refl
 
 download-writes : (a n : ℕ) (p cal : List ℕ) → written (Download a n) p cal ≡ sets cal a (block p 2 n)
 unfolding writes
@@ -108,12 +106,11 @@ download-writes a n p cal = refl
 
 -- the bytes that stand there are given
 pub uploaded : (t mem meas : List ℕ) (c : ℕ) (q : List ℕ) (a n : ℕ) → consistent t ≡ true → Uploads t c q a n → n ≢ 0 → n ≤ downloadMost → insideOf a n (length mem) ≡ true
-    → answerOf (receiveOf t mem meas c .state) ≡ 0xFF ∷ block mem a n
+    → viewOf (receiveOf t mem meas c .state) .answer ≡ 0xFF ∷ block mem a n
 uploaded t mem meas c q a n v up z few inside =
-    let t′ : List ℕ = readBy t c in
-    let judged : deedOf q t′ mem meas ≡ Upload Calibration a n =
-    upload-judged q t′ a n (length mem) (length meas) (up .code) (read-mta t c v ∙ up .place) (up .count) z (omega arith) inside in
-    command-answer t mem meas c q v (up .command) ∙ ap (λ (d : Deed). reply d t′ mem meas) judged ∙ upload-says a n t′ mem meas
+    let judged : deedOf q (sessionOf t) mem meas ≡ Upload Calibration a n =
+    upload-judged q (sessionOf t) a n (length mem) (length meas) (up .code) (up .place) (up .count) z (omega arith) inside in
+    command-answer t mem meas c q v (up .command) ∙ ap (λ (d : Deed). replyIn d (sessionOf t) mem meas) judged ∙ upload-says a n (sessionOf t) mem meas
 
 -- ---- one after the other
 -- what DOWNLOAD that is answered FF leaves
@@ -127,12 +124,11 @@ pub record Wrote (p : List ℕ) (a n : ℕ) (cal new : List ℕ) : Type 0 where
 stands : (cal : List ℕ) (a n : ℕ) (xs : List ℕ) → length xs ≡ n → a + n ≤ length cal → block (sets cal a xs) a n ≡ xs
 stands cal a n xs e h = rw (← e) (block-sets cal a xs (omega arith))
 
-pub downloaded : (s cal meas : List ℕ) (b : ℕ) (p : List ℕ) (a n : ℕ) → consistent s ≡ true → Downloads s b p a n → answerOf (ours .receive s cal meas b .state) ≡ 0xFF ∷ []
+pub downloaded : (s cal meas : List ℕ) (b : ℕ) (p : List ℕ) (a n : ℕ) → consistent s ≡ true → Downloads s b p a n → viewOf (ours .receive s cal meas b .state) .answer ≡ 0xFF ∷ []
     → Wrote p a n cal (ours .receive s cal meas b .cal)
 downloaded s cal meas b p a n u down said =
-    let s′ : List ℕ = readBy s b in
-    let w : Loads p a n (length cal) (deedOf p s′ cal meas) =
-    judged-good p s′ cal meas a n (down .code) (read-mta s b u ∙ down .place) (down .count) (sym (command-answer s cal meas b p u (down .command)) ∙ said) in
+    let w : Loads p a n (length cal) (deedOf p (sessionOf s) cal meas) =
+    judged-good p (sessionOf s) cal meas a n (down .code) (down .place) (down .count) (sym (command-answer s cal meas b p u (down .command)) ∙ said) in
     let xs : List ℕ = block p 2 n in
     let n-there : n + 2 ≤ length p = w .there in
     let long : length xs ≡ n = block-length p 2 n (omega arith) in
@@ -148,8 +144,8 @@ downloaded s cal meas b p a n u down said =
     })
 
 pub gives-back : (s t cal meas meas′ : List ℕ) (b c : ℕ) (p q : List ℕ) (a n : ℕ) → consistent s ≡ true → consistent t ≡ true
-    → Downloads s b p a n → answerOf (ours .receive s cal meas b .state) ≡ 0xFF ∷ [] → Uploads t c q a n
-    → (answerOf (ours .receive t (ours .receive s cal meas b .cal) meas′ c .state) ≡ 0xFF ∷ block p 2 n) × AllBut a (a + n) cal (ours .receive s cal meas b .cal)
+    → Downloads s b p a n → viewOf (ours .receive s cal meas b .state) .answer ≡ 0xFF ∷ [] → Uploads t c q a n
+    → (viewOf (ours .receive t (ours .receive s cal meas b .cal) meas′ c .state) .answer ≡ 0xFF ∷ block p 2 n) × AllBut a (a + n) cal (ours .receive s cal meas b .cal)
 gives-back s t cal meas meas′ b c p q a n u v down said up =
     let new : List ℕ = receiveOf s cal meas b .cal in
     let w : Wrote p a n cal new = downloaded s cal meas b p a n u down said in

@@ -59,7 +59,7 @@ none-stored x (suc n) e i h =
     (λ other. none-stored x n (none .0) i (omega arith))
 
 pub sampled-empty : (s : List ℕ) (l event : ℕ) → samplingOf s l event ≡ Sampled → waitingOf s l ≡ []
-sampled-empty s l event e = none-waits (sessionOf s) l (none-stored (sessionOf s .list l) (odtCount l) (sampled-free s l event e .1))
+sampled-empty s l event e = none-waits (sessionOf s .opened) l (sessionOf s .list l) (none-stored (sessionOf s .list l) (odtCount l) (sampled-free s l event e .1))
 
 sampled-only : (s : List ℕ) (l event clock : ℕ) (cal meas : List ℕ) → length s ≡ size → l < lists
     → Only (sampleAt (firstOdt l)) (sampleAt (firstOdt l + odtCount l)) s (sampledState (samplingOf s l event) s l clock cal meas)

@@ -11,17 +11,19 @@ use lib.ListN.{length, length-append}
 use Rattle.line.proofs.Stuffed.{false-true}
 use Rattle.state.specs.Layout.{lists, placeAt, sampleAt, firstOdt, size, sessionAt, odtCount}
 use Rattle.state.specs.Bytes.{block}
-use Rattle.state.specs.State.{consistent, openOf, waits, answerOf}
+use Rattle.state.specs.State.{consistent}
 use Rattle.lists.specs.Event.{samplingOf, captured, tally, happened, eventOf}
 use Rattle.model.specs.Model.{DaqList}
 use Rattle.model.specs.Calls.{contentsIn, packetWith, sampleFrom}
-use Rattle.model.specs.View.{sessionOf}
+use Rattle.model.specs.Step.{withLists}
+use Rattle.model.specs.View.{listsOf, sessionOf, viewOf}
 use Rattle.model.specs.declared.Sampling.{Sampling}
 use Rattle.model.specs.declared.Sampling.the-variants.{Idle, Sampled, Missed}
 use Rattle.words.specs.declared.Evented.the-variants.{Done}
 use Rattle.state.proofs.Consistent.{consistent-size}
-use Rattle.fields.proofs.Frames.{only-take, only-drop}
-use Rattle.fields.proofs.Readers.{Same, apart, same-block, open-reads, waits-reads, answer-reads}
+use Rattle.fields.proofs.Frames.{only-take, only-drop, only-wider}
+use Rattle.fields.proofs.Readers.{Same, apart, same-block, answer-reads}
+use Rattle.views.proofs.Parts.{in-lists}
 use Rattle.fields.proofs.Captures.{only-event}
 use Rattle.demands.specs.Slave.{ours}
 use Rattle.demands.specs.Runs.{Event}
@@ -29,6 +31,7 @@ use Rattle.demands.specs.Waiting.{AllBut, waitingOf, sampleOf, isSampled
 use Rattle.demands.specs.Demand2.{storeSize, howMany}
 use Rattle.demands.specs.Kept.{gains}
 use Rattle.demands.proofs.Samples.{SameStore, waiting-reads}
+use Rattle.demands.proofs.ByteKeeps.{SameRound, round-reads}
 use Rattle.demands.proofs.EventSteps.{sampled-empty, count-sampled, count-missed, unsampled-store, sampled-waits, sampled-store}
 
 -- ---- an event takes the lists, or is none
@@ -82,14 +85,16 @@ event-front s cal meas event clock = apart tt (only-event s cal meas event clock
 pub event-back : (s cal meas : List ℕ) (event clock : ℕ) → Same placeAt sessionAt s (eventOf s cal meas event clock .state)
 event-back s cal meas event clock = apart tt (only-event s cal meas event clock)
 
-pub event-open : (s cal meas : List ℕ) (event clock : ℕ) → openOf (eventOf s cal meas event clock .state) ≡ openOf s
-event-open s cal meas event clock = open-reads (apart tt (only-event s cal meas event clock))
-
-pub event-waits : (s cal meas : List ℕ) (event clock : ℕ) → waits (eventOf s cal meas event clock .state) ≡ waits s
-event-waits s cal meas event clock = waits-reads (apart tt (only-event s cal meas event clock))
-
-pub event-answer : (s cal meas : List ℕ) (event clock : ℕ) → answerOf (eventOf s cal meas event clock .state) ≡ answerOf s
+pub event-answer : (s cal meas : List ℕ) (event clock : ℕ) → viewOf (eventOf s cal meas event clock .state) .answer ≡ viewOf s .answer
+unfolding viewOf
 event-answer s cal meas event clock = answer-reads (apart tt (only-event s cal meas event clock))
+
+pub event-round : (s cal meas : List ℕ) (event clock : ℕ) → SameRound (viewOf s) (viewOf (eventOf s cal meas event clock .state))
+event-round s cal meas event clock = round-reads (apart tt (only-event s cal meas event clock))
+
+-- of the session the lists alone
+pub event-lists : (s cal meas : List ℕ) (event clock : ℕ) → sessionOf (eventOf s cal meas event clock .state) ≡ withLists (sessionOf s) (listsOf (eventOf s cal meas event clock .state))
+event-lists s cal meas event clock = in-lists (only-wider (lit≤ tt) (lit≤ tt) (only-event s cal meas event clock))
 
 -- ---- a list keeps what waits, and gains what the event gives it
 not-sampled : (c : Sampling) → isSampled c ≡ false → c ≢ Sampled

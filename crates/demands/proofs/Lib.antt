@@ -18,9 +18,6 @@ pub mod Sends
 pub mod Samples
 pub mod EventSteps
 pub mod Events
-pub mod Own
-pub mod ListChanges
-pub mod Synch
 pub mod Deeds
 pub mod ByteKeeps
 pub mod Numbering
@@ -40,7 +37,6 @@ pub mod NoChoice
 -- The third demand, and that nothing is lost.
 pub mod Ranking
 pub mod Carried
-pub mod After
 pub mod Soon
 pub mod Whole
 pub mod Reading

@@ -12,7 +12,8 @@ use lib.ListN.{length, length-take}
 use lib.Seq.{sets}
 use Rattle.state.specs.Layout.{size}
 use Rattle.state.specs.Bytes.{block}
-use Rattle.state.specs.State.{consistent, ctrOf, answerOf}
+use Rattle.state.specs.State.{consistent}
+use Rattle.model.specs.View.{viewOf}
 use Rattle.model.specs.Answers.{written, writes}
 use Rattle.session.specs.PowerUp.{powered}
 use Rattle.session.specs.Receive.{Step}
@@ -30,7 +31,9 @@ use Rattle.fields.proofs.Writes.{by-write}
 use Rattle.demands.proofs.Received.{Reads, rests, acts, received}
 use Rattle.demands.proofs.Locks.{locked-keeps}
 use Rattle.demands.proofs.Downloads.{uploaded, Wrote, downloaded}
-use Rattle.demands.proofs.Numbering.{At, Numbered, slot-numbers, byte-ctr, event-ctr, power-ctr, power-up-is}
+use Rattle.demands.proofs.Numbering.{At, Numbered, slot-numbers, power-ctr, power-up-is}
+use Rattle.demands.proofs.ByteKeeps.{byte-round}
+use Rattle.demands.proofs.Events.{event-round}
 
 -- ---- the state stays consistent
 pub passed-kept : (h : Device) (m : Moment) → consistent (h .state) ≡ true → consistent (passed ours h m .state) ≡ true
@@ -101,9 +104,9 @@ module _ (a n : ℕ) where
 
 -- ---- so what DOWNLOAD wrote is given back
 pub gives-back-later : (h : Device) (meas : List ℕ) (b : ℕ) (p : List ℕ) (a n : ℕ) (between : List Moment) (meas′ : List ℕ) (c : ℕ) (q : List ℕ) → consistent (h .state) ≡ true
-    → Downloads (h .state) b p a n → answerOf (passed ours h (Hears meas b) .state) ≡ 0xFF ∷ [] → OfBytes (Spares a n) ours (passed ours h (Hears meas b)) between
+    → Downloads (h .state) b p a n → viewOf (passed ours h (Hears meas b) .state) .answer ≡ 0xFF ∷ [] → OfBytes (Spares a n) ours (passed ours h (Hears meas b)) between
     → Uploads (lived ours (passed ours h (Hears meas b)) between .state) c q a n
-    → answerOf (passed ours (lived ours (passed ours h (Hears meas b)) between) (Hears meas′ c) .state) ≡ 0xFF ∷ block p 2 n
+    → viewOf (passed ours (lived ours (passed ours h (Hears meas b)) between) (Hears meas′ c) .state) .answer ≡ 0xFF ∷ block p 2 n
 gives-back-later h meas b p a n between meas′ c q k down said clear up =
     let h₁ : Device = passed ours h (Hears meas b) in
     let h₂ : Device = lived ours h₁ between in
@@ -117,10 +120,10 @@ gives-back-later h meas b p a n between meas′ c q k down said clear up =
 life-numbers : (ms : List Moment) (i : ℕ) (h : Device) → consistent (h .state) ≡ true → At 0 i (h .state) → sentIn ours h ms ≡ dueIn ours i h ms
 life-numbers [] i h c a = refl
 life-numbers (PowerOn start ∷ ms) i h c a =
-    life-numbers ms 0 (passed ours h (PowerOn start)) (passed-kept h (PowerOn start) c) (ap ctrOf (power-up-is (h .state) start (consistent-size (h .state) c)) ∙ power-ctr start)
-life-numbers (Hears meas b ∷ ms) i h c a = life-numbers ms i (passed ours h (Hears meas b)) (passed-kept h (Hears meas b) c) (byte-ctr (h .state) (h .cal) meas b c ∙ a)
+    life-numbers ms 0 (passed ours h (PowerOn start)) (passed-kept h (PowerOn start) c) (ap (λ (s : List ℕ). viewOf s .ctr) (power-up-is (h .state) start (consistent-size (h .state) c)) ∙ power-ctr start)
+life-numbers (Hears meas b ∷ ms) i h c a = life-numbers ms i (passed ours h (Hears meas b)) (passed-kept h (Hears meas b) c) (byte-round (h .state) (h .cal) meas b c .ctr ∙ a)
 life-numbers (Samples meas event clock ∷ ms) i h c a =
-    life-numbers ms i (passed ours h (Samples meas event clock)) (passed-kept h (Samples meas event clock) c) (event-ctr (h .state) (h .cal) meas event clock ∙ a)
+    life-numbers ms i (passed ours h (Samples meas event clock)) (passed-kept h (Samples meas event clock) c) (event-round (h .state) (h .cal) meas event clock .ctr ∙ a)
 life-numbers (Serves out ∷ ms) i h c a =
     let here : List (List ℕ) = dueAt (h .state) (SendingSlot out) in
     let u : Device = passed ours h (Serves out) in
@@ -130,4 +133,4 @@ life-numbers (Serves out ∷ ms) i h c a =
 pub life-numbered : (h : Device) (start : ℕ) (ms : List Moment) → length (h .state) ≡ size → sentIn ours h (PowerOn start ∷ ms) ≡ dueIn ours 0 h (PowerOn start ∷ ms)
 life-numbered h start ms e =
     let is : passed ours h (PowerOn start) .state ≡ powered start = power-up-is (h .state) start e in
-    life-numbers ms 0 (passed ours h (PowerOn start)) (rw is (power-consistent start)) (ap ctrOf is ∙ power-ctr start)
+    life-numbers ms 0 (passed ours h (PowerOn start)) (rw is (power-consistent start)) (ap (λ (s : List ℕ). viewOf s .ctr) is ∙ power-ctr start)

@@ -12,7 +12,7 @@ use lib.ListN.{length}
 use Rattle.line.specs.Message.{room}
 use Rattle.line.proofs.Laws.{cond-ind}
 use Rattle.line.proofs.Stuffed.{false-true}
-use Rattle.state.specs.State.{consistent, openOf, unlockedOf, answerOf}
+use Rattle.state.specs.State.{consistent}
 use Rattle.lists.specs.Slot.{Slot, turnOf, sentBy, slotOf}
 use Rattle.model.specs.declared.Turn.{Turn}
 use Rattle.model.specs.declared.Turn.the-variants.{Nobody, Answer, Packet}
@@ -30,7 +30,7 @@ use Rattle.fields.proofs.Captures.{only-event}
 use Rattle.fields.proofs.Served.{answerSent-session, packetSent-rest}
 use Rattle.model.specs.Model.{byte, Bytes, Session}
 use Rattle.model.specs.Step.{stepIn}
-use Rattle.model.specs.View.{sessionOf, shown}
+use Rattle.model.specs.View.{sessionOf, viewOf, shown}
 use Rattle.views.specs.Commands.{Fresh}
 use Rattle.views.specs.Locked.{SettingsKept, endsSession, Shields}
 use Rattle.views.proofs.SessionLaws.{blank-fresh}
@@ -40,15 +40,12 @@ use Rattle.demands.specs.Slave.{ours}
 use Rattle.demands.specs.Heard.{packetEnded, readBy}
 use Rattle.demands.specs.ListsLocked.{endsAt, ListsLocked}
 use Rattle.demands.proofs.Received.{Does, Reads, rests, acts, received}
-use Rattle.demands.proofs.Obeyed.{session-read, ended-bytes, shown-done, command-done}
+use Rattle.demands.proofs.ReadBy.{read-session}
+use Rattle.demands.proofs.Obeyed.{ended-bytes, shown-done, command-done}
 
 -- nothing changed
 settings-same : {c d : Session} → d ≡ c → SettingsKept c d
 settings-same e = rw e (record { pointer = refl; modes = λ l. refl; selected = λ l. refl; started = λ l. refl; entries = λ l o i. refl })
-
-lists-lock : (s : List ℕ) → sessionOf s .unlocked Lists ≡ unlockedOf s Lists
-unfolding sessionOf
-lists-lock s = refl
 
 -- a good CONNECT renews it
 connect-ends : (p : List ℕ) (c : Session) (cal meas : List ℕ) → goodConnect p ≡ true → Shields p c (doneBy Connect p c cal meas)
@@ -62,15 +59,15 @@ connect-ends p c cal meas g = record { kept = λ n. absurd (false-true (sym n �
   ends = rw (eqb-true (byte p 0) 0xFF (code (eqb (byte p 0) 0xFF) _ g))
 
 -- ---- a received byte
-module _ (s cal meas : List ℕ) (b : ℕ) (c : consistent s ≡ true) (w : Bytes s) (low : b < 256) (locked : openOf s ≡ true → unlockedOf s Lists ≡ false) where
+module _ (s cal meas : List ℕ) (b : ℕ) (c : consistent s ≡ true) (w : Bytes s) (low : b < 256) (locked : sessionOf s .opened ≡ true → sessionOf s .unlocked Lists ≡ false) where
   -- a deed that is done
   deed-shields : (d : Deed) (p : List ℕ) → Does s cal meas b d p → Shields p (sessionOf s) (shown (after d (readBy s b) cal meas) (written d p cal))
-  deed-shields d p does = go (openOf s) refl where
-    go : (x : Bool) → openOf s ≡ x → Shields p (sessionOf s) (shown (after d (readBy s b) cal meas) (written d p cal))
+  deed-shields d p does = go (sessionOf s .opened) refl where
+    go : (x : Bool) → sessionOf s .opened ≡ x → Shields p (sessionOf s) (shown (after d (readBy s b) cal meas) (written d p cal))
     go true e =
         subst (λ (x : Deed). Shields p (sessionOf s) (shown (after x (readBy s b) cal meas) (written x p cal))) (sym (does .opened e))
         (subst (Shields p (sessionOf s)) (sym (command-done s b c w low p cal meas (ended-bytes s b c w low p (does .ended))))
-        (locked-shields p (sessionOf s) cal meas (lists-lock s ∙ locked e)))
+        (locked-shields p (sessionOf s) cal meas (locked e)))
     go false e =
         subst (λ (x : Deed). Shields p (sessionOf s) (shown (after x (readBy s b) cal meas) (written x p cal))) (sym (does .closed e .0))
         (subst (Shields p (sessionOf s)) (sym (shown-done s b c w low Connect p cal meas (length p) tt tt)) (connect-ends p (sessionOf s) cal meas (does .closed e .1)))
@@ -82,11 +79,12 @@ module _ (s cal meas : List ℕ) (b : ℕ) (c : consistent s ≡ true) (w : Byte
   resting : (r : Received) → receivedNumber r ≢ 1 → endsAt (only r (readBy s b) cal) s b ≡ false
   resting r n = rw (ne-eqb (receivedNumber r) 1 n)
 
-  acting : (d : Deed) (p : List ℕ) → packetEnded s b ≡ some p → endsAt (obeyed d p (readBy s b) cal meas) s b ≡ endsSession p (answerOf (after d (readBy s b) cal meas))
+  acting : (d : Deed) (p : List ℕ) → packetEnded s b ≡ some p → endsAt (obeyed d p (readBy s b) cal meas) s b ≡ endsSession p (viewOf (after d (readBy s b) cal meas) .answer)
   acting d p e = rw e
 
   guarded-by : {o : Step} {x : Option Deed} → Reads s cal meas b o x → Guarded o
-  guarded-by (rests r n few) = record { kept = λ _. settings-same (session-read s b c w low); fresh = λ t. absurd (false-true (sym (resting r n) ∙ t)) }
+  unfolding viewOf
+  guarded-by (rests r n few) = record { kept = λ _. settings-same (read-session s b c); fresh = λ t. absurd (false-true (sym (resting r n) ∙ t)) }
   guarded-by (acts d p does) =
       let h : Shields p (sessionOf s) (shown (after d (readBy s b) cal meas) (written d p cal)) = deed-shields d p does in
       record { kept = λ n. h .kept (sym (acting d p (does .ended)) ∙ n); fresh = λ t. h .fresh (sym (acting d p (does .ended)) ∙ t) }

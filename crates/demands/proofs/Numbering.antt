@@ -17,25 +17,25 @@ use Rattle.state.specs.State.{consistent, setGenerator, ctrOf}
 use Rattle.state.specs.Generator.{startOf}
 use Rattle.session.specs.Receive.{receiveOf}
 use Rattle.lists.specs.Event.{eventOf}
-use Rattle.lists.specs.Slot.{turnOf, slotOf}
+use Rattle.lists.specs.Slot.{slotOf}
 use Rattle.session.specs.PowerUp.{powered, powerUpOf}
 use Rattle.model.specs.declared.Turn.{Turn}
-use Rattle.state.proofs.Consistent.{consistent-size}
+use Rattle.model.specs.declared.Turn.the-variants.{Nobody, Answer, Packet}
 use Rattle.fields.proofs.Stores.{put32-out}
 use Rattle.fields.proofs.Kept.{power-consistent, receive-kept, event-kept, slot-kept}
-use Rattle.model.specs.Calls.{packetFor}
+use Rattle.model.specs.Model.{Slave}
+use Rattle.model.specs.Calls.{turnIn, packetFor}
 use Rattle.model.specs.View.{viewOf}
 use Rattle.demands.specs.Slave.{ours}
 use Rattle.demands.specs.Runs.{Call, Byte, Event, SendingSlot, Elsewhere, sends, frames}
 use Rattle.demands.specs.Demand2.{dueAt, due, numbered}
-use Rattle.demands.proofs.Turns.{Fair, nobody, answer, list, fair}
-use Rattle.demands.proofs.Sends.{turned, framesOf, slot-state, slot-stays, slot-sends, slot-silent, answer-ctr, packet-ctr}
+use Rattle.demands.proofs.Sends.{turned, framesOf, slot-shows, slot-stays, slot-sends, slot-silent}
 use Rattle.demands.proofs.ByteKeeps.{byte-round}
-use Rattle.demands.proofs.Events.{event-front}
+use Rattle.demands.proofs.Events.{event-round}
 
 -- i frames after CTR c
 abbrev pub At : ℕ → ℕ → List ℕ → Type 0
-At c i s = ctrOf s ≡ (c + i) % 256
+At c i s = viewOf s .ctr ≡ (c + i) % 256
 
 -- one more, and none
 at-next : (c i : ℕ) {x y : ℕ} → x ≡ (y + 1) % 256 → y ≡ (c + i) % 256 → x ≡ (c + (i + 1)) % 256
@@ -56,33 +56,26 @@ pub record Numbered (c i : ℕ) (frames′ packets : List (List ℕ)) (u : List 
   pub sent : frames′ ≡ numbered c i packets
   pub ctr : At c (i + length packets) u
 
-turn-numbers : (c i : ℕ) (s : List ℕ) (t : Turn) → length s ≡ size → At c i s → Fair s t → Numbered c i (framesOf (ctrOf s) (packetFor t (viewOf s))) (packetFor t (viewOf s)) (turned t s)
-turn-numbers c i s _ h a nobody = record { sent = refl; ctr = at-same c i s a }
-turn-numbers c i s _ h a (answer w) = record { sent = rw a; ctr = at-next c i (answer-ctr s h) a }
-turn-numbers c i s _ h a (list j m n) = record { sent = rw a; ctr = at-next c i (packet-ctr s m h) a }
+turn-numbers : (c i : ℕ) (s u : List ℕ) (t : Turn) → viewOf u ≡ turned t (viewOf s) → At c i s → Numbered c i (framesOf (viewOf s .ctr) (packetFor t (viewOf s))) (packetFor t (viewOf s)) u
+turn-numbers c i s u Nobody e a = record { sent = refl; ctr = at-same c i u (ap (λ (v : Slave). v .ctr) e ∙ a) }
+turn-numbers c i s u Answer e a = record { sent = rw a; ctr = at-next c i (ap (λ (v : Slave). v .ctr) e) a }
+turn-numbers c i s u (Packet k) e a = record { sent = rw a; ctr = at-next c i (ap (λ (v : Slave). v .ctr) e) a }
 
 pub slot-numbers : (c i : ℕ) (s out : List ℕ) → consistent s ≡ true → At c i s → Numbered c i (sends ours s (SendingSlot out)) (dueAt s (SendingSlot out)) (slotOf s out .state)
 slot-numbers c i s out h a = elim (decLe room (length out)) [ yes r ↦ with-room r | no r ↦ without (lt-of-not-le r) ] where
   with-room : room ≤ length out → Numbered c i (sends ours s (SendingSlot out)) (dueAt s (SendingSlot out)) (slotOf s out .state)
   with-room r =
-      rw (slot-sends s out h r, le-ltb (length out) room r, slot-state s out h r) (turn-numbers c i s (turnOf s) (consistent-size s h) a (fair s (consistent-size s h)))
+      rw (slot-sends s out h r, le-ltb (length out) room r) (turn-numbers c i s (slotOf s out .state) (turnIn (viewOf s)) (slot-shows s out h r) a)
 
   without : length out < room → Numbered c i (sends ours s (SendingSlot out)) (dueAt s (SendingSlot out)) (slotOf s out .state)
   without r = rw (slot-silent s out h r, lt-ltb (length out) room r, slot-stays s out h r) (record { sent = refl; ctr = at-same c i s a })
 
 -- ---- a run
--- a byte and an event leave the CTR
-pub byte-ctr : (s cal meas : List ℕ) (b : ℕ) → consistent s ≡ true → ctrOf (receiveOf s cal meas b .state) ≡ ctrOf s
-byte-ctr s cal meas b h = byte-round s cal meas b h .byte ctrAt (lit≤ tt) (lit< tt)
-
-pub event-ctr : (s cal meas : List ℕ) (event clock : ℕ) → ctrOf (eventOf s cal meas event clock .state) ≡ ctrOf s
-event-ctr s cal meas event clock = event-front s cal meas event clock .byte ctrAt (lit≤ tt) (lit< tt)
-
 numbers-on : (c : ℕ) (cs : List Call) (i : ℕ) (s : List ℕ) → consistent s ≡ true → At c i s → frames ours s cs ≡ numbered c i (due ours s cs)
 numbers-on c [] i s h a = refl
-numbers-on c (Byte cal meas b ∷ cs) i s h a = numbers-on c cs i (receiveOf s cal meas b .state) (receive-kept s cal meas b h) (byte-ctr s cal meas b h ∙ a)
+numbers-on c (Byte cal meas b ∷ cs) i s h a = numbers-on c cs i (receiveOf s cal meas b .state) (receive-kept s cal meas b h) (byte-round s cal meas b h .ctr ∙ a)
 numbers-on c (Event cal meas event clock ∷ cs) i s h a =
-    numbers-on c cs i (eventOf s cal meas event clock .state) (event-kept s cal meas event clock h) (event-ctr s cal meas event clock ∙ a)
+    numbers-on c cs i (eventOf s cal meas event clock .state) (event-kept s cal meas event clock h) (event-round s cal meas event clock .ctr ∙ a)
 numbers-on c (SendingSlot out ∷ cs) i s h a =
     let here : List (List ℕ) = dueAt s (SendingSlot out) in
     let u : List ℕ = slotOf s out .state in
@@ -90,8 +83,8 @@ numbers-on c (SendingSlot out ∷ cs) i s h a =
     ap₂ (λ (x y : List (List ℕ)). x ++ y) (w .sent) (numbers-on c cs (i + length here) u (slot-kept s out h) (w .ctr)) ∙ sym (numbered-append c i here (due ours u cs))
 numbers-on c (Elsewhere ∷ cs) i s h a = numbers-on c cs i s h a
 
-pub frames-numbered : (s : List ℕ) (cs : List Call) → consistent s ≡ true → ctrOf s < 256 → frames ours s cs ≡ numbered (ctrOf s) 0 (due ours s cs)
-frames-numbered s cs h k = numbers-on (ctrOf s) cs 0 s h (sym (low (ctrOf s) k)) where
+pub frames-numbered : (s : List ℕ) (cs : List Call) → consistent s ≡ true → viewOf s .ctr < 256 → frames ours s cs ≡ numbered (viewOf s .ctr) 0 (due ours s cs)
+frames-numbered s cs h k = numbers-on (viewOf s .ctr) cs 0 s h (sym (low (viewOf s .ctr) k)) where
   low : (n : ℕ) → n < 256 → (n + 0) % 256 ≡ n
   low n l = let e : n + 0 ≡ n = omega arith in rw e (mod-eq-of-lt l)
 
@@ -100,8 +93,8 @@ blank-ctr : ctrOf (put32 (replicate size 0) 0 mark) ≡ 0
 unfolding put32
 blank-ctr = refl
 
-pub power-ctr : (start : ℕ) → ctrOf (powered start) ≡ 0
-unfolding powered setGenerator
+pub power-ctr : (start : ℕ) → viewOf (powered start) .ctr ≡ 0
+unfolding viewOf powered setGenerator
 power-ctr start =
     let blank : List ℕ = put32 (replicate size 0) 0 mark in
     getD-set-other (put32 blank generatorAt (startOf start)) servedAt ctrAt lastList 0 (omega arith) ∙ put32-out blank generatorAt ctrAt generatorAt (startOf start) ctrAt (lit≤ tt) (lit≤ tt) tt ∙ blank-ctr

@@ -11,12 +11,11 @@ use Rattle.line.specs.declared.Outcome.{Outcome}
 use Rattle.line.specs.declared.Outcome.the-variants as line
 use Rattle.line.proofs.Laws.{false-true}
 use Rattle.state.specs.Bytes.{block}
-use Rattle.state.specs.State.{consistent, generatorOf, openOf}
+use Rattle.state.specs.State.{consistent, generatorOf}
 use Rattle.model.specs.Answers.{written, doneBy, commandIn}
 use Rattle.session.specs.Perform.{after}
 use Rattle.session.specs.Receive.{Step, fedOf, receiveOf}
 use Rattle.look.proofs.Looked.{judged-doable}
-use Rattle.fields.proofs.Readers.{apart}
 use Rattle.judge.specs.Doable.{Doable}
 use Rattle.model.specs.declared.Deed.{Deed}
 use Rattle.model.specs.Model.{Bytes, Session, byte}
@@ -29,13 +28,12 @@ use Rattle.model.specs.View.{sessionOf, shown}
 use Rattle.views.specs.Commands.{Obeys}
 use Rattle.views.proofs.Bytes.{bytes-block, fed-bytes}
 use Rattle.views.proofs.Fit.{Fit, generator-fits, judged-fits}
-use Rattle.views.proofs.Calls.{session-reads}
 use Rattle.views.proofs.Done.{shown-after}
 use Rattle.views.proofs.Obeys.{AsModel, obeys}
 use Rattle.demands.specs.Slave.{ours}
 use Rattle.demands.specs.Heard.{packetBy, packetEnded, readBy, Commands, deedOf}
 use Rattle.demands.specs.Obeyed.{Obeyed}
-use Rattle.demands.proofs.ReadBy.{read-only, read-length, read-generator}
+use Rattle.demands.proofs.ReadBy.{read-length, read-session}
 use Rattle.demands.proofs.Received.{Does, Reads, rests, acts, some-none, received, commanded}
 
 -- the packet of a good message is of bytes
@@ -62,29 +60,27 @@ connect-judged p c nc nm g = go (eqb (byte p 0) 0xFF) (ltb (length p) 2) (eqb (b
   go false y z a b d e = absurd (false-true e)
 
 module _ (s : List ℕ) (b : ℕ) (c : consistent s ≡ true) (w : Bytes s) (low : b < 256) where
-  -- a byte that is read leaves the session
-  pub session-read : sessionOf (readBy s b) ≡ sessionOf s
-  session-read = session-reads (apart tt (read-only s b c)) (apart tt (read-only s b c))
-
   pub ended-bytes : (p : List ℕ) → packetEnded s b ≡ some p → Bytes p
   ended-bytes p e = packet-bytes (fedOf s b .taken .outcome) (fedOf s b .message) p (fed-bytes s b w low) e
 
   generator-low : generatorOf (readBy s b) < 2 ^ 32
-  generator-low = subst (λ (n : ℕ). n < 2 ^ 32) (sym (read-generator s b c)) (generator-fits s w)
+  unfolding sessionOf
+  generator-low = subst (λ (x : Session). x .generator < 2 ^ 32) (sym (read-session s b c)) (generator-fits s w)
 
   -- a deed that is done at a byte shows what it makes of the session
   pub shown-done : (d : Deed) (p cal meas : List ℕ) (n : ℕ) → Doable d n (length cal) (length meas) → Fit d (generatorOf (readBy s b))
       → shown (after d (readBy s b) cal meas) (written d p cal) ≡ doneBy d p (sessionOf s) cal meas
   shown-done d p cal meas n can fit =
-      shown-after d (readBy s b) cal meas n (read-length s b c) can fit p ∙ ap (λ (x : Session). doneBy d p x cal meas) session-read
+      shown-after d (readBy s b) cal meas n (read-length s b c) can fit p ∙ ap (λ (x : Session). doneBy d p x cal meas) (read-session s b c)
 
   -- the deed that a command leads to
   pub command-done : (p cal meas : List ℕ) → Bytes p
-      → shown (after (deedOf p (readBy s b) cal meas) (readBy s b) cal meas) (written (deedOf p (readBy s b) cal meas) p cal) ≡ commandIn p (sessionOf s) cal meas
+      → shown (after (deedOf p (sessionOf s) cal meas) (readBy s b) cal meas) (written (deedOf p (sessionOf s) cal meas) p cal) ≡ commandIn p (sessionOf s) cal meas
   command-done p cal meas v =
       let t : List ℕ = readBy s b in
-      shown-after (deedOf p t cal meas) t cal meas (length p) (read-length s b c) (judged-doable p t (length cal) (length meas)) (judged-fits p t (length cal) (length meas) v generator-low) p
-      ∙ ap (λ (x : Session). commandIn p x cal meas) session-read
+      let fit : Fit (deedOf p (sessionOf s) cal meas) (generatorOf t) =
+      subst (λ (x : Session). Fit (deedOf p x cal meas) (generatorOf t)) (read-session s b c) (judged-fits p t (length cal) (length meas) v generator-low) in
+      shown-done (deedOf p (sessionOf s) cal meas) p cal meas (length p) (judged-doable p s (length cal) (length meas)) fit
 
   -- a good CONNECT without a session is what it leads to in one
   connect-done : (p cal meas : List ℕ) → goodConnect p ≡ true → shown (after Connect (readBy s b) cal meas) (written Connect p cal) ≡ commandIn p (sessionOf s) cal meas
@@ -93,8 +89,8 @@ module _ (s : List ℕ) (b : ℕ) (c : consistent s ≡ true) (w : Bytes s) (low
 
   -- whatever is done at byte b is what the model does
   does-shown : (d : Deed) (p cal meas : List ℕ) → Does s cal meas b d p → shown (after d (readBy s b) cal meas) (written d p cal) ≡ commandIn p (sessionOf s) cal meas
-  does-shown d p cal meas does = go (openOf s) refl where
-    go : (x : Bool) → openOf s ≡ x → shown (after d (readBy s b) cal meas) (written d p cal) ≡ commandIn p (sessionOf s) cal meas
+  does-shown d p cal meas does = go (sessionOf s .opened) refl where
+    go : (x : Bool) → sessionOf s .opened ≡ x → shown (after d (readBy s b) cal meas) (written d p cal) ≡ commandIn p (sessionOf s) cal meas
     go true e = ap (λ (x : Deed). shown (after x (readBy s b) cal meas) (written x p cal)) (does .opened e) ∙ command-done p cal meas (ended-bytes p (does .ended))
     go false e = ap (λ (x : Deed). shown (after x (readBy s b) cal meas) (written x p cal)) (does .closed e .0) ∙ connect-done p cal meas (does .closed e .1)
 

@@ -1,11 +1,11 @@
 -- A byte that is read changes the reader's place alone, and there is always room for it. Assumes nothing.
 use Prim.{tt}
-use Prim.Native.Nat.{ℕ, _≤_, _<_}
-use mathlib.Core.Path.{_≡_, _∙_}
+use Prim.Native.Nat.{ℕ, _≤_}
+use mathlib.Core.Path.{_≡_, sym, ap, _∙_}
 use mathlib.Core.Bool.{true}
 use mathlib.Core.List.{List}
 use native.Mathlib.Omega.{arith}
-use lib.Dec.{eqb}
+use lib.Dec.{eqb, ltb}
 use lib.ListN.{length}
 use Rattle.line.specs.Message.{longest}
 use Rattle.line.specs.Unstuffing.{Fed, cutOf, placeBy}
@@ -18,16 +18,18 @@ use Rattle.line.proofs.Laws.{cond-ind}
 use Rattle.line.proofs.After.{take-length}
 use Rattle.line.proofs.Unframing.{Takes, begins, passes, escapes, brings, breaks, takes}
 use Rattle.line.proofs.Steps.{Puts, refuses, goes, fills, spoils, puts, take-long}
-use Rattle.state.specs.Layout.{placeAt, answerAt, size, lists, messageAt}
-use Rattle.state.specs.State.{consistent, generatorOf, openOf, unlockedOf, seedOf, mtaOf, placeOf, messageOf, waits, answerOf}
-use Rattle.lists.specs.Lists.{runsOf}
+use Rattle.state.specs.Layout.{placeAt, answerAt, size, messageAt}
+use Rattle.state.specs.State.{consistent, placeOf, messageOf, waits}
 use Rattle.session.specs.Receive.{fedOf}
-use Rattle.words.specs.declared.Resource.{Resource}
+use Rattle.model.specs.View.{sessionOf, viewOf}
+use Rattle.model.proofs.Shown.{answer-long}
 use Rattle.state.proofs.Consistent.{consistent-size}
 use Rattle.fields.proofs.Frames.{Only, only-readOn}
-use Rattle.fields.proofs.Readers.{apart, consistent-reads, generator-reads, open-reads, lock-reads, seed-reads, mta-reads, runs-reads, waits-reads, answer-reads}
+use Rattle.fields.proofs.Readers.{apart, consistent-reads, answer-reads}
 use Rattle.state.proofs.Sets.{block-length}
+use Rattle.views.proofs.Calls.{session-reads}
 use Rattle.demands.specs.Heard.{readBy}
+use Rattle.demands.specs.Waiting.{hasAnswer}
 
 message-length : (s : List ℕ) → length s ≡ size → length (messageOf s) ≡ longest
 unfolding messageOf
@@ -35,6 +37,11 @@ message-length s h = block-length s messageAt longest (omega arith)
 
 fed-length : (s : List ℕ) (b : ℕ) → length s ≡ size → length (fedOf s b .message) ≡ longest
 fed-length s b h = take-length (placeOf s) (messageOf s) b ∙ message-length s h
+
+-- an answer waits where one is shown
+pub waits-shown : (s : List ℕ) → length s ≡ size → waits s ≡ hasAnswer (viewOf s)
+unfolding viewOf
+waits-shown s h = ap (ltb 0) (sym (answer-long s h))
 
 -- ---- the state once a byte is read
 module _ (s : List ℕ) (b : ℕ) (c : consistent s ≡ true) where
@@ -47,28 +54,12 @@ module _ (s : List ℕ) (b : ℕ) (c : consistent s ≡ true) where
   pub read-consistent : consistent (readBy s b) ≡ true
   read-consistent = consistent-reads (apart tt read-only) ∙ c
 
-  pub read-generator : generatorOf (readBy s b) ≡ generatorOf s
-  read-generator = generator-reads (apart tt read-only)
+  -- of the slave that it shows nothing but the reader
+  pub read-session : sessionOf (readBy s b) ≡ sessionOf s
+  read-session = session-reads (apart tt read-only) (apart tt read-only)
 
-  pub read-open : openOf (readBy s b) ≡ openOf s
-  read-open = open-reads (apart tt read-only)
-
-  pub read-lock : (r : Resource) → unlockedOf (readBy s b) r ≡ unlockedOf s r
-  read-lock r = lock-reads r (apart tt read-only)
-
-  pub read-seed : seedOf (readBy s b) ≡ seedOf s
-  read-seed = seed-reads (apart tt read-only)
-
-  pub read-mta : mtaOf (readBy s b) ≡ mtaOf s
-  read-mta = mta-reads (apart tt read-only)
-
-  pub read-runs : (l : ℕ) → l < lists → runsOf (readBy s b) l ≡ runsOf s l
-  read-runs l h = runs-reads l h (apart tt read-only)
-
-  pub read-waits : waits (readBy s b) ≡ waits s
-  read-waits = waits-reads (apart tt read-only)
-
-  pub read-answer : answerOf (readBy s b) ≡ answerOf s
+  pub read-answer : viewOf (readBy s b) .answer ≡ viewOf s .answer
+  unfolding viewOf
   read-answer = answer-reads (apart tt read-only)
 
 -- ---- the state's message buffer has room for every message

@@ -35,15 +35,18 @@ use Rattle.state.specs.State.{consistent, placeOf, messageOf, setMessage}
 use Rattle.session.specs.Receive.{Step, fedOf, readOn, receiveOf}
 use Rattle.session.specs.Perform.{effect, reply, after}
 use Rattle.lists.specs.Event.{eventOf}
-use Rattle.lists.specs.Slot.{turnOf, slotOf}
+use Rattle.lists.specs.Slot.{slotOf}
 use Rattle.model.specs.declared.Turn.{Turn}
+use Rattle.model.specs.declared.Turn.the-variants.{Nobody, Answer, Packet}
+use Rattle.model.specs.Model.{Slave}
+use Rattle.model.specs.Calls.{turnIn}
+use Rattle.model.specs.View.{viewOf}
 use Rattle.model.specs.declared.Deed.{Deed}
 use Rattle.state.proofs.Sets.{block-length}
 use Rattle.state.proofs.Consistent.{consistent-size}
 use Rattle.fields.proofs.Fields.{Counted, Answering, place-same}
 use Rattle.fields.proofs.Frames.{only-place, only-message, only-answered}
 use Rattle.fields.proofs.Readers.{Same, apart, same-part, place-reads, message-reads}
-use Rattle.fields.proofs.Served.{answerSent-reader, packetSent-rest}
 use Rattle.fields.proofs.Effects.{answering, effect-place, effect-message}
 use Rattle.fields.proofs.Kept.{receive-kept, event-kept, slot-kept}
 use Rattle.judge.specs.Doable.{Doable}
@@ -53,8 +56,7 @@ use Rattle.demands.specs.Heard.{packetBy, packetEnded, readBy}
 use Rattle.demands.proofs.Received.{Reads, rests, acts}
 use Rattle.demands.proofs.Received as byte
 use Rattle.demands.proofs.Events.{event-back}
-use Rattle.demands.proofs.Turns.{Fair, nobody, answer, list, fair}
-use Rattle.demands.proofs.Sends.{turned, slot-state, slot-refused}
+use Rattle.demands.proofs.Sends.{turned, slot-shows, slot-refused}
 
 -- ---- one byte
 -- a place that a message can have counts few bytes
@@ -125,15 +127,16 @@ same-holds w = record { place = place-reads (same-part (lit≤ tt) (lit≤ tt) w
 event-holds : (s cal meas : List ℕ) (event clock : ℕ) → ReaderAt (eventOf s cal meas event clock .state) (placeOf s) (messageOf s)
 event-holds s cal meas event clock = same-holds (same-part (lit≤ tt) (lit≤ tt) (event-back s cal meas event clock))
 
-turned-holds : (s : List ℕ) (t : Turn) → Fair s t → ReaderAt (turned t s) (placeOf s) (messageOf s)
-turned-holds s _ nobody = record { place = refl; message = refl }
-turned-holds s _ (answer w) = same-holds (answerSent-reader s)
-turned-holds s _ (list j k n) = same-holds (same-part (lit≤ tt) (lit≤ tt) (packetSent-rest s k))
+turned-holds : (t : Turn) (s u : List ℕ) → viewOf u ≡ turned t (viewOf s) → ReaderAt u (placeOf s) (messageOf s)
+unfolding viewOf
+turned-holds Nobody s u e = record { place = ap (λ (v : Slave). v .place) e; message = ap (λ (v : Slave). v .message) e }
+turned-holds Answer s u e = record { place = ap (λ (v : Slave). v .place) e; message = ap (λ (v : Slave). v .message) e }
+turned-holds (Packet k) s u e = record { place = ap (λ (v : Slave). v .place) e; message = ap (λ (v : Slave). v .message) e }
 
 slot-holds : (s out : List ℕ) → consistent s ≡ true → ReaderAt (slotOf s out .state) (placeOf s) (messageOf s)
 slot-holds s out c =
     elim (decLe room (length out)) [
-      | yes h ↦ rw (slot-state s out c h) (turned-holds s (turnOf s) (fair s (consistent-size s c)))
+      | yes h ↦ turned-holds (turnIn (viewOf s)) s (slotOf s out .state) (slot-shows s out c h)
       | no h ↦ rw (slot-refused s out c (lt-of-not-le h)) (record { place = refl; message = refl })
     ]
 

@@ -1,24 +1,27 @@
 -- How a received byte is read: either the reader's place alone changes, or one deed is done. Assumes nothing.
 use Prim.{tt}
 use Prim.Native.Nat.{ℕ, _≤_}
-use mathlib.Core.Path.{_≡_, refl, sym, ap, _∙_, subst}
+use mathlib.Core.Path.{_≡_, refl, sym, ap, ap₂, _∙_, subst}
 use mathlib.Core.Logic.{_≢_}
 use mathlib.Core.Bool.{Bool, true, false, cond}
 use mathlib.Core.Option.{Option, none, some}
 use mathlib.Core.List.{List}
 use native.Mathlib.Omega.{arith}
+use lib.Dec.{ltb}
 use lib.ListN.{length}
-use Rattle.session.proofs.Heeding.{heeded-is}
 use Rattle.line.specs.declared.Outcome.{Outcome}
 use Rattle.line.specs.declared.Outcome.the-variants as line
 use Rattle.line.proofs.Laws.{cond-ind}
 use Rattle.line.proofs.Stuffed.{false-true}
 use Rattle.state.specs.Bytes.{block}
-use Rattle.state.specs.State.{consistent, openOf, waits, answerOf}
-use Rattle.session.specs.Perform.{reply}
+use Rattle.state.specs.State.{consistent}
+use Rattle.session.specs.Perform.{after}
 use Rattle.judge.specs.Doable.{Doable}
-use Rattle.session.specs.Receive.{Step, only, obeyed, heeded, meant, fedOf, receivedBy, receiveOf}
-use Rattle.model.specs.Heed.{goodConnect}
+use Rattle.session.specs.Receive.{Step, only, obeyed, heededBy, heeded, meant, fedOf, receivedBy, receiveOf}
+use Rattle.model.specs.Model.{Session}
+use Rattle.model.specs.Heed.{Dropped, Obeyed, Ignored, goodConnect, heedingIn}
+use Rattle.model.specs.Answers.{replyIn}
+use Rattle.model.specs.View.{sessionOf, viewOf}
 use Rattle.words.specs.Number.{receivedNumber}
 use Rattle.model.specs.declared.Deed.{Deed}
 use Rattle.model.specs.declared.Deed.the-variants.{Connect}
@@ -26,44 +29,54 @@ use Rattle.words.specs.declared.Received.{Received}
 use Rattle.words.specs.declared.Received.the-variants.{Nothing, Silent, BadLength, BadEscape, BadChecksum, Unread, CutOff}
 use Rattle.look.proofs.Looked.{judged-doable}
 use Rattle.fields.proofs.Effects.{after-answer}
-use Rattle.demands.specs.Heard.{packetBy, packetEnded, readBy, Commands, deedOf, heeds, doneAt}
+use Rattle.demands.specs.Waiting.{hasAnswer}
+use Rattle.demands.specs.Heard.{packetBy, packetEnded, readBy, Commands, deedOf, answerTo, deedBy, heeds, doneAt}
 use Rattle.demands.proofs.Judged.{Found, judged}
-use Rattle.demands.proofs.ReadBy.{Roomy, read-roomy, read-length, read-open, read-waits}
+use Rattle.demands.proofs.ReadBy.{waits-shown, Roomy, read-roomy, read-length, read-session, read-answer}
 
 -- byte b ends packet p, and deed d is done: the one that p is judged to lead to, or a good CONNECT's while no session is open
 pub record Does (s cal meas : List ℕ) (b : ℕ) (d : Deed) (p : List ℕ) : Type 0 where
   pub ended : packetEnded s b ≡ some p
-  pub free : waits s ≡ false
+  pub free : hasAnswer (viewOf s) ≡ false
   pub can : Doable d (length p) (length cal) (length meas)
-  pub found : Found d p (readBy s b)
-  pub opened : openOf s ≡ true → d ≡ deedOf p (readBy s b) cal meas
-  pub closed : openOf s ≡ false → (d ≡ Connect) × (goodConnect p ≡ true)
+  pub found : Found d p (sessionOf s)
+  pub opened : sessionOf s .opened ≡ true → d ≡ deedOf p (sessionOf s) cal meas
+  pub closed : sessionOf s .opened ≡ false → (d ≡ Connect) × (goodConnect p ≡ true)
 
 pub data Reads (s cal meas : List ℕ) (b : ℕ) : Step → Option Deed → Type 0 where
   rests : (r : Received) → receivedNumber r ≢ 1 → receivedNumber r ≤ 7 → Reads s cal meas b (only r (readBy s b) cal) none
   acts : (d : Deed) (p : List ℕ) → Does s cal meas b d p → Reads s cal meas b (obeyed d p (readBy s b) cal meas) (some d)
 
+-- a good message is heeded by what the state showed before its last byte
+pub heeded-at : (s cal meas : List ℕ) (b : ℕ) (p : List ℕ) → consistent s ≡ true
+    → heeded p (readBy s b) cal meas ≡ heededBy (heedingIn (hasAnswer (viewOf s)) p (sessionOf s) (length cal) (length meas)) p (readBy s b) cal meas
+unfolding heeded
+heeded-at s cal meas b p c =
+    let t : List ℕ = readBy s b in
+    ap₂ (λ (w : Bool) (x : Session). heededBy (heedingIn w p x (length cal) (length meas)) p t cal meas)
+    (waits-shown t (read-length s b c) ∙ ap (λ (bs : List ℕ). ltb 0 (length bs)) (read-answer s b c)) (read-session s b c)
+
 module _ (s cal meas : List ℕ) (b : ℕ) (c : consistent s ≡ true) where
   -- a packet that came whole
-  heeded-reads : (p : List ℕ) → packetEnded s b ≡ some p → Reads s cal meas b (heeded p (readBy s b) cal meas) (heeds (some p) (readBy s b) cal meas)
-  unfolding heeds
+  heeded-reads : (p : List ℕ) → packetEnded s b ≡ some p → Reads s cal meas b (heeded p (readBy s b) cal meas) (heeds (some p) (viewOf s) (length cal) (length meas))
+  unfolding heeds heedingIn viewOf
   heeded-reads p e =
-      subst (λ (o : Step). Reads s cal meas b o (heeds (some p) (readBy s b) cal meas)) (sym (heeded-is p (readBy s b) cal meas))
-      (go (waits (readBy s b)) (openOf (readBy s b)) (goodConnect p) (sym (read-waits s b c)) (sym (read-open s b c)) refl) where
-        t : List ℕ
-        t = readBy s b
+      subst (λ (o : Step). Reads s cal meas b o (heeds (some p) (viewOf s) (length cal) (length meas))) (sym (heeded-at s cal meas b p c))
+      (go (hasAnswer (viewOf s)) (sessionOf s .opened) (goodConnect p) refl refl refl) where
+        d : Deed
+        d = deedOf p (sessionOf s) cal meas
 
-        go : (w o g : Bool) → waits s ≡ w → openOf s ≡ o → goodConnect p ≡ g
+        go : (w o g : Bool) → hasAnswer (viewOf s) ≡ w → sessionOf s .opened ≡ o → goodConnect p ≡ g
             → Reads s cal meas b
-            (cond w (only Unread t cal) (cond o (obeyed (deedOf p t cal meas) p t cal meas) (cond g (obeyed Connect p t cal meas) (only Silent t cal))))
-            (cond w none (cond o (some (deedOf p t cal meas)) (cond g (some Connect) none)))
+            (heededBy (cond w Dropped (cond o (Obeyed d) (cond g (Obeyed Connect) Ignored))) p (readBy s b) cal meas)
+            (deedBy (cond w Dropped (cond o (Obeyed d) (cond g (Obeyed Connect) Ignored))))
         go true o g u v x = rests Unread (omega arith) (omega arith)
         go false true g u v x =
-            acts (deedOf p t cal meas) p (record {
+            acts d p (record {
               ended = e;
               free = u;
-              can = judged-doable p t (length cal) (length meas);
-              found = judged p t (length cal) (length meas);
+              can = judged-doable p s (length cal) (length meas);
+              found = judged p (sessionOf s) (length cal) (length meas);
               opened = λ _. refl;
               closed = λ n. absurd (false-true (sym n ∙ v));
             })
@@ -72,7 +85,7 @@ module _ (s cal meas : List ℕ) (b : ℕ) (c : consistent s ≡ true) where
         go false false false u v x = rests Silent (omega arith) (omega arith)
 
   meant-reads : (o : Outcome) → Roomy o → fedOf s b .taken .outcome ≡ o
-      → Reads s cal meas b (meant o (fedOf s b .message) (readBy s b) cal meas) (heeds (packetBy o (fedOf s b .message)) (readBy s b) cal meas)
+      → Reads s cal meas b (meant o (fedOf s b .message) (readBy s b) cal meas) (heeds (packetBy o (fedOf s b .message)) (viewOf s) (length cal) (length meas))
   unfolding meant heeds
   meant-reads line.Nothing y e = rests Nothing (omega arith) (omega arith)
   meant-reads (line.Good ctr at n) y e = heeded-reads (block (fedOf s b .message) at n) (rw e)
@@ -146,13 +159,19 @@ heeds-right s cal meas b p c e = received-by s cal meas b c ∙ heeded-whole s c
 
 -- a command is judged, and what it leads to is done
 pub commanded : (s cal meas : List ℕ) (b : ℕ) (p : List ℕ) → consistent s ≡ true → Commands s b p
-    → receiveOf s cal meas b ≡ obeyed (deedOf p (readBy s b) cal meas) p (readBy s b) cal meas
-commanded s cal meas b p c w = heeds-right s cal meas b p c (w .ends) ∙ heeded-is p (readBy s b) cal meas ∙ simp (read-waits s b c ∙ w .free, read-open s b c ∙ w .opened)
+    → receiveOf s cal meas b ≡ obeyed (deedOf p (sessionOf s) cal meas) p (readBy s b) cal meas
+unfolding heedingIn
+commanded s cal meas b p c w = heeds-right s cal meas b p c (w .ends) ∙ heeded-at s cal meas b p c ∙ simp (w .free, w .opened)
 
 -- its answer reads as it was given
+pub done-answer : (s cal meas : List ℕ) (b : ℕ) (d : Deed) (n : ℕ) → consistent s ≡ true → Doable d n (length cal) (length meas)
+    → viewOf (after d (readBy s b) cal meas) .answer ≡ replyIn d (sessionOf s) cal meas
+unfolding viewOf
+done-answer s cal meas b d n c can =
+    after-answer d (readBy s b) cal meas n (read-length s b c) can ∙ ap (λ (x : Session). replyIn d x cal meas) (read-session s b c)
+
 pub command-answer : (s cal meas : List ℕ) (b : ℕ) (p : List ℕ) → consistent s ≡ true → Commands s b p
-    → answerOf (receiveOf s cal meas b .state) ≡ reply (deedOf p (readBy s b) cal meas) (readBy s b) cal meas
+    → viewOf (receiveOf s cal meas b .state) .answer ≡ answerTo p (sessionOf s) cal meas
 command-answer s cal meas b p c w =
-    let t : List ℕ = readBy s b in
-    ap (λ (o : Step). answerOf (o .state)) (commanded s cal meas b p c w)
-    ∙ after-answer (deedOf p t cal meas) t cal meas (length p) (read-length s b c) (judged-doable p t (length cal) (length meas))
+    let d : Deed = deedOf p (sessionOf s) cal meas in
+    ap (λ (o : Step). viewOf (o .state) .answer) (commanded s cal meas b p c w) ∙ done-answer s cal meas b d (length p) c (judged-doable p s (length cal) (length meas))

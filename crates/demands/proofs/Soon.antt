@@ -7,34 +7,29 @@ use native.Mathlib.Omega.{arith}
 use native.Mathlib.Nat.{lt-of-not-le}
 use native.Mathlib.Decide.{decLe}
 use borrow.Author.Tests.{le-leb, lt-leb}
-use lib.Dec.{leb, lit≤}
-use lib.ListN.{length, getD}
+use lib.Dec.{ltb, leb}
+use lib.ListN.{length}
 use Rattle.line.specs.Message.{room, frame}
 use Rattle.line.proofs.Laws.{cond-ind}
-use Rattle.state.specs.Layout.{size, lastAt, servedAt, placeAt, sampleAt}
-use Rattle.state.specs.State.{consistent, flagOf, ctrOf, waits, answerOf}
+use Rattle.state.specs.State.{consistent}
 use Rattle.session.specs.Receive.{receiveOf}
 use Rattle.lists.specs.Event.{eventOf}
-use Rattle.lists.specs.Slot.{turnOf, packetOf, packetSent, slotOf}
-use Rattle.model.specs.Calls.{orElse, roundIn, packetFor}
-use Rattle.model.specs.View.{sessionOf, viewOf}
-use Rattle.model.proofs.Shown.{turn-at}
+use Rattle.lists.specs.Slot.{slotOf}
+use Rattle.model.specs.Model.{Slave}
+use Rattle.model.specs.Calls.{turnIn, orElse, roundIn, packetFrom, packetFor, answerGone, packetGone}
+use Rattle.model.specs.View.{viewOf}
 use Rattle.model.specs.declared.Turn.{Turn}
 use Rattle.model.specs.declared.Turn.the-variants.{Answer, Packet}
-use Rattle.state.proofs.Consistent.{consistent-size}
-use Rattle.fields.proofs.Readers.{Same, same-part, flag-reads, waits-reads, answer-reads}
-use Rattle.fields.proofs.Served.{answerSent-waits, packetSent-rest}
 use Rattle.fields.proofs.Kept.{receive-kept, event-kept, slot-kept}
 use Rattle.demands.specs.Slave.{ours}
 use Rattle.demands.specs.Runs.{Call, Byte, Event, SendingSlot, Elsewhere, afterCall, frames, sends, oneMore, slots}
-use Rattle.demands.specs.Waiting.{isAnswer, answersIn}
+use Rattle.demands.specs.Waiting.{hasAnswer, isAnswer, answersIn}
 use Rattle.demands.specs.Demand3.{LeavesWithin}
 use Rattle.demands.proofs.Turns.{Next, Fair, nobody, answer, list, round-fair}
-use Rattle.demands.proofs.Sends.{turned, framesOf, slot-state, slot-stays, slot-sends, slot-silent}
-use Rattle.demands.proofs.After.{packet-last}
+use Rattle.demands.proofs.Sends.{turned, framesOf, slot-shows, slot-stays, slot-sends, slot-silent}
 use Rattle.demands.proofs.Carried.{carried-append, carries-none, packet-no-answer}
 use Rattle.demands.proofs.ByteKeeps.{byte-round, byte-answer-kept}
-use Rattle.demands.proofs.Events.{event-front, event-waits, event-answer}
+use Rattle.demands.proofs.Events.{event-answer, event-round}
 
 -- ---- counted slots
 pub counted : (out : List ℕ) (n : ℕ) → room ≤ length out → oneMore (leb room (length out)) n ≡ suc n
@@ -53,19 +48,18 @@ slots-cons (SendingSlot out) cs = go (leb room (length out)) where
 slots-cons Elsewhere cs = omega arith
 
 -- ---- an answer that waits goes now, or a list's packet goes and the last frame was an answer
-data Soon (s : List ℕ) : Turn → Type 0 where
-  now : Soon s Answer
-  next : (j k : ℕ) → Next s j k → flagOf s lastAt ≡ true → Soon s (Packet k)
+data Soon (v : Slave) : Turn → Type 0 where
+  now : Soon v Answer
+  next : (j k : ℕ) → Next v j k → v .lastAnswer ≡ true → Soon v (Packet k)
 
-or-soon : (s : List ℕ) (t : Turn) → flagOf s lastAt ≡ true → Fair s t → Soon s (orElse t Answer)
-or-soon s _ f nobody = now
-or-soon s _ f (answer w) = now
-or-soon s _ f (list j k n) = next j k n f
+or-soon : (v : Slave) (t : Turn) → v .lastAnswer ≡ true → Fair v t → Soon v (orElse t Answer)
+or-soon v _ f nobody = now
+or-soon v _ f (answer w) = now
+or-soon v _ f (list j k n) = next j k n f
 
-soon : (s : List ℕ) → length s ≡ size → waits s ≡ true → Soon s (turnOf s)
-soon s h w =
-    subst (Soon s) (sym (turn-at s h))
-    (rw w (cond-ind (Soon s) (flagOf s lastAt) (λ f. or-soon s (roundIn (sessionOf s) (getD s servedAt 0)) f (round-fair s h)) (λ _. now)))
+soon : (v : Slave) → hasAnswer v ≡ true → Soon v (turnIn v)
+unfolding turnIn
+soon v w = rw w (cond-ind (Soon v) (v .lastAnswer) (λ f. or-soon v (roundIn (v .session) (v .served)) f (round-fair v)) (λ _. now))
 
 -- how many slots it takes, by whether the last frame was an answer
 abbrev need : Bool → ℕ
@@ -100,19 +94,23 @@ goes-on c s a cs m n g h e =
 -- the answer and the last frame as the rest of the run sees them
 record Waits (a : List ℕ) (last : Bool) (s : List ℕ) : Type 0 where
   fit : consistent s ≡ true
-  waits : waits s ≡ true
-  answer : answerOf s ≡ a
-  flag : flagOf s lastAt ≡ last
+  waits : hasAnswer (viewOf s) ≡ true
+  answer : viewOf s .answer ≡ a
+  flag : viewOf s .lastAnswer ≡ last
+
+-- a call that leaves both
+waits-on : {a : List ℕ} {last : Bool} {s t : List ℕ} → consistent t ≡ true → viewOf t .answer ≡ viewOf s .answer → viewOf t .lastAnswer ≡ viewOf s .lastAnswer → Waits a last s → Waits a last t
+waits-on c e f w = record { fit = c; waits = ap (λ (bs : List ℕ). ltb 0 (length bs)) e ∙ w .waits; answer = e ∙ w .answer; flag = f ∙ w .flag }
 
 abbrev Later : List Call → Type 0
 Later cs = (a : List ℕ) (last : Bool) (s : List ℕ) → Waits a last s → need last ≤ slots cs → LeavesWithin (need last) ours s a cs
 
 -- by whose turn it is
 slot-by : (cs : List Call) (a : List ℕ) (last : Bool) (s out : List ℕ) → Waits a last s → room ≤ length out → need last ≤ suc (slots cs) → Later cs
-    → (t : Turn) → turnOf s ≡ t → Soon s t → LeavesWithin (need last) ours s a (SendingSlot out ∷ cs)
-unfolding viewOf
+    → (t : Turn) → turnIn (viewOf s) ≡ t → Soon (viewOf s) t → LeavesWithin (need last) ours s a (SendingSlot out ∷ cs)
 slot-by cs a last s out w r h later _ e now =
     let c : consistent s ≡ true = w .fit in
+    let gone : viewOf (slotOf s out .state) ≡ answerGone (viewOf s) = slot-shows s out c r ∙ ap (λ t. turned t (viewOf s)) e in
     record {
       before = [];
       out = out;
@@ -121,55 +119,35 @@ slot-by cs a last s out w r h later _ e now =
       roomy = r;
       early = need-some last;
       noneBefore = refl;
-      sent = slot-sends s out c r ∙ ap (λ t. framesOf (ctrOf s) (packetFor t (viewOf s))) e ∙ ap (λ x. frame (ctrOf s) x ∷ []) (w .answer);
-      noneAfter = ap waits (slot-state s out c r ∙ ap (λ t. turned t s) e) ∙ answerSent-waits s (consistent-size s c);
+      sent = slot-sends s out c r ∙ ap (λ t. framesOf (viewOf s .ctr) (packetFor t (viewOf s))) e ∙ ap (λ x. frame (viewOf s .ctr) x ∷ []) (w .answer);
+      noneAfter = ap hasAnswer gone;
     }
 slot-by cs a last s out w r h later _ e (next j k n f) =
     let c : consistent s ≡ true = w .fit in
-    let z : length s ≡ size = consistent-size s c in
-    let st : slotOf s out .state ≡ packetSent s k = slot-state s out c r ∙ ap (λ t. turned t s) e in
-    let y : Same placeAt (sampleAt 0) s (packetSent s k) = packetSent-rest s k in
-    let u : Waits a false (slotOf s out .state) =
-    record {
-      fit = slot-kept s out c;
-      waits = rw st (waits-reads (same-part (lit≤ tt) (lit≤ tt) y) ∙ w .waits);
-      answer = rw st (answer-reads (same-part (lit≤ tt) (lit≤ tt) y) ∙ w .answer);
-      flag = rw st (packet-last s k z);
-    } in
+    let v : Slave = viewOf s in
+    let gone : viewOf (slotOf s out .state) ≡ packetGone k v = slot-shows s out c r ∙ ap (λ t. turned t (viewOf s)) e in
+    let u : Waits a false (slotOf s out .state) = record { fit = slot-kept s out c; waits = ap hasAnswer gone ∙ w .waits; answer = ap (λ (x : Slave). x .answer) gone ∙ w .answer; flag = ap (λ (x : Slave). x .lastAnswer) gone } in
     let two : need last ≡ 2 = ap need (sym (w .flag) ∙ f) in
     let quiet : answersIn (sends ours s (SendingSlot out)) ≡ [] =
-    ap answersIn (slot-sends s out c r ∙ ap (λ t. framesOf (ctrOf s) (packetFor t (viewOf s))) e) ∙ carries-none isAnswer (ctrOf s) (packetOf s k) (packet-no-answer s k (n .odt)) in
+    ap answersIn (slot-sends s out c r ∙ ap (λ t. framesOf (viewOf s .ctr) (packetFor t (viewOf s))) e) ∙ carries-none isAnswer (viewOf s .ctr) (packetFrom (viewOf s .session) k) (packet-no-answer (viewOf s .session) k (n .odt)) in
     goes-on (SendingSlot out) s a cs 1 (need last) (later a false (slotOf s out .state) u (omega (arith, two))) (omega (arith, two, counted out 0 r)) quiet
 
 goes : (cs : List Call) → Later cs
 goes [] a last s w h = absurd (omega (arith, need-some last))
 goes (Byte cal meas b ∷ cs) a last s w h =
     let c : consistent s ≡ true = w .fit in
-    let k = byte-answer-kept s cal meas b c (w .waits) in
     goes-on (Byte cal meas b) s a cs (need last) (need last)
-    (goes cs a last (receiveOf s cal meas b .state)
-    (record {
-      fit = receive-kept s cal meas b c;
-      waits = k .0;
-      answer = k .1 ∙ w .answer;
-      flag = flag-reads lastAt (same-part (lit≤ tt) (lit≤ tt) (byte-round s cal meas b c)) ∙ w .flag;
-    }) h)
+    (goes cs a last (receiveOf s cal meas b .state) (waits-on (receive-kept s cal meas b c) (byte-answer-kept s cal meas b c (w .waits)) (byte-round s cal meas b c .lastAnswer) w) h)
     (omega arith) refl
 goes (Event cal meas event clock ∷ cs) a last s w h =
-    let c : consistent s ≡ true = w .fit in
     goes-on (Event cal meas event clock) s a cs (need last) (need last)
     (goes cs a last (eventOf s cal meas event clock .state)
-    (record {
-      fit = event-kept s cal meas event clock c;
-      waits = event-waits s cal meas event clock ∙ w .waits;
-      answer = event-answer s cal meas event clock ∙ w .answer;
-      flag = flag-reads lastAt (same-part (lit≤ tt) (lit≤ tt) (event-front s cal meas event clock)) ∙ w .flag;
-    }) h)
+    (waits-on (event-kept s cal meas event clock (w .fit)) (event-answer s cal meas event clock) (event-round s cal meas event clock .lastAnswer) w) h)
     (omega arith) refl
 goes (SendingSlot out ∷ cs) a last s w h = elim (decLe room (length out)) [ yes r ↦ with-room r (goes cs) | no r ↦ without (lt-of-not-le r) (goes cs) ] where
   with-room : room ≤ length out → Later cs → LeavesWithin (need last) ours s a (SendingSlot out ∷ cs)
   with-room r later =
-      slot-by cs a last s out w r (rw (counted out (slots cs) r) at h) later (turnOf s) refl (soon s (consistent-size s (w .fit)) (w .waits))
+      slot-by cs a last s out w r (rw (counted out (slots cs) r) at h) later (turnIn (viewOf s)) refl (soon (viewOf s) (w .waits))
 
   without : length out < room → Later cs → LeavesWithin (need last) ours s a (SendingSlot out ∷ cs)
   without r later =
@@ -193,7 +171,7 @@ within-two h g =
       noneAfter = g .noneAfter;
     }
 
-pub answer-leaves : (s : List ℕ) (cs : List Call) → consistent s ≡ true → waits s ≡ true → 2 ≤ slots cs → LeavesWithin 2 ours s (answerOf s) cs
+pub answer-leaves : (s : List ℕ) (cs : List Call) → consistent s ≡ true → hasAnswer (viewOf s) ≡ true → 2 ≤ slots cs → LeavesWithin 2 ours s (viewOf s .answer) cs
 answer-leaves s cs c w h =
-    let b : Bool = flagOf s lastAt in
-    within-two (need-most (flagOf s lastAt)) (goes cs (answerOf s) (flagOf s lastAt) s (record { fit = c; waits = w; answer = refl; flag = refl }) (omega (arith, need-most (flagOf s lastAt))))
+    let most : need (viewOf s .lastAnswer) ≤ 2 = need-most (viewOf s .lastAnswer) in
+    within-two most (goes cs (viewOf s .answer) (viewOf s .lastAnswer) s (record { fit = c; waits = w; answer = refl; flag = refl }) (omega (arith, most)))

@@ -11,59 +11,62 @@ use native.Mathlib.Decide.{ℕ-discrete}
 use lib.Dec.{ltb, lit<}
 use lib.ListN.{length, getD}
 use Rattle.line.proofs.Laws.{false-true, cond-ind}
-use Rattle.state.specs.Layout.{size, lists, servedAt, lastAt, firstOdt, listOf, allOdts, odtCount}
-use Rattle.state.specs.State.{flagOf, waits}
-use Rattle.lists.specs.Lists.{runsOf}
-use Rattle.lists.specs.Slot.{turnOf, packetOf, packetSent}
-use Rattle.model.specs.Model.{DaqList, Session, hasPacket, inStores, waitingIn}
-use Rattle.model.specs.Step.{at}
-use Rattle.model.specs.Calls.{withoutPacket, firstPacket, packetIn, orElse, roundIn, packetFrom}
-use Rattle.model.specs.View.{sessionOf}
+use Rattle.state.specs.Layout.{lists, firstOdt, listOf, allOdts, odtCount}
+use Rattle.model.specs.Model.{DaqList, Session, Slave, runsIn, hasPacket, inStores, waitingIn}
+use Rattle.model.specs.Step.{at, odtIn}
+use Rattle.model.specs.Calls.{withoutPacket, packetGone, firstPacket, packetIn, orElse, roundIn, packetFrom, turnIn}
 use Rattle.model.specs.declared.Turn.{Turn}
 use Rattle.model.specs.declared.Turn.the-variants.{Nobody, Answer, Packet}
-use Rattle.model.proofs.Shown.{turn-at}
 use Rattle.lists.proofs.Round.{or-holds, round-holds}
 use Rattle.views.proofs.Waits.{rests, Empty, none-waits, first-waits, first-sent, sent-others}
-use Rattle.demands.specs.Waiting.{waitingOf}
+use Rattle.demands.specs.Waiting.{hasAnswer}
 use Rattle.demands.proofs.Round.{packet-some, round-finds, Far, nearer}
-use Rattle.demands.proofs.Waiting.{this-or-other, list-of, odt-in, sent-session}
+use Rattle.demands.proofs.Waiting.{this-or-other}
 
 -- ODT k's packet is the next one of list j: what waits of the list, and what waits of it and of the others once it is sent
-pub record Next (s : List ℕ) (j k : ℕ) : Type 0 where
+pub record Next (v : Slave) (j k : ℕ) : Type 0 where
   pub list : listOf k ≡ j
   pub inside : j < lists
   pub odt : k < allOdts
   pub rest : List (List ℕ)
-  pub waiting : waitingOf s j ≡ packetOf s k ∷ rest
-  pub left : waitingOf (packetSent s k) j ≡ rest
-  pub others : (l : ℕ) → l < lists → l ≢ j → waitingOf (packetSent s k) l ≡ waitingOf s l
+  pub waiting : waitingIn (v .session) j ≡ packetFrom (v .session) k ∷ rest
+  pub left : waitingIn (packetGone k v .session) j ≡ rest
+  pub others : (l : ℕ) → l ≢ j → waitingIn (packetGone k v .session) l ≡ waitingIn (v .session) l
 
 -- what list j has
-pub data Has (s : List ℕ) (j : ℕ) : Turn → Type 0 where
-  nothing : waitingOf s j ≡ [] → Has s j Nobody
-  packet : (k : ℕ) → Next s j k → Has s j (Packet k)
+pub data Has (v : Slave) (j : ℕ) : Turn → Type 0 where
+  nothing : waitingIn (v .session) j ≡ [] → Has v j Nobody
+  packet : (k : ℕ) → Next v j k → Has v j (Packet k)
 
 pub no-packet : (bs : List ℕ) → ltb 0 (length bs) ≡ false → bs ≡ []
 no-packet [] e = refl
 no-packet (b ∷ bs) e = absurd (false-true (sym e ∙ lt-ltb 0 (length (b ∷ bs)) (omega arith)))
 
-module _ (s : List ℕ) (h : length s ≡ size) (j : ℕ) (q : j < lists) where
-  abbrev x : DaqList
-  x = sessionOf s .list j
+-- of list l the ODT d
+list-of : (l d : ℕ) → d < odtCount l → listOf (firstOdt l + d) ≡ l
+list-of l d q = omega arith
 
-  next : runsOf s j ≡ true → (d n : ℕ) → d + suc n ≡ odtCount j → Empty x 0 d → hasPacket (x .odt d) ≡ true → Next s j (firstOdt j + d)
+odt-in : (l d : ℕ) → d < odtCount l → odtIn (firstOdt l + d) ≡ d
+odt-in l d q = omega arith
+
+module _ (v : Slave) (j : ℕ) (q : j < lists) where
+  abbrev x : DaqList
+  x = v .session .list j
+
+  next : runsIn (v .session) j ≡ true → (d n : ℕ) → d + suc n ≡ odtCount j → Empty x 0 d → hasPacket (x .odt d) ≡ true → Next v j (firstOdt j + d)
   unfolding packetFrom
   next r d n e none a =
-      let sent : sessionOf (packetSent s (firstOdt j + d)) ≡ at j (withoutPacket d) (sessionOf s) = sent-session s j d h q (omega arith) in
+      let sent : packetGone (firstOdt j + d) v .session ≡ at j (withoutPacket d) (v .session) =
+      ap₂ (λ (i o : ℕ). at i (withoutPacket o) (v .session)) (list-of j d (omega arith)) (odt-in j d (omega arith)) in
       record {
         list = omega arith;
         inside = q;
         odt = omega arith;
         rest = inStores j x (d + 1) n;
-        waiting = first-waits (sessionOf s) j d n r e none a
-            ∙ ap₂ (λ (i o : ℕ). ((firstOdt j + d) ∷ sessionOf s .list i .odt o .store) ∷ inStores j x (d + 1) n) (sym (list-of j d (omega arith))) (sym (odt-in j d (omega arith)));
-        left = ap (λ (c : Session). waitingIn c j) sent ∙ first-sent (sessionOf s) j d n r e none;
-        others = λ l m z. ap (λ (c : Session). waitingIn c l) sent ∙ sent-others (sessionOf s) j d l z;
+        waiting = first-waits (v .session) j d n r e none a
+            ∙ ap₂ (λ (i o : ℕ). ((firstOdt j + d) ∷ v .session .list i .odt o .store) ∷ inStores j x (d + 1) n) (sym (list-of j d (omega arith))) (sym (odt-in j d (omega arith)));
+        left = ap (λ (c : Session). waitingIn c j) sent ∙ first-sent (v .session) j d n r e none;
+        others = λ l z. ap (λ (c : Session). waitingIn c l) sent ∙ sent-others (v .session) j d l z;
       }
 
   -- one ODT more without a packet
@@ -73,80 +76,80 @@ module _ (s : List ℕ) (h : length s ≡ size) (j : ℕ) (q : j < lists) where
       (λ e. let m : 0 + i ≡ d = omega arith in subst (λ (o : ℕ). x .odt o .store ≡ []) (sym m) (no-packet (x .odt d .store) a))
       (λ other. none i (omega arith))
 
-  from : runsOf s j ≡ true → (d n : ℕ) → d + n ≡ odtCount j → Empty x 0 d → Has s j (firstPacket j x d n)
+  from : runsIn (v .session) j ≡ true → (d n : ℕ) → d + n ≡ odtCount j → Empty x 0 d → Has v j (firstPacket j x d n)
   unfolding firstPacket
-  from r d zero e none = nothing (none-waits (sessionOf s) j (let f : d ≡ odtCount j = omega arith in subst (λ (m : ℕ). Empty x 0 m) f none))
+  from r d zero e none = nothing (none-waits (v .session .opened) j x (let f : d ≡ odtCount j = omega arith in subst (λ (m : ℕ). Empty x 0 m) f none))
   from r d (suc n) e none =
-      cond-ind (Has s j) (hasPacket (x .odt d)) (λ a. packet (firstOdt j + d) (next r d n e none a)) (λ a. from r (d + 1) n (omega arith) (more d none a))
+      cond-ind (Has v j) (hasPacket (x .odt d)) (λ a. packet (firstOdt j + d) (next r d n e none a)) (λ a. from r (d + 1) n (omega arith) (more d none a))
 
-  pub has : Has s j (packetIn (sessionOf s) j)
+  pub has : Has v j (packetIn (v .session) j)
   unfolding packetIn
   has =
-      cond-ind (Has s j) (runsOf s j) (λ r. from r 0 (odtCount j) (omega arith) (λ i z. absurd (nothing-below i z))) (λ r. nothing (rests (sessionOf s) j r))
+      cond-ind (Has v j) (runsIn (v .session) j) (λ r. from r 0 (odtCount j) (omega arith) (λ i z. absurd (nothing-below i z))) (λ r. nothing (rests (v .session .opened) j x r))
     where
       nothing-below : (i : ℕ) → i < 0 → ⊥
       nothing-below i z = omega arith
 
 -- ---- whose turn it is has something waiting
-pub data Fair (s : List ℕ) : Turn → Type 0 where
-  nobody : Fair s Nobody
-  answer : waits s ≡ true → Fair s Answer
-  list : (j k : ℕ) → Next s j k → Fair s (Packet k)
+pub data Fair (v : Slave) : Turn → Type 0 where
+  nobody : Fair v Nobody
+  answer : hasAnswer v ≡ true → Fair v Answer
+  list : (j k : ℕ) → Next v j k → Fair v (Packet k)
 
-fair-has : (s : List ℕ) (j : ℕ) (t : Turn) → Has s j t → Fair s t
-fair-has s j _ (nothing e) = nobody
-fair-has s j _ (packet k n) = list j k n
+fair-has : (v : Slave) (j : ℕ) (t : Turn) → Has v j t → Fair v t
+fair-has v j _ (nothing e) = nobody
+fair-has v j _ (packet k n) = list j k n
 
-pub round-fair : (s : List ℕ) → length s ≡ size → Fair s (roundIn (sessionOf s) (getD s servedAt 0))
-round-fair s h = round-holds (Fair s) lists (packetIn (sessionOf s)) (lit< tt) nobody (λ j q. fair-has s j (packetIn (sessionOf s) j) (has s h j q)) (getD s servedAt 0 + 1) lists
+pub round-fair : (v : Slave) → Fair v (roundIn (v .session) (v .served))
+round-fair v = round-holds (Fair v) lists (packetIn (v .session)) (lit< tt) nobody (λ j q. fair-has v j (packetIn (v .session) j) (has v j q)) (v .served + 1) lists
 
-pub fair : (s : List ℕ) → length s ≡ size → Fair s (turnOf s)
-fair s h =
-    let round = round-fair s h in
-    subst (Fair s) (sym (turn-at s h)) (cond-ind (Fair s) (waits s)
-    (λ w. cond-ind (Fair s) (flagOf s lastAt) (λ _. or-holds (Fair s) (roundIn (sessionOf s) (getD s servedAt 0)) Answer round (answer w)) (λ _. answer w))
-    (λ _. round))
+pub fair : (v : Slave) → Fair v (turnIn v)
+unfolding turnIn
+fair v =
+    cond-ind (Fair v) (hasAnswer v)
+    (λ w. cond-ind (Fair v) (v .lastAnswer) (λ _. or-holds (Fair v) (roundIn (v .session) (v .served)) Answer (round-fair v) (answer w)) (λ _. answer w))
+    (λ _. round-fair v)
 
 -- ---- while a packet of list l waits, and its turn is `far` lists on: an answer goes, after a frame that was none; or its own packet; or that of a
 -- list from which it is nearer
-pub data Moves (s : List ℕ) (l far : ℕ) : Turn → Type 0 where
-  by-answer : waits s ≡ true → flagOf s lastAt ≡ false → Moves s l far Answer
-  by-own : (k : ℕ) → Next s l k → Moves s l far (Packet k)
-  by-other : (j k : ℕ) → Next s j k → l ≢ j → (near : ℕ) → 1 ≤ near → near < far → (j + near) % lists ≡ l → Moves s l far (Packet k)
+pub data Moves (v : Slave) (l far : ℕ) : Turn → Type 0 where
+  by-answer : hasAnswer v ≡ true → v .lastAnswer ≡ false → Moves v l far Answer
+  by-own : (k : ℕ) → Next v l k → Moves v l far (Packet k)
+  by-other : (j k : ℕ) → Next v j k → l ≢ j → (near : ℕ) → 1 ≤ near → near < far → (j + near) % lists ≡ l → Moves v l far (Packet k)
 
 -- a list that the round found
-found-moves : (s : List ℕ) (l far j near : ℕ) → (l ≢ j → 1 ≤ near) → near < far → (j + near) % lists ≡ l → (t : Turn) → t ≢ Nobody → Has s j t → Moves s l far t
-found-moves s l far j near p less e _ n (nothing w) = absurd (n refl)
-found-moves s l far j near p less e _ n (packet k x) =
-    elim (ℕ-discrete l j) [ yes y ↦ by-own k (subst (λ (m : ℕ). Next s m k) (sym y) x) | no y ↦ by-other j k x y near (p y) less e ]
+found-moves : (v : Slave) (l far j near : ℕ) → (l ≢ j → 1 ≤ near) → near < far → (j + near) % lists ≡ l → (t : Turn) → t ≢ Nobody → Has v j t → Moves v l far t
+found-moves v l far j near p less e _ n (nothing w) = absurd (n refl)
+found-moves v l far j near p less e _ n (packet k x) =
+    elim (ℕ-discrete l j) [ yes y ↦ by-own k (subst (λ (m : ℕ). Next v m k) (sym y) x) | no y ↦ by-other j k x y near (p y) less e ]
 
-or-moves : (s : List ℕ) (l far : ℕ) (t : Turn) → Moves s l far t → Moves s l far (orElse t Answer)
-or-moves s l far _ (by-answer w f) = by-answer w f
-or-moves s l far _ (by-own k x) = by-own k x
-or-moves s l far _ (by-other j k x n near a b e) = by-other j k x n near a b e
+or-moves : (v : Slave) (l far : ℕ) (t : Turn) → Moves v l far t → Moves v l far (orElse t Answer)
+or-moves v l far _ (by-answer w f) = by-answer w f
+or-moves v l far _ (by-own k x) = by-own k x
+or-moves v l far _ (by-other j k x n near a b e) = by-other j k x n near a b e
 
 -- a list that has a packet has a turn
-has-some : (s : List ℕ) (l : ℕ) (p : List ℕ) (ps : List (List ℕ)) → waitingOf s l ≡ p ∷ ps → (t : Turn) → Has s l t → t ≢ Nobody
-has-some s l p ps e _ (nothing w) n = absurd (empty (sym w ∙ e)) where
+has-some : (v : Slave) (l : ℕ) (p : List ℕ) (ps : List (List ℕ)) → waitingIn (v .session) l ≡ p ∷ ps → (t : Turn) → Has v l t → t ≢ Nobody
+has-some v l p ps e _ (nothing w) n = absurd (empty (sym w ∙ e)) where
   empty : [] ≡ p ∷ ps → ⊥
   empty x = let y : _≡_ {A = ℕ} 0 (suc (length ps)) = ap length x in omega arith
-has-some s l p ps e _ (packet k x) n = packet-some k n
+has-some v l p ps e _ (packet k x) n = packet-some k n
 
 -- the next list round
-round-moves : (s : List ℕ) (l : ℕ) (p : List ℕ) (ps : List (List ℕ)) → length s ≡ size → l < lists → waitingOf s l ≡ p ∷ ps → (f : Far lists (getD s servedAt 0) l)
-    → Moves s l (f .far) (roundIn (sessionOf s) (getD s servedAt 0))
-round-moves s l p ps h q e f =
-    let z : ℕ = getD s servedAt 0 in
+round-moves : (v : Slave) (l : ℕ) (p : List ℕ) (ps : List (List ℕ)) → l < lists → waitingIn (v .session) l ≡ p ∷ ps → (f : Far lists (v .served) l)
+    → Moves v l (f .far) (roundIn (v .session) (v .served))
+round-moves v l p ps q e f =
+    let z : ℕ = v .served in
     let far : ℕ = f .far in
     let at : (z + 1 + (far - 1)) % lists ≡ l = turn z far (f .some) (f .turn) in
-    let there : packetIn (sessionOf s) ((z + 1 + (far - 1)) % lists) ≢ Nobody = rw at (has-some s l p ps e (packetIn (sessionOf s) l) (has s h l q)) in
-    let r = round-finds lists (packetIn (sessionOf s)) (z + 1) (far - 1) lists (omega (arith, f .some, f .most)) there in
+    let there : packetIn (v .session) ((z + 1 + (far - 1)) % lists) ≢ Nobody = rw at (has-some v l p ps e (packetIn (v .session) l) (has v l q)) in
+    let r = round-finds lists (packetIn (v .session)) (z + 1) (far - 1) lists (omega (arith, f .some, f .most)) there in
     let j : ℕ = (z + 1 + r .steps) % lists in
     let less : j < lists = mod-lt (z + 1 + r .steps) (lit< tt) in
     let y : (j + (far - (1 + r .steps))) % lists ≡ l = back z far (r .steps) (f .some) (r .near) (f .turn) in
     let b : far - (1 + r .steps) < far = omega (arith, f .some) in
-    found-moves s l far j (far - (1 + r .steps)) (λ n. apart j (far - (1 + r .steps)) less y n) b y
-    (roundIn (sessionOf s) z) (r .some) (rw (r .whose) (has s h j less)) where
+    found-moves v l far j (far - (1 + r .steps)) (λ n. apart j (far - (1 + r .steps)) less y n) b y
+    (roundIn (v .session) z) (r .some) (rw (r .whose) (has v j less)) where
       turn : (z far : ℕ) → 1 ≤ far → (z + far) % lists ≡ l → (z + 1 + (far - 1)) % lists ≡ l
       turn z far a b = let c : z + 1 + (far - 1) ≡ z + far = omega arith in rw c b
 
@@ -156,11 +159,12 @@ round-moves s l p ps h q e f =
       apart : (j near : ℕ) → j < lists → (j + near) % lists ≡ l → l ≢ j → 1 ≤ near
       apart j near a b n = omega arith
 
-pub moves : (s : List ℕ) (l : ℕ) (p : List ℕ) (ps : List (List ℕ)) → length s ≡ size → l < lists → waitingOf s l ≡ p ∷ ps → (f : Far lists (getD s servedAt 0) l)
-    → Moves s l (f .far) (turnOf s)
-moves s l p ps h q e f =
-    let round = round-moves s l p ps h q e f in
-    let M : Turn → Type 0 = Moves s l (f .far) in
-    subst M (sym (turn-at s h)) (cond-ind M (waits s)
-    (λ w. cond-ind M (flagOf s lastAt) (λ _. or-moves s l (f .far) (roundIn (sessionOf s) (getD s servedAt 0)) round) (λ z. by-answer w z))
-    (λ _. round))
+pub moves : (v : Slave) (l : ℕ) (p : List ℕ) (ps : List (List ℕ)) → l < lists → waitingIn (v .session) l ≡ p ∷ ps → (f : Far lists (v .served) l)
+    → Moves v l (f .far) (turnIn v)
+unfolding turnIn
+moves v l p ps q e f =
+    let round = round-moves v l p ps q e f in
+    let M : Turn → Type 0 = Moves v l (f .far) in
+    cond-ind M (hasAnswer v)
+    (λ w. cond-ind M (v .lastAnswer) (λ _. or-moves v l (f .far) (roundIn (v .session) (v .served)) round) (λ z. by-answer w z))
+    (λ _. round)

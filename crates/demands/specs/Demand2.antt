@@ -7,17 +7,17 @@ use mathlib.Core.Bool.{Bool, true, false, cond}
 use mathlib.Core.Option.{none, some}
 use mathlib.Core.List.{List, [], _∷_, _++_}
 use lib.Dec.{ltb}
-use lib.ListN.{length, getD, take, drop}
+use lib.ListN.{length, take, drop}
 use Rattle.line.specs.Message.{longest, room, frame}
 use Rattle.line.specs.Run as line
 use Rattle.line.specs.Wire.{heard}
 use Rattle.line.specs.declared.Place.{Place}
 use Rattle.state.specs.Layout.{lists, odts, addressable, sampleSize, sampleAt, firstOdt, size}
 use Rattle.state.specs.Bytes.{block, bytes32, u32At}
-use Rattle.state.specs.State.{consistent, generatorOf, ctrOf, openOf, unlockedOf, bitOf, seedOf, mtaOf, answerOf}
+use Rattle.state.specs.State.{consistent, bitOf}
 use Rattle.session.specs.Receive.{Step, fedOf, receivedBy}
-use Rattle.lists.specs.Event.{samplingOf, captured}
-use Rattle.lists.specs.Slot.{turnOf, sentBy}
+use Rattle.lists.specs.Event.{captured}
+use Rattle.lists.specs.Slot.{sentBy}
 use Rattle.session.specs.PowerUp.{powered}
 use Rattle.words.specs.Number.{slottedValue}
 use Rattle.words.specs.declared.Resource.{Resource}
@@ -28,8 +28,9 @@ use Rattle.words.specs.declared.Seed.the-variants.{For}
 use Rattle.model.specs.declared.Deed.the-variants.{Download}
 use Rattle.model.specs.declared.Sampling.the-variants.{Sampled}
 use Rattle.words.specs.declared.Evented.the-variants.{Done}
-use Rattle.model.specs.Calls.{packetFor}
-use Rattle.model.specs.View.{viewOf}
+use Rattle.model.specs.Model.{byte, Session}
+use Rattle.model.specs.Calls.{turnIn, packetFor, samplingIn}
+use Rattle.model.specs.View.{sessionOf, viewOf}
 use Rattle.demands.specs.Slave.{Slave}
 use Rattle.demands.specs.Runs.{Call, Byte, Event, SendingSlot, Elsewhere, afterCall, run, sends, each, frames}
 use Rattle.demands.specs.Life.{Device, Moment, PowerOn, Hears, Samples, Serves, passed, lived, sentIn, OfBytes}
@@ -40,7 +41,7 @@ use Rattle.demands.specs.Waiting.{AllBut, waitingOf, sampleOf, isSampled
 abbrev pub dueAt : List ℕ → Call → List (List ℕ)
 dueAt s (Byte cal meas b) = []
 dueAt s (Event cal meas event clock) = []
-dueAt s (SendingSlot out) = cond (ltb (length out) room) [] (packetFor (turnOf s) (viewOf s))
+dueAt s (SendingSlot out) = cond (ltb (length out) room) [] (packetFor (turnIn (viewOf s)) (viewOf s))
 dueAt s Elsewhere = []
 
 abbrev pub due : Slave → List ℕ → List Call → List (List ℕ)
@@ -53,14 +54,14 @@ numbered c i (p ∷ ps) = frame ((c + i) % 256) p ∷ numbered c (suc i) ps
 
 -- a slot's frame: read from any place it is one good message, with the packet that waited
 abbrev pub ReadsBack : List (List ℕ) → List ℕ → Type 0
-ReadsBack [] s = packetFor (turnOf s) (viewOf s) ≡ []
+ReadsBack [] s = packetFor (turnIn (viewOf s)) (viewOf s) ≡ []
 ReadsBack (f ∷ fs) s =
-    (fs ≡ []) × (p : List ℕ) × (packetFor (turnOf s) (viewOf s) ≡ p ∷ [])
-    × ((place : Place) (m : List ℕ) → longest ≤ length m → line.run place m f ≡ heard place m (ctrOf s) p)
+    (fs ≡ []) × (p : List ℕ) × (packetFor (turnIn (viewOf s)) (viewOf s) ≡ p ∷ [])
+    × ((place : Place) (m : List ℕ) → longest ≤ length m → line.run place m f ≡ heard place m (viewOf s .ctr) p)
 
 -- the calibration resource is locked, or no session is open
-abbrev pub shut : List ℕ → Bool
-shut s = cond (openOf s) (cond (unlockedOf s Calibration) false true) true
+abbrev pub shut : Session → Bool
+shut c = cond (c .opened) (cond (c .unlocked Calibration) false true) true
 
 -- a step on the memory's first bytes, with its other bytes put back
 abbrev pub putBack : Step → List ℕ → Step
@@ -69,16 +70,16 @@ putBack o rest = record { received = o .received; state = o .state; cal = o .cal
 -- DOWNLOAD of n bytes
 pub record Downloads (s : List ℕ) (b : ℕ) (p : List ℕ) (a n : ℕ) : Type 0 where
   pub command : Commands s b p
-  pub code : getD p 0 0 ≡ 0xF0
-  pub count : getD p 1 0 ≡ n
-  pub place : mtaOf s ≡ At CalibrationMemory a
+  pub code : byte p 0 ≡ 0xF0
+  pub count : byte p 1 ≡ n
+  pub place : sessionOf s .mta ≡ At CalibrationMemory a
 
 -- UPLOAD of n bytes
 pub record Uploads (s : List ℕ) (b : ℕ) (p : List ℕ) (a n : ℕ) : Type 0 where
   pub command : Commands s b p
-  pub code : getD p 0 0 ≡ 0xF5
-  pub count : getD p 1 0 ≡ n
-  pub place : mtaOf s ≡ At CalibrationMemory a
+  pub code : byte p 0 ≡ 0xF5
+  pub count : byte p 1 ≡ n
+  pub place : sessionOf s .mta ≡ At CalibrationMemory a
 
 -- ---- over a life
 -- the frames that are to go, of which i have gone since the power came on: the CTR is i, modulo 256
@@ -91,7 +92,7 @@ dueIn v i h (Serves out ∷ ms) = numbered 0 i (dueAt (h .state) (SendingSlot ou
 
 -- a byte comes while calibration is locked, or no session is open
 abbrev pub WhileShut : Device → List ℕ → ℕ → Type 0
-WhileShut h meas b = shut (h .state) ≡ true
+WhileShut h meas b = shut (sessionOf (h .state)) ≡ true
 
 -- it ends no DOWNLOAD that writes one of the n bytes from a
 abbrev pub Spares : ℕ → ℕ → Device → List ℕ → ℕ → Type 0
@@ -105,9 +106,9 @@ otherLock Lists = Calibration
 pub record RightKeyEnds (s : List ℕ) (b : ℕ) (r : Resource) : Type 0 where
   pub packet : List ℕ
   pub command : Commands s b packet
-  pub seed : seedOf s ≡ For r
+  pub seed : sessionOf s .seed ≡ For r
   pub key : bringsKey packet ≡ true
-  pub right : keyMatches packet r s ≡ true
+  pub right : keyMatches packet r (sessionOf s) ≡ true
 
 -- byte b does not end UNLOCK with the right key to calibration
 abbrev pub Keyless : Device → List ℕ → ℕ → Type 0
@@ -137,11 +138,11 @@ Uncommanded v s (Elsewhere ∷ cs) = Uncommanded v s cs
 pub record SeedOpens (v : Slave) (r : Resource) (s t : List ℕ) : Type 0 where
   pub seed : List ℕ
   pub four : length seed ≡ 4
-  pub answer : answerOf t ≡ 0xFF ∷ 0x04 ∷ seed
+  pub answer : viewOf t .answer ≡ 0xFF ∷ 0x04 ∷ seed
   pub opens : (between : List Call) (cal meas : List ℕ) (b : ℕ) (p : List ℕ) → Uncommanded v t between
       → Commands (run v t between) b p → take 6 p ≡ 0xF7 ∷ 0x04 ∷ keyTo r seed
-      → (unlockedOf (v .receive (run v t between) cal meas b .state) r ≡ true)
-      × (unlockedOf (v .receive (run v t between) cal meas b .state) (otherLock r) ≡ unlockedOf s (otherLock r))
+      → (sessionOf (v .receive (run v t between) cal meas b .state) .unlocked r ≡ true)
+      × (sessionOf (v .receive (run v t between) cal meas b .state) .unlocked (otherLock r) ≡ sessionOf s .unlocked (otherLock r))
 
 -- the bytes in which a list's packets are stored
 abbrev pub storeSize : ℕ
@@ -158,9 +159,9 @@ pub record Demand2 (v : Slave) : Type 0 where
   -- every byte is read by the rules of the line, and a good message is heeded as document 01 says
   pub reads : (s cal meas : List ℕ) (b : ℕ) → consistent s ≡ true → v .receive s cal meas b ≡ receivedBy (fedOf s b) s cal meas
   -- a slot with room sends one frame, of whose turn it is, and what was sent no longer waits
-  pub serves : (s out : List ℕ) → consistent s ≡ true → room ≤ length out → v .slot s out ≡ sentBy (turnOf s) s out
+  pub serves : (s out : List ℕ) → consistent s ≡ true → room ≤ length out → v .slot s out ≡ sentBy (turnIn (viewOf s)) s out
   -- every frame that goes is that of the packet whose turn it was, one frame a slot, and the CTR grows by one per frame
-  pub numbers : (s : List ℕ) (cs : List Call) → consistent s ≡ true → ctrOf s < 256 → frames v s cs ≡ numbered (ctrOf s) 0 (due v s cs)
+  pub numbers : (s : List ℕ) (cs : List Call) → consistent s ≡ true → viewOf s .ctr < 256 → frames v s cs ≡ numbered (viewOf s .ctr) 0 (due v s cs)
   -- from power-up on the first CTR is 0
   pub fromPowerUp : (s : List ℕ) (start : ℕ) (cs : List Call) → length s ≡ size
       → frames v (v .powerUp s start .state) cs ≡ numbered 0 0 (due v (v .powerUp s start .state) cs)
@@ -171,44 +172,44 @@ pub record Demand2 (v : Slave) : Type 0 where
   -- bytes past the frame stay
   pub restStays : (s out : List ℕ) → AllBut 0 (slottedValue (v .slot s out .slotted)) out (v .slot s out .out)
   -- while calibration is locked, or no session is open, no calibration byte changes
-  pub locked : (s cal meas : List ℕ) (b : ℕ) → shut s ≡ true → v .receive s cal meas b .cal ≡ cal
+  pub locked : (s cal meas : List ℕ) (b : ℕ) → shut (sessionOf s) ≡ true → v .receive s cal meas b .cal ≡ cal
   -- so a memory that nothing else writes stays as it is through a life in which calibration is locked whenever a byte comes
   pub lockedOn : (h : Device) (ms : List Moment) → OfBytes WhileShut v h ms → lived v h ms .cal ≡ h .cal
   -- and from any state that is locked or without a session until the right key to calibration comes
-  pub lockedTill : (h : Device) (ms : List Moment) → consistent (h .state) ≡ true → shut (h .state) ≡ true → OfBytes Keyless v h ms → lived v h ms .cal ≡ h .cal
+  pub lockedTill : (h : Device) (ms : List Moment) → consistent (h .state) ≡ true → shut (sessionOf (h .state)) ≡ true → OfBytes Keyless v h ms → lived v h ms .cal ≡ h .cal
   -- only the first 4,096 bytes of a memory matter, and the rest stays
   pub cut : (s cal meas : List ℕ) (b : ℕ) → v .receive s cal meas b ≡ putBack (v .receive s (take addressable cal) (take addressable meas) b) (drop addressable cal)
   pub cutEvent : (s cal meas : List ℕ) (event clock : ℕ) → v .event s cal meas event clock ≡ v .event s (take addressable cal) (take addressable meas) event clock
   -- what DOWNLOAD wrote, UPLOAD at the same place gives back; other bytes stay
   pub givesBack : (s t cal meas meas′ : List ℕ) (b c : ℕ) (p q : List ℕ) (a n : ℕ) → consistent s ≡ true → consistent t ≡ true
-      → Downloads s b p a n → answerOf (v .receive s cal meas b .state) ≡ 0xFF ∷ [] → Uploads t c q a n
-      → (answerOf (v .receive t (v .receive s cal meas b .cal) meas′ c .state) ≡ 0xFF ∷ block p 2 n) × AllBut a (a + n) cal (v .receive s cal meas b .cal)
+      → Downloads s b p a n → viewOf (v .receive s cal meas b .state) .answer ≡ 0xFF ∷ [] → Uploads t c q a n
+      → (viewOf (v .receive t (v .receive s cal meas b .cal) meas′ c .state) .answer ≡ 0xFF ∷ block p 2 n) × AllBut a (a + n) cal (v .receive s cal meas b .cal)
   -- so does UPLOAD any time later, if nothing but the slave writes that memory and no DOWNLOAD has written there since, whatever calls and power-ups came
   pub givesBackLater : (h : Device) (meas : List ℕ) (b : ℕ) (p : List ℕ) (a n : ℕ) (between : List Moment) (meas′ : List ℕ) (c : ℕ) (q : List ℕ) → consistent (h .state) ≡ true
-      → Downloads (h .state) b p a n → answerOf (passed v h (Hears meas b) .state) ≡ 0xFF ∷ [] → OfBytes (Spares a n) v (passed v h (Hears meas b)) between
+      → Downloads (h .state) b p a n → viewOf (passed v h (Hears meas b) .state) .answer ≡ 0xFF ∷ [] → OfBytes (Spares a n) v (passed v h (Hears meas b)) between
       → Uploads (lived v (passed v h (Hears meas b)) between .state) c q a n
-      → answerOf (passed v (lived v (passed v h (Hears meas b)) between) (Hears meas′ c) .state) ≡ 0xFF ∷ block p 2 n
+      → viewOf (passed v (lived v (passed v h (Hears meas b)) between) (Hears meas′ c) .state) .answer ≡ 0xFF ∷ block p 2 n
   -- a right key unlocks its own resource alone
   pub unlocks : (s cal meas : List ℕ) (b : ℕ) (p : List ℕ) (r : Resource) → consistent s ≡ true
-      → Commands s b p → seedOf s ≡ For r → bringsKey p ≡ true → keyMatches p r s ≡ true
-      → (unlockedOf (v .receive s cal meas b .state) r ≡ true)
-      × (unlockedOf (v .receive s cal meas b .state) (otherLock r) ≡ unlockedOf s (otherLock r))
+      → Commands s b p → sessionOf s .seed ≡ For r → bringsKey p ≡ true → keyMatches p r (sessionOf s) ≡ true
+      → (sessionOf (v .receive s cal meas b .state) .unlocked r ≡ true)
+      × (sessionOf (v .receive s cal meas b .state) .unlocked (otherLock r) ≡ sessionOf s .unlocked (otherLock r))
   -- and nothing else opens a lock
-  pub opensByKey : (s cal meas : List ℕ) (b : ℕ) (r : Resource) → consistent s ≡ true → unlockedOf s r ≡ false → unlockedOf (v .receive s cal meas b .state) r ≡ true
+  pub opensByKey : (s cal meas : List ℕ) (b : ℕ) (r : Resource) → consistent s ≡ true → sessionOf s .unlocked r ≡ false → sessionOf (v .receive s cal meas b .state) .unlocked r ≡ true
       → RightKeyEnds s b r
   -- GET_SEED of a locked resource gives a seed, whatever the generator, and the key to that seed opens that lock
-  pub seedOpens : (s cal meas : List ℕ) (b : ℕ) (p : List ℕ) (r : Resource) → consistent s ≡ true → generatorOf s < 2 ^ 32
-      → Commands s b p → take 3 p ≡ 0xF8 ∷ 0x00 ∷ bitOf r ∷ [] → unlockedOf s r ≡ false → SeedOpens v r s (v .receive s cal meas b .state)
+  pub seedOpens : (s cal meas : List ℕ) (b : ℕ) (p : List ℕ) (r : Resource) → consistent s ≡ true → sessionOf s .generator < 2 ^ 32
+      → Commands s b p → take 3 p ≡ 0xF8 ∷ 0x00 ∷ bitOf r ∷ [] → sessionOf s .unlocked r ≡ false → SeedOpens v r s (v .receive s cal meas b .state)
   -- an event samples the lists that run on it and have no unsent packet, and misses those that have one; exactly these are counted
   pub counts : (s cal meas : List ℕ) (event clock : ℕ) → consistent s ≡ true → event ≤ 1
-      → v .event s cal meas event clock .evented ≡ Done (howMany (λ l. isSampled (samplingOf s l event)) lists) (howMany (λ l. isMissed (samplingOf s l event)) lists)
+      → v .event s cal meas event clock .evented ≡ Done (howMany (λ l. isSampled (samplingIn (sessionOf s) l event)) lists) (howMany (λ l. isMissed (samplingIn (sessionOf s) l event)) lists)
   -- the lists that are sampled gain a sample, each byte as the memories lent to this event hold it
-  pub samples : (s cal meas : List ℕ) (event clock l : ℕ) → consistent s ≡ true → event ≤ 1 → l < lists → samplingOf s l event ≡ Sampled
+  pub samples : (s cal meas : List ℕ) (event clock l : ℕ) → consistent s ≡ true → event ≤ 1 → l < lists → samplingIn (sessionOf s) l event ≡ Sampled
       → waitingOf (v .event s cal meas event clock .state) l ≡ sampleOf s l clock cal meas
   -- which is stored as if that list alone were captured
-  pub stores : (s cal meas : List ℕ) (event clock l : ℕ) → consistent s ≡ true → event ≤ 1 → l < lists → samplingOf s l event ≡ Sampled
+  pub stores : (s cal meas : List ℕ) (event clock l : ℕ) → consistent s ≡ true → event ≤ 1 → l < lists → samplingIn (sessionOf s) l event ≡ Sampled
       → block (v .event s cal meas event clock .state) (sampleAt (firstOdt l)) storeSize ≡ block (captured s l clock cal meas) (sampleAt (firstOdt l)) storeSize
   -- no other byte of the state changes
-  pub others : (s cal meas : List ℕ) (event clock l : ℕ) → consistent s ≡ true → l < lists → samplingOf s l event ≢ Sampled
+  pub others : (s cal meas : List ℕ) (event clock l : ℕ) → consistent s ≡ true → l < lists → samplingIn (sessionOf s) l event ≢ Sampled
       → block (v .event s cal meas event clock .state) (sampleAt (firstOdt l)) storeSize ≡ block s (sampleAt (firstOdt l)) storeSize
   pub storesOnly : (s cal meas : List ℕ) (event clock : ℕ) → AllBut (sampleAt 0) size s (v .event s cal meas event clock .state)

@@ -7,14 +7,15 @@ use mathlib.Core.List.{List, [], _∷_, _++_}
 use lib.ListN.{length}
 use Rattle.line.specs.Message.{most, room, frame}
 use Rattle.state.specs.Layout.{lists, placeAt, answerAt}
-use Rattle.state.specs.State.{consistent, ctrOf, openOf, waits, answerOf}
-use Rattle.lists.specs.Event.{samplingOf}
+use Rattle.state.specs.State.{consistent}
+use Rattle.model.specs.Calls.{samplingIn}
+use Rattle.model.specs.View.{sessionOf, viewOf}
 use Rattle.words.specs.declared.Received.the-variants.{Answered, Unread}
 use Rattle.model.specs.declared.Sampling.the-variants.{Sampled}
 use Rattle.demands.specs.Slave.{Slave}
 use Rattle.demands.specs.Runs.{Call, Byte, Event, SendingSlot, Elsewhere, afterCall, run, frames, sends, slots, received}
-use Rattle.demands.specs.Heard.{packetEnded, readBy, answerTo, stopsAt}
-use Rattle.demands.specs.Waiting.{waitingOf, sampleOf, answersIn, packetsIn}
+use Rattle.demands.specs.Heard.{packetEnded, answerTo, stopsAt}
+use Rattle.demands.specs.Waiting.{hasAnswer, waitingOf, sampleOf, answersIn, packetsIn}
 use Rattle.demands.specs.Demand1.{ChangesOnly}
 
 -- the answer a leaves in one of the first n counted slots of cs: before it no answer does, and after it none waits
@@ -26,15 +27,15 @@ pub record LeavesWithin (n : ℕ) (v : Slave) (s : List ℕ) (a : List ℕ) (cs 
   pub roomy : room ≤ length out
   pub early : slots before < n
   pub noneBefore : answersIn (frames v s before) ≡ []
-  pub sent : sends v (run v s before) (SendingSlot out) ≡ frame (ctrOf (run v s before)) a ∷ []
-  pub noneAfter : waits (afterCall v (run v s before) (SendingSlot out)) ≡ false
+  pub sent : sends v (run v s before) (SendingSlot out) ≡ frame (viewOf (run v s before) .ctr) a ∷ []
+  pub noneAfter : hasAnswer (viewOf (afterCall v (run v s before) (SendingSlot out))) ≡ false
 
 -- byte b ends command p in state s: it is answered, and the answer that the definitions give leaves in one of the first n counted slots after
 pub record AnsweredSoon (n : ℕ) (v : Slave) (s cal meas : List ℕ) (b : ℕ) (p : List ℕ) (later : List Call) : Type 0 where
   pub number : v .receive s cal meas b .received ≡ Answered
-  pub waiting : waits (v .receive s cal meas b .state) ≡ true
-  pub answer : answerOf (v .receive s cal meas b .state) ≡ answerTo p (readBy s b) cal meas
-  pub leaves : n ≤ slots later → LeavesWithin n v (v .receive s cal meas b .state) (answerTo p (readBy s b) cal meas) later
+  pub waiting : hasAnswer (viewOf (v .receive s cal meas b .state)) ≡ true
+  pub answer : viewOf (v .receive s cal meas b .state) .answer ≡ answerTo p (sessionOf s) cal meas
+  pub leaves : n ≤ slots later → LeavesWithin n v (v .receive s cal meas b .state) (answerTo p (sessionOf s) cal meas) later
 
 -- in no call of the run list l is stopped, or its session ended or renewed
 abbrev pub Undisturbed : Slave → ℕ → List ℕ → List Call → Type 0
@@ -55,7 +56,7 @@ abbrev pub AnsweredBy : ℕ → Slave → Type 0
 AnsweredBy n v =
     (s : List ℕ) (before : List Call) (cal meas : List ℕ) (b : ℕ) (later : List Call) (ctr : ℕ) (p : List ℕ) → consistent s ≡ true
     → 1 ≤ length p → length p ≤ most → received before ++ b ∷ [] ≡ frame ctr p
-    → openOf (run v s before) ≡ true → waits (run v s before) ≡ false
+    → sessionOf (run v s before) .opened ≡ true → hasAnswer (viewOf (run v s before)) ≡ false
     → AnsweredSoon n v (run v s before) cal meas b p later
 
 -- what waits of a list, p packets, leaves whole and in order by the counted slot `bound p`, unless the list is stopped or its session ends or is
@@ -68,7 +69,7 @@ WholeBy bound v =
 -- a captured sample leaves whole by the counted slot n, unless its list is stopped or its session ends or is renewed
 abbrev pub SampledBy : ℕ → Slave → Type 0
 SampledBy n v =
-    (s cal meas : List ℕ) (event clock l : ℕ) (cs : List Call) → consistent s ≡ true → event ≤ 1 → l < lists → samplingOf s l event ≡ Sampled
+    (s cal meas : List ℕ) (event clock l : ℕ) (cs : List Call) → consistent s ≡ true → event ≤ 1 → l < lists → samplingIn (sessionOf s) l event ≡ Sampled
     → Undisturbed v l (v .event s cal meas event clock .state) cs → n ≤ slots cs
     → Begins (sampleOf s l clock cal meas) (packetsIn l (frames v (v .event s cal meas event clock .state) cs))
 
@@ -76,9 +77,9 @@ pub record Demand3 (v : Slave) : Type 0 where
   -- an answer leaves in the first or second counted slot after its command
   pub answered : AnsweredBy 2 v
   -- so does an answer that waits, of whatever command
-  pub leaves : (s : List ℕ) (cs : List Call) → consistent s ≡ true → waits s ≡ true → 2 ≤ slots cs → LeavesWithin 2 v s (answerOf s) cs
+  pub leaves : (s : List ℕ) (cs : List Call) → consistent s ≡ true → hasAnswer (viewOf s) ≡ true → 2 ≤ slots cs → LeavesWithin 2 v s (viewOf s .answer) cs
   -- good messages meanwhile are number 6 and change the reader's place alone
-  pub meanwhile : (s cal meas : List ℕ) (b : ℕ) (p : List ℕ) → consistent s ≡ true → waits s ≡ true → packetEnded s b ≡ some p
+  pub meanwhile : (s cal meas : List ℕ) (b : ℕ) (p : List ℕ) → consistent s ≡ true → hasAnswer (viewOf s) ≡ true → packetEnded s b ≡ some p
       → (v .receive s cal meas b .received ≡ Unread) × ChangesOnly placeAt answerAt v s cal meas b
   -- p packets of a list leave by the counted slot 2 L p, and so a sample by the sixteenth
   pub whole : WholeBy (λ p. 2 * (lists * p)) v

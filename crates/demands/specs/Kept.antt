@@ -5,8 +5,9 @@ use mathlib.Core.Bool.{true, cond}
 use mathlib.Core.List.{List, [], _∷_, _++_}
 use lib.Dec.{ltb}
 use Rattle.state.specs.Layout.{lists}
-use Rattle.state.specs.State.{consistent, answerOf}
-use Rattle.lists.specs.Event.{samplingOf}
+use Rattle.state.specs.State.{consistent}
+use Rattle.model.specs.Calls.{samplingIn}
+use Rattle.model.specs.View.{sessionOf, viewOf}
 use Rattle.words.specs.declared.Received.{Received}
 use Rattle.words.specs.declared.Received.the-variants.{Nothing, Answered, Silent, BadLength, BadEscape, BadChecksum, Unread, CutOff, NoState}
 use Rattle.demands.specs.Slave.{Slave}
@@ -17,7 +18,7 @@ use Rattle.demands.specs.Waiting.{waitingAnswer, waitingOf, sampleOf, is
 -- an answer is accepted with number 1 alone
 abbrev pub answerBy : Received → List ℕ → List (List ℕ)
 answerBy Nothing s = []
-answerBy Answered s = answerOf s ∷ []
+answerBy Answered s = viewOf s .answer ∷ []
 answerBy Silent s = []
 answerBy BadLength s = []
 answerBy BadEscape s = []
@@ -38,7 +39,7 @@ accepted v s cs = each (accepts v) v s cs
 -- list l gains a sample at an event alone
 abbrev pub gains : ℕ → List ℕ → Call → List (List ℕ)
 gains l s (Byte cal meas b) = []
-gains l s (Event cal meas event clock) = cond (ltb 1 event) [] (cond (isSampled (samplingOf s l event)) (sampleOf s l clock cal meas) [])
+gains l s (Event cal meas event clock) = cond (ltb 1 event) [] (cond (isSampled (samplingIn (sessionOf s) l event)) (sampleOf s l clock cal meas) [])
 gains l s (SendingSlot out) = []
 gains l s Elsewhere = []
 

@@ -6,14 +6,14 @@ use mathlib.Core.Bool.{Bool, true, false, cond}
 use mathlib.Core.Option.{Option, none, some}
 use mathlib.Core.List.{List}
 use lib.Dec.{eqb}
-use Rattle.state.specs.State.{consistent, openOf, unlockedOf, answerOf}
+use Rattle.state.specs.State.{consistent}
 use Rattle.words.specs.Number.{receivedNumber}
 use Rattle.words.specs.declared.Resource.the-variants.{Lists}
 use Rattle.session.specs.Receive.{Step}
 use Rattle.model.specs.Model.{Bytes}
 use Rattle.views.specs.Commands.{Fresh}
 use Rattle.views.specs.Locked.{SettingsKept, endsSession}
-use Rattle.model.specs.View.{sessionOf}
+use Rattle.model.specs.View.{sessionOf, viewOf}
 use Rattle.demands.specs.Slave.{Slave}
 use Rattle.demands.specs.Heard.{packetEnded}
 
@@ -24,13 +24,13 @@ endsBy (some p) answer = endsSession p answer
 
 -- byte b ends a command that is answered, and that ends or renews the session
 abbrev pub endsAt : Step → List ℕ → ℕ → Bool
-endsAt o s b = cond (eqb (receivedNumber (o .received)) 1) (endsBy (packetEnded s b) (answerOf (o .state))) false
+endsAt o s b = cond (eqb (receivedNumber (o .received)) 1) (endsBy (packetEnded s b) (viewOf (o .state) .answer)) false
 
 pub record ListsLocked (v : Slave) : Type 0 where
   -- a byte, while lists are locked or no session is open
-  pub kept : (s cal meas : List ℕ) (b : ℕ) → consistent s ≡ true → Bytes s → b < 256 → (openOf s ≡ true → unlockedOf s Lists ≡ false)
+  pub kept : (s cal meas : List ℕ) (b : ℕ) → consistent s ≡ true → Bytes s → b < 256 → (sessionOf s .opened ≡ true → sessionOf s .unlocked Lists ≡ false)
       → endsAt (v .receive s cal meas b) s b ≡ false → SettingsKept (sessionOf s) (sessionOf (v .receive s cal meas b .state))
-  pub fresh : (s cal meas : List ℕ) (b : ℕ) → consistent s ≡ true → Bytes s → b < 256 → (openOf s ≡ true → unlockedOf s Lists ≡ false)
+  pub fresh : (s cal meas : List ℕ) (b : ℕ) → consistent s ≡ true → Bytes s → b < 256 → (sessionOf s .opened ≡ true → sessionOf s .unlocked Lists ≡ false)
       → endsAt (v .receive s cal meas b) s b ≡ true → Fresh (sessionOf s) (sessionOf (v .receive s cal meas b .state))
   -- an event and a slot, at any time
   pub event : (s cal meas : List ℕ) (number clock : ℕ) → SettingsKept (sessionOf s) (sessionOf (v .event s cal meas number clock .state))

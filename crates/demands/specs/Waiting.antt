@@ -3,15 +3,14 @@ use Prim.Native.Nat.{ℕ}
 use mathlib.Core.Path.{_≡_}
 use mathlib.Core.Bool.{Bool, true, false, cond}
 use mathlib.Core.List.{List, [], _∷_}
-use lib.Dec.{eqb, leb}
+use lib.Dec.{eqb, ltb, leb}
 use lib.ListN.{length, getD, take, drop}
 use Rattle.line.specs.Wire.{unstuff}
 use Rattle.state.specs.Layout.{listOf}
 use Rattle.state.specs.Bytes.{block}
-use Rattle.state.specs.State.{waits, answerOf}
-use Rattle.model.specs.Model.{waitingIn}
+use Rattle.model.specs.Model.{Slave, waitingIn}
 use Rattle.model.specs.Calls.{sampleIn}
-use Rattle.model.specs.View.{sessionOf}
+use Rattle.model.specs.View.{sessionOf, viewOf}
 use Rattle.model.specs.declared.Sampling.{Sampling}
 use Rattle.model.specs.declared.Sampling.the-variants.{Idle, Sampled, Missed}
 
@@ -21,9 +20,13 @@ pub record AllBut (lo hi : ℕ) (s t : List ℕ) : Type 0 where
   pub front : take lo t ≡ take lo s
   pub back : drop hi t ≡ drop hi s
 
+-- an answer waits
+abbrev pub hasAnswer : Slave → Bool
+hasAnswer v = ltb 0 (length (v .answer))
+
 -- the waiting answer, if one waits
 abbrev pub waitingAnswer : List ℕ → List (List ℕ)
-waitingAnswer s = cond (waits s) (answerOf s ∷ []) []
+waitingAnswer s = cond (hasAnswer (viewOf s)) (viewOf s .answer ∷ []) []
 
 -- the packets of list l that wait, in the order in which they leave
 abbrev pub waitingOf : List ℕ → ℕ → List (List ℕ)

@@ -6,7 +6,7 @@ use native.Mathlib.Omega.{arith}
 use lib.Dec.{lit≤}
 use lib.ListN.{length, length-append, getD, replicate}
 use Rattle.line.specs.Message.{room, frame}
-use Rattle.state.specs.State.{ctrOf}
+use Rattle.model.specs.View.{viewOf}
 use Rattle.demands.specs.Slave.{Slave, ours}
 use Rattle.demands.specs.Runs.{Call, Byte, Event, SendingSlot, Elsewhere, run, frames, sends}
 use Rattle.demands.specs.Waiting.{answersIn}
@@ -29,10 +29,10 @@ none-before out out′ (c ∷ cs) later e = absurd (omega (arith, ap length e, l
 that-slot : (out out′ : List ℕ) (before later : List Call) → before ≡ [] → SendingSlot out ∷ [] ≡ before ++ SendingSlot out′ ∷ later → out′ ≡ out
 that-slot out out′ before later n e = sym (ap lent (subst (λ cs. SendingSlot out ∷ [] ≡ cs ++ SendingSlot out′ ∷ later) n e))
 
-in-the-first : (n : ℕ) (v : Slave) (s a out : List ℕ) → LeavesWithin n v s a (SendingSlot out ∷ []) → sends v s (SendingSlot out) ≡ frame (ctrOf s) a ∷ []
+in-the-first : (n : ℕ) (v : Slave) (s a out : List ℕ) → LeavesWithin n v s a (SendingSlot out ∷ []) → sends v s (SendingSlot out) ≡ frame (viewOf s .ctr) a ∷ []
 in-the-first n v s a out w =
     let e : w .before ≡ [] = none-before out (w .out) (w .before) (w .later) (w .split) in
-    subst₂ (λ cs o. sends v (run v s cs) (SendingSlot o) ≡ frame (ctrOf (run v s cs)) a ∷ []) e (that-slot out (w .out) (w .before) (w .later) e (w .split)) (w .sent)
+    subst₂ (λ cs o. sends v (run v s cs) (SendingSlot o) ≡ frame (viewOf (run v s cs) .ctr) a ∷ []) e (that-slot out (w .out) (w .before) (w .later) e (w .split)) (w .sent)
 
 -- ---- the run: list 0 runs and the last frame was an answer; an event samples the list, and SYNCH comes
 abbrev calls : List Call

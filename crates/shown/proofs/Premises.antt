@@ -1,6 +1,6 @@
 -- Runs of ours that meet premises which no other run here meets: a good message while an answer waits; a wrong key, and DISCONNECT in its place.
 -- Assumes nothing.
-use Rattle.demands.specs.Waiting.{AllBut}
+use Rattle.demands.specs.Waiting.{AllBut, hasAnswer}
 use Prim.Native.Nat.{ℕ}
 use mathlib.Core.Path.{_≡_, refl}
 use mathlib.Core.Bool.{true}
@@ -8,7 +8,9 @@ use mathlib.Core.Option.{some}
 use mathlib.Core.List.{List, [], _∷_, _++_}
 use lib.ListN.{getD}
 use Rattle.state.specs.Layout.{placeAt, sessionAt}
-use Rattle.state.specs.State.{consistent, waits, answerOf}
+use Rattle.state.specs.State.{consistent}
+use Rattle.model.specs.Model.{byte}
+use Rattle.model.specs.View.{sessionOf, viewOf}
 use Rattle.words.specs.declared.Received.the-variants.{Unread}
 use Rattle.demands.specs.Slave.{ours}
 use Rattle.demands.specs.Heard.{packetEnded, Commands, wrongKey}
@@ -19,7 +21,7 @@ use Rattle.shown.proofs.Computed.{computed}
 abbrev waiting : List ℕ
 waiting = reached ours (says [] [] connect ++ begun [] [] synch)
 
-pub meanwhile-met : (consistent waiting ≡ true) × (waits waiting ≡ true) × (packetEnded waiting (lastByte synch) ≡ some synch)
+pub meanwhile-met : (consistent waiting ≡ true) × (hasAnswer (viewOf waiting) ≡ true) × (packetEnded waiting (lastByte synch) ≡ some synch)
     × (ours .receive waiting [] [] (lastByte synch) .received ≡ Unread)
 unfolding computed
 meanwhile-met = (refl, refl, refl, refl)
@@ -28,12 +30,12 @@ meanwhile-met = (refl, refl, refl, refl)
 abbrev seeded : List ℕ → List ℕ
 seeded p = reached ours (askAll [] [] (connect ∷ seedOfCalibration ∷ []) ++ begun [] [] p)
 
-pub wrong-key-met : (consistent (seeded keyOfLists) ≡ true) × Commands (seeded keyOfLists) (lastByte keyOfLists) keyOfLists × (wrongKey keyOfLists (seeded keyOfLists) ≡ true)
-    × (answerOf (ours .receive (seeded keyOfLists) [] [] (lastByte keyOfLists) .state) ≡ 0xFE ∷ 0x25 ∷ [])
+pub wrong-key-met : (consistent (seeded keyOfLists) ≡ true) × Commands (seeded keyOfLists) (lastByte keyOfLists) keyOfLists × (wrongKey keyOfLists (sessionOf (seeded keyOfLists)) ≡ true)
+    × (viewOf (ours .receive (seeded keyOfLists) [] [] (lastByte keyOfLists) .state) .answer ≡ 0xFE ∷ 0x25 ∷ [])
 unfolding computed
 wrong-key-met = (refl, record { ends = refl; opened = refl; free = refl }, refl, refl)
 
-pub disconnect-met : (consistent (seeded disconnect) ≡ true) × Commands (seeded disconnect) (lastByte disconnect) disconnect × (getD disconnect 0 0 ≡ 0xFE)
+pub disconnect-met : (consistent (seeded disconnect) ≡ true) × Commands (seeded disconnect) (lastByte disconnect) disconnect × (byte disconnect 0 ≡ 0xFE)
     × AllBut placeAt sessionAt (seeded keyOfLists) (seeded disconnect)
 unfolding computed
 disconnect-met = (refl, record { ends = refl; opened = refl; free = refl }, refl, record { long = refl; front = refl; back = refl })

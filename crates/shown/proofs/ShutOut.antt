@@ -14,18 +14,18 @@ use Rattle.line.specs.Wire.{heard}
 use Rattle.line.specs.declared.Place.the-variants.{Outside}
 use Rattle.line.specs.declared.Outcome.the-variants.{Nothing}
 use Rattle.state.specs.Layout.{addressAt, sessionAt}
-use Rattle.state.specs.State.{consistent, ctrOf, openOf, mtaOf, waits, answerOf}
-use Rattle.lists.specs.Slot.{turnOf}
+use Rattle.state.specs.State.{consistent}
 use Rattle.words.specs.Number.{receivedNumber, eventedValue}
 use Rattle.session.specs.PowerUp.{powered}
 use Rattle.words.specs.declared.Resource.the-variants.{Calibration}
 use Rattle.words.specs.declared.Extension.the-variants.{Calibration as CalibrationMemory}
 use Rattle.words.specs.declared.Mta.{Mta}
 use Rattle.words.specs.declared.Mta.the-variants.{At}
-use Rattle.model.specs.Calls.{packetFor}
-use Rattle.model.specs.View.{viewOf}
+use Rattle.model.specs.Calls.{turnIn, packetFor}
+use Rattle.model.specs.View.{sessionOf, viewOf}
 use Rattle.demands.specs.Slave.{Slave}
 use Rattle.demands.specs.Runs.{Byte, Event, SendingSlot}
+use Rattle.demands.specs.Waiting.{hasAnswer}
 use Rattle.demands.specs.Heard.{packetEnded}
 use Rattle.demands.specs.Demand1.{Demand1}
 use Rattle.demands.specs.Demand2.{Demand2, ReadsBack}
@@ -38,7 +38,7 @@ use Rattle.shown.proofs.Computed.{computed}
 pub refusesAlways-fails : Demand2 refusesAlways → ⊥
 unfolding computed
 refusesAlways-fails d =
-    let e : _≡_ {A = ℕ} 0xFE 0xFF = ap (λ o. getD (answerOf (o .state)) 0 0) (d .reads (reached refusesAlways (begun [] [] connect)) [] [] (lastByte connect) refl)
+    let e : _≡_ {A = ℕ} 0xFE 0xFF = ap (λ o. getD (viewOf (o .state) .answer) 0 0) (d .reads (reached refusesAlways (begun [] [] connect)) [] [] (lastByte connect) refl)
     in omega arith
 
 -- CONNECT is answered, and SYNCH is not
@@ -91,16 +91,16 @@ record Exchanged : Type 0 where
   second : List ℕ
 
 standing : List ℕ → ℕ → Standing
-standing s b = record { sound = consistent s; ended = packetEnded s b; opened = openOf s; waiting = waits s; place = mtaOf s }
+standing s b = record { sound = consistent s; ended = packetEnded s b; opened = sessionOf s .opened; waiting = hasAnswer (viewOf s); place = sessionOf s .mta }
 
 -- DOWNLOAD of 7 to the first place of a memory that holds 0, and UPLOAD of it
 exchanged : Slave → List ℕ → List ℕ → Exchanged
 exchanged v s t =
     record {
       before = standing s (lastByte (downloadOne 7));
-      first = answerOf (v .receive s (0 ∷ []) [] (lastByte (downloadOne 7)) .state);
+      first = viewOf (v .receive s (0 ∷ []) [] (lastByte (downloadOne 7)) .state) .answer;
       between = standing t (lastByte (upload 1));
-      second = answerOf (v .receive t (v .receive s (0 ∷ []) [] (lastByte (downloadOne 7)) .cal) [] (lastByte (upload 1)) .state);
+      second = viewOf (v .receive t (v .receive s (0 ∷ []) [] (lastByte (downloadOne 7)) .cal) [] (lastByte (upload 1)) .state) .answer;
     }
 
 -- both commands are heard, the first is answered FF, the second a
@@ -140,8 +140,8 @@ allAtOnce-fails d =
     let e : _≡_ {A = ℕ} 19 7 = ap (λ fs. length (getD fs 0 [])) (d .numbers (reached allAtOnce (measuring (5 ∷ []))) (Event [] (5 ∷ []) 0 0 ∷ SendingSlot (replicate 46 0) ∷ []) refl (lit< tt)) in omega arith
 
 -- a frame that reads back carries the packet whose turn it was
-read-back : (f s p : List ℕ) → packetFor (turnOf s) (viewOf s) ≡ p ∷ [] → ReadsBack (f ∷ []) s → line.run Outside (replicate longest 0) f ≡ heard Outside (replicate longest 0) (ctrOf s) p
-read-back f s p e r = subst (λ q. line.run Outside (replicate longest 0) f ≡ heard Outside (replicate longest 0) (ctrOf s) q) (ap (λ ps. getD ps 0 []) (sym (r .2) ∙ e)) (r .3 Outside (replicate longest 0) (lit≤ tt))
+read-back : (f s p : List ℕ) → packetFor (turnIn (viewOf s)) (viewOf s) ≡ p ∷ [] → ReadsBack (f ∷ []) s → line.run Outside (replicate longest 0) f ≡ heard Outside (replicate longest 0) (viewOf s .ctr) p
+read-back f s p e r = subst (λ q. line.run Outside (replicate longest 0) f ≡ heard Outside (replicate longest 0) (viewOf s .ctr) q) (ap (λ ps. getD ps 0 []) (sym (r .2) ∙ e)) (r .3 Outside (replicate longest 0) (lit≤ tt))
 
 -- the frame of FF 9A reads as one with a wrong checksum
 pub sumsEscaped-fails : Demand2 sumsEscaped → ⊥

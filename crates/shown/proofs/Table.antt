@@ -6,20 +6,21 @@ use mathlib.Core.Option.{Option, some}
 use mathlib.Core.List.{List, [], _∷_}
 use lib.ListN.{length}
 use lib.Seq.{sets}
-use Rattle.session.proofs.Heeding.{heeded-is}
 use Rattle.state.specs.Layout.{addressable}
-use Rattle.state.specs.State.{consistent, openOf, waits, answerOf}
-use Rattle.look.specs.Look.{judgeOf}
-use Rattle.session.specs.Receive.{obeyed, heeded}
+use Rattle.state.specs.State.{consistent}
+use Rattle.session.specs.Receive.{obeyed}
+use Rattle.model.specs.Judge.{judgeIn}
+use Rattle.model.specs.View.{sessionOf, viewOf}
 use Rattle.model.specs.declared.Deed.{Deed}
 use Rattle.model.specs.declared.Deed.the-variants.{Refuse, Download}
 use Rattle.words.specs.declared.Reason.the-variants.{NotInside}
 use Rattle.demands.specs.Slave.{Slave}
-use Rattle.demands.specs.Heard.{packetEnded, readBy, deedOf}
+use Rattle.demands.specs.Waiting.{hasAnswer}
+use Rattle.demands.specs.Heard.{packetEnded, readBy}
 use Rattle.demands.specs.Demand2.{Demand2}
 use Rattle.shown.specs.Exchange.{lastByte}
 use Rattle.shown.specs.Table.{Comes, Holds, connectFrame, connectAnswer, synchFrame, synchAnswer, escapedPacket, escapedCtr, seedGiven, calibrationKey, calibrationOpens, listsKey, listsOpen, weightSent, sixDone, sixRefused, sevenRefused, fiveStarts, sixStarts, table, download, sixBegunAt}
-use Rattle.demands.proofs.Received.{heeded-whole}
+use Rattle.demands.proofs.Received.{received-by, commanded}
 use Rattle.shown.proofs.Computed.{computed}
 
 -- ---- row by row
@@ -96,10 +97,6 @@ pub bench-sheet : Holds table
 bench-sheet = (connect-frame, (connect-answer, (synch-frame, (synch-answer, (escaped-packet, (escaped-ctr, (seed-given, (calibration-key, (calibration-opens, (lists-key, (lists-open, (weight-sent, (six-done, (six-refused, (seven-refused, (five-starts, (six-starts, tt)))))))))))))))))
 
 -- ---- case 8 with whatever memory of 4,096 bytes, of every slave that meets demand 2
--- a command that is heeded in an open session
-obeys : (p s cal meas : List ℕ) → waits s ≡ false → openOf s ≡ true → heeded p s cal meas ≡ obeyed (deedOf p s cal meas) p s cal meas
-obeys p s cal meas w o = heeded-is p s cal meas ∙ simp (w, o)
-
 -- how DOWNLOAD of 6 stands at its last byte b
 record Standing : Type 0 where
   sound : Bool
@@ -108,37 +105,37 @@ record Standing : Type 0 where
   opened : Bool
 
 standing : List ℕ → ℕ → Standing
-standing s b = record { sound = consistent s; ended = packetEnded s b; waiting = waits (readBy s b); opened = openOf (readBy s b) }
+standing s b = record { sound = consistent s; ended = packetEnded s b; waiting = hasAnswer (viewOf s); opened = sessionOf s .opened }
 
 ready : Standing
 ready = record { sound = true; ended = some (download 6); waiting = false; opened = true }
 
 -- the deed follows from the memory's length
-six : (v : Slave) (s cal meas : List ℕ) (b : ℕ) (d : Deed) → Demand2 v → standing s b ≡ ready → length cal ≡ addressable → ((nm : ℕ) → judgeOf (download 6) (readBy s b) addressable nm ≡ d)
+six : (v : Slave) (s cal meas : List ℕ) (b : ℕ) (d : Deed) → Demand2 v → standing s b ≡ ready → length cal ≡ addressable → ((nm : ℕ) → judgeIn (download 6) (sessionOf s) addressable nm ≡ d)
     → v .receive s cal meas b ≡ obeyed d (download 6) (readBy s b) cal meas
 unfolding standing ready
 six v s cal meas b d meets e long j =
-    meets .reads s cal meas b (ap (λ x. x .sound) e)
-    ∙ (heeded-whole s cal meas b (download 6) (ap (λ x. x .ended) e)
-    ∙ obeys (download 6) (readBy s b) cal meas (ap (λ x. x .waiting) e) (ap (λ x. x .opened) e)
-    ∙ ap (λ x. obeyed x (download 6) (readBy s b) cal meas) (subst (λ n. judgeOf (download 6) (readBy s b) n (length meas) ≡ d) (sym long) (j (length meas))))
+    let c : consistent s ≡ true = ap (λ x. x .sound) e in
+    meets .reads s cal meas b c ∙ sym (received-by s cal meas b c)
+    ∙ commanded s cal meas b (download 6) c (record { ends = ap (λ x. x .ended) e; opened = ap (λ x. x .opened) e; free = ap (λ x. x .waiting) e })
+    ∙ ap (λ x. obeyed x (download 6) (readBy s b) cal meas) (subst (λ n. judgeIn (download 6) (sessionOf s) n (length meas) ≡ d) (sym long) (j (length meas)))
 
 -- at 4,090 the answer is FF, and the six bytes are written
 pub six-at-4090 : (v : Slave) (cal meas : List ℕ) → Demand2 v → length cal ≡ addressable
-    → (answerOf (v .receive (sixBegunAt 0xFA 0x0F) cal meas (lastByte (download 6)) .state) ≡ 0xFF ∷ [])
+    → (viewOf (v .receive (sixBegunAt 0xFA 0x0F) cal meas (lastByte (download 6)) .state) .answer ≡ 0xFF ∷ [])
     × (v .receive (sixBegunAt 0xFA 0x0F) cal meas (lastByte (download 6)) .cal ≡ sets cal 4090 (1 ∷ 2 ∷ 3 ∷ 4 ∷ 5 ∷ 6 ∷ []))
 unfolding computed standing ready
 six-at-4090 v cal meas meets long =
     let e : v .receive (sixBegunAt 0xFA 0x0F) cal meas (lastByte (download 6)) ≡ obeyed (Download 4090 6) (download 6) (readBy (sixBegunAt 0xFA 0x0F) (lastByte (download 6))) cal meas
     = six v (sixBegunAt 0xFA 0x0F) cal meas (lastByte (download 6)) (Download 4090 6) meets refl long (λ nm. refl) in
-    (ap (λ o. answerOf (o .state)) e, ap (λ o. o .cal) e)
+    (ap (λ o. viewOf (o .state) .answer) e, ap (λ o. o .cal) e)
 
 -- at 4,091 the answer is FE 24, and no byte changes
 pub six-at-4091 : (v : Slave) (cal meas : List ℕ) → Demand2 v → length cal ≡ addressable
-    → (answerOf (v .receive (sixBegunAt 0xFB 0x0F) cal meas (lastByte (download 6)) .state) ≡ 0xFE ∷ 0x24 ∷ [])
+    → (viewOf (v .receive (sixBegunAt 0xFB 0x0F) cal meas (lastByte (download 6)) .state) .answer ≡ 0xFE ∷ 0x24 ∷ [])
     × (v .receive (sixBegunAt 0xFB 0x0F) cal meas (lastByte (download 6)) .cal ≡ cal)
 unfolding computed standing ready
 six-at-4091 v cal meas meets long =
     let e : v .receive (sixBegunAt 0xFB 0x0F) cal meas (lastByte (download 6)) ≡ obeyed (Refuse NotInside) (download 6) (readBy (sixBegunAt 0xFB 0x0F) (lastByte (download 6))) cal meas
     = six v (sixBegunAt 0xFB 0x0F) cal meas (lastByte (download 6)) (Refuse NotInside) meets refl long (λ nm. refl) in
-    (ap (λ o. answerOf (o .state)) e, ap (λ o. o .cal) e)
+    (ap (λ o. viewOf (o .state) .answer) e, ap (λ o. o .cal) e)

@@ -7,8 +7,9 @@ use Rattle.line.specs.Message.{frame}
 use Rattle.state.specs.Layout.{ctrAt, addressable}
 use Rattle.state.specs.Bytes.{bytes32}
 use Rattle.state.specs.Generator.{keyOf}
-use Rattle.look.specs.Look.{judgeOf}
-use Rattle.session.specs.Perform.{reply}
+use Rattle.model.specs.Answers.{replyIn}
+use Rattle.model.specs.Judge.{judgeIn}
+use Rattle.model.specs.View.{sessionOf}
 use Rattle.session.specs.PowerUp.{powered}
 use Rattle.words.specs.declared.Resource.the-variants.{Calibration, Lists}
 use Rattle.demands.specs.Slave.{ours}
@@ -53,7 +54,7 @@ sixBegunAt a b = run ours (writableAt a b) (begun [] [] (download 6))
 
 -- the answer to DOWNLOAD of 6 with 4,096 bytes lent
 abbrev pub sixAt : ℕ → ℕ → List ℕ
-sixAt a b = reply (judgeOf (download 6) (writableAt a b) addressable 0) (writableAt a b) [] []
+sixAt a b = replyIn (judgeIn (download 6) (sessionOf (writableAt a b)) addressable 0) (sessionOf (writableAt a b)) [] []
 
 -- the start of list 0, whose ODT 0 has an entry of 4 bytes and one of n
 abbrev pub startWith : ℕ → List Call

@@ -59,11 +59,11 @@ use Rattle.lists.specs.Slot.{turnOf, Slot, nextCtr, answerSent, packetSent, sen
 use Rattle.lists.proofs.Fitting.{Fitting, sampling-fits, fit-each}
 use Rattle.lists.proofs.Gathered.{contents-most}
 use Rattle.lists.proofs.Sending.{Within, turn-within}
-use Rattle.session.specs.Look.{judgeOf}
+use Rattle.look.specs.Look.{judgeOf}
 use Rattle.session.specs.Perform.{effect, reply}
 use Rattle.session.specs.PowerUp.{powered, powerUpOf}
 use Rattle.session.specs.Receive.{Step, obeyed, heededBy, heeded, meant, readOn, fedOf, receiveOf}
-use Rattle.session.proofs.Looked.{judged-doable}
+use Rattle.look.proofs.Looked.{judged-doable}
 use Rattle.fields.proofs.Effects.{answering}
 use Rattle.views.proofs.Bytes.{bytes-cons, bytes-four, bytes-set, bytes-take, bytes-drop, bytes-block, fed-bytes}
 use Rattle.views.proofs.Fit.{Fit, generator-fits, judged-fits}

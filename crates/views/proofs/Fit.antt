@@ -81,7 +81,7 @@ pub generator-fits : (s : List ℕ) → Bytes s → generatorOf s < 2 ^ 32
 unfolding generatorOf startOf
 generator-fits s w = cond-ind (λ (n : ℕ). n < 2 ^ 32) (eqb (u32At s generatorAt) 0) (λ _. omega arith) (λ _. number-fits s generatorAt w)
 
-entry-low : (a n len : ℕ) → insideOf a n len ≡ true → a < 2 ^ 16
+pub entry-low : (a n len : ℕ) → insideOf a n len ≡ true → a < 2 ^ 16
 entry-low a n len e = omega (arith, inside-le a n len e)
 
 -- ---- command by command

@@ -4,6 +4,7 @@ pub mod Bytes
 pub mod Fit
 pub mod Shows
 pub mod Effect
+pub mod Stepped
 pub mod Calls
 pub mod Waits
 pub mod Done

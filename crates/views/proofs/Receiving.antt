@@ -24,7 +24,7 @@ use Rattle.state.proofs.Consistent.{consistent-size}
 use Rattle.words.specs.declared.Received.the-variants.{Answered}
 use Rattle.judge.specs.Doable.{Doable}
 use Rattle.session.specs.Receive.{heededBy, heeded, meant, fedOf, readOn, receivedBy, receiveOf}
-use Rattle.session.proofs.Looked.{judged-doable}
+use Rattle.look.proofs.Looked.{judged-doable}
 use Rattle.fields.proofs.Fields.{Counted}
 use Rattle.fields.proofs.Frames.{Only, only-readOn}
 use Rattle.fields.proofs.Readers.{apart, generator-reads}

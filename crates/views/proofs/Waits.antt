@@ -13,7 +13,7 @@ use Rattle.line.proofs.Laws.{cond-ind}
 use Rattle.state.specs.Layout.{firstOdt, odtCount}
 use Rattle.model.specs.declared.Sampling.{Sampling}
 use Rattle.model.specs.declared.Sampling.the-variants.{Idle, Sampled, Missed}
-use Rattle.model.specs.Model.{Odt, DaqList, Session, runsIn, hasPacket, somePacket, inStore, inStores, waiting, waitingIn}
+use Rattle.model.specs.Model.{Odt, DaqList, Session, runsIn, hasPacket, somePacket, inStore, inStores, waiting, waitingIn, runs}
 use Rattle.model.specs.Step.{emptied, at}
 use Rattle.model.specs.Calls.{withoutPacket, samplingIn, contentsIn, sampled, packetWith, sampleFrom, sampleIn}
 use Rattle.model.proofs.Bounded.{either}
@@ -34,10 +34,13 @@ module _ (l : ℕ) (x z : DaqList) where
   packets-same zero h = refl
   packets-same (suc n) h = ap₂ (λ (b c : Bool). cond b true c) (packets-same n (λ i p. h i (omega arith))) (ap (λ (bs : List ℕ). ltb 0 (length bs)) (h n (omega arith)))
 
+  pub waits-alike : (o p : Bool) → runs o l x ≡ runs p l z → ((i : ℕ) → i < odtCount l → x .odt i .store ≡ z .odt i .store) → waiting o l x ≡ waiting p l z
+  unfolding waiting
+  waits-alike o p run stores = ap₂ (λ (b : Bool) (ps : List (List ℕ)). cond b ps []) run (stores-same 0 (odtCount l) (λ i _ h. stores i (omega arith)))
+
 module _ (c d : Session) (l : ℕ) (run : runsIn c l ≡ runsIn d l) (stores : (o : ℕ) → o < odtCount l → c .list l .odt o .store ≡ d .list l .odt o .store) where
   pub waiting-same : waitingIn c l ≡ waitingIn d l
-  unfolding waiting
-  waiting-same = ap₂ (λ (b : Bool) (ps : List (List ℕ)). cond b ps []) run (stores-same l (c .list l) (d .list l) 0 (odtCount l) (λ i p q. stores i (omega arith)))
+  waiting-same = waits-alike l (c .list l) (d .list l) (c .opened) (d .opened) run stores
 
   pub sampling-same : (event : ℕ) → c .list l .mode ≡ d .list l .mode → samplingIn c l event ≡ samplingIn d l event
   unfolding samplingIn
@@ -46,9 +49,9 @@ module _ (c d : Session) (l : ℕ) (run : runsIn c l ≡ runsIn d l) (stores : (
       (ap₂ (λ (r u : Bool). cond r (cond u Missed Sampled) Idle) run (packets-same l (c .list l) (d .list l) (odtCount l) stores))
 
 -- ---- nothing waits of a list that does not run
-pub rests : (c : Session) (l : ℕ) → runsIn c l ≡ false → waitingIn c l ≡ []
+pub rests : (o : Bool) (l : ℕ) (x : DaqList) → runs o l x ≡ false → waiting o l x ≡ []
 unfolding waiting
-rests c l e = ap (λ (b : Bool). cond b (inStores l (c .list l) 0 (odtCount l)) []) e
+rests o l x e = ap (λ (b : Bool). cond b (inStores l x 0 (odtCount l)) []) e
 
 -- ODTs with nothing in store are passed over
 abbrev pub Empty : DaqList → ℕ → ℕ → Type 0
@@ -67,11 +70,11 @@ skipped l x o (suc d) n z =
       further i = omega arith
 
 -- nothing waits of a list with nothing in store
-pub none-waits : (c : Session) (l : ℕ) → Empty (c .list l) 0 (odtCount l) → waitingIn c l ≡ []
+pub none-waits : (o : Bool) (l : ℕ) (x : DaqList) → Empty x 0 (odtCount l) → waiting o l x ≡ []
 unfolding waiting inStores
-none-waits c l z =
-    let none : inStores l (c .list l) 0 (odtCount l) ≡ [] = skipped l (c .list l) 0 (odtCount l) 0 z in
-    cond-ind (λ (ps : List (List ℕ)). ps ≡ []) (runsIn c l) (λ _. none) (λ _. refl)
+none-waits o l x z =
+    let none : inStores l x 0 (odtCount l) ≡ [] = skipped l x 0 (odtCount l) 0 z in
+    cond-ind (λ (ps : List (List ℕ)). ps ≡ []) (runs o l x) (λ _. none) (λ _. refl)
 
 -- ---- a packet is sent: the other lists' packets wait as they did
 pub sent-others : (c : Session) (j d l : ℕ) → l ≢ j → waitingIn (at j (withoutPacket d) c) l ≡ waitingIn c l
