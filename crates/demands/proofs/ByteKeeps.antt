@@ -13,7 +13,7 @@ use Rattle.state.specs.Layout.{packetMost, ctrAt, servedAt, lastAt, placeAt}
 use Rattle.state.specs.State.{consistent}
 use Rattle.session.specs.Perform.{effect, reply, after}
 use Rattle.session.specs.Receive.{Step, receiveOf}
-use Rattle.model.specs.Model.{DaqList, Session, Slave, waiting, waitingIn}
+use Rattle.model.specs.Model.{DaqList, Session, Slave, waiting, waitingIn, hasAnswer}
 use Rattle.model.specs.Step.{stepIn}
 use Rattle.model.specs.View.{sessionOf, viewOf}
 use Rattle.words.specs.Number.{receivedNumber}
@@ -26,7 +26,7 @@ use Rattle.fields.proofs.Effects.{effected, answering, after-waits}
 use Rattle.demands.specs.Slave.{ours}
 use Rattle.demands.specs.Runs.{Byte}
 use Rattle.demands.specs.Heard.{readBy, Commands, deedOf, stops, stopsBy, stopsAt}
-use Rattle.demands.specs.Waiting.{hasAnswer, waitingAnswer, waitingOf}
+use Rattle.demands.specs.Waiting.{waitingAnswer, waitingOf}
 use Rattle.demands.specs.Kept.{answerBy, accepts}
 use Rattle.views.proofs.Calls.{session-reads}
 use Rattle.views.proofs.Stepped.{Steps, stepped}

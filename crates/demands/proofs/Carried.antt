@@ -14,10 +14,10 @@ use Rattle.line.proofs.Stuffed.{unstuff-stuff}
 use Rattle.line.proofs.Laws.{cond-ind}
 use Rattle.state.specs.Layout.{size, listOf, allOdts, answerBytesAt}
 use Rattle.state.specs.State.{answerLength, answerKind, answerOf}
-use Rattle.model.specs.Model.{Session}
+use Rattle.model.specs.Model.{Session, hasAnswer}
 use Rattle.model.specs.Calls.{packetFrom}
 use Rattle.model.specs.View.{viewOf}
-use Rattle.demands.specs.Waiting.{hasAnswer, packetInside, packetRead, isAnswer, isOf, carried}
+use Rattle.demands.specs.Waiting.{packetInside, packetRead, isAnswer, isOf, carried}
 use Rattle.demands.proofs.ReadBy.{waits-shown}
 
 -- a message's packet

@@ -14,13 +14,13 @@ use Rattle.lists.specs.Slot.{slotOf}
 use Rattle.model.specs.declared.Turn.{Turn}
 use Rattle.model.specs.declared.Turn.the-variants.{Packet}
 use Rattle.state.proofs.Consistent.{consistent-size}
-use Rattle.model.specs.Model.{Slave, waitingIn}
+use Rattle.model.specs.Model.{Slave, waitingIn, hasAnswer}
 use Rattle.model.specs.Calls.{turnIn, packetFrom, packetFor, packetGone}
 use Rattle.model.specs.View.{viewOf}
 use Rattle.demands.specs.Slave.{ours}
 use Rattle.demands.specs.Runs.{Call, Byte, Event, SendingSlot, Elsewhere, afterCall, run, sends, each, frames}
 use Rattle.demands.specs.Heard.{stopsAt}
-use Rattle.demands.specs.Waiting.{hasAnswer, waitingAnswer, waitingOf, isAnswer, isOf, carried, answersIn}
+use Rattle.demands.specs.Waiting.{waitingAnswer, waitingOf, isAnswer, isOf, carried, answersIn}
 use Rattle.demands.specs.Kept.{accepts, gains, goes as goesOf, NothingLost}
 use Rattle.demands.proofs.Reached.{after-kept}
 use Rattle.demands.proofs.Turns.{Fair, nobody, answer, list, fair}
@@ -100,7 +100,7 @@ stopped-or-kept false w = sym (append-nil w)
 packets-step : (l : ℕ) → l < lists → (s : List ℕ) (c : Call) → consistent s ≡ true → goesOf ours l s c ++ waitingOf (afterCall ours s c) l ≡ waitingOf s l ++ gains l s c
 unfolding viewOf
 packets-step l q s (Byte cal meas b) h = rw (byte-waiting s cal meas b h l) (stopped-or-kept (stopsAt l s cal meas b) (waitingOf s l))
-packets-step l q s (Event cal meas event clock) h = event-waiting s cal meas event clock l h q
+packets-step l q s (Event cal meas event clock) h = event-waiting s cal meas event clock l h
 packets-step l q s (SendingSlot out) h = slot-balanced (isOf l) (λ (v : Slave). waitingIn (v .session) l) s out h (λ t f. packet-turn s l t (consistent-size s h) f)
 packets-step l q s Elsewhere h = sym (append-nil (waitingOf s l))
 

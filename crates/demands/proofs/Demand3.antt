@@ -11,6 +11,7 @@ use Rattle.state.specs.Layout.{placeAt, answerAt}
 use Rattle.state.specs.State.{consistent}
 use Rattle.session.specs.Receive.{Step, only, receiveOf}
 use Rattle.model.specs.Heed.{heedingIn}
+use Rattle.model.specs.Model.{hasAnswer}
 use Rattle.model.specs.View.{sessionOf, viewOf}
 use Rattle.words.specs.declared.Received.the-variants.{Answered, Unread}
 use Rattle.look.proofs.Looked.{judged-doable}
@@ -18,7 +19,6 @@ use Rattle.fields.proofs.Effects.{answering}
 use Rattle.fields.proofs.Kept.{receive-kept}
 use Rattle.demands.specs.Slave.{ours}
 use Rattle.demands.specs.Runs.{Call, run}
-use Rattle.demands.specs.Waiting.{hasAnswer}
 use Rattle.demands.specs.Heard.{packetEnded, readBy, Commands, deedOf, answerTo}
 use Rattle.demands.specs.Demand1.{ChangesOnly}
 use Rattle.demands.specs.Demand3.{LeavesWithin, AnsweredSoon, AnsweredBy, Demand3}

@@ -8,31 +8,30 @@ use native.Mathlib.Omega.{arith}
 use borrow.Author.Tests.{lt-ltb, le-ltb, ltb-true, ltb-false}
 use lib.Dec.{ltb, lit≤}
 use lib.ListN.{length, length-append}
-use Rattle.line.proofs.Stuffed.{false-true}
 use Rattle.state.specs.Layout.{lists, placeAt, sampleAt, firstOdt, size, sessionAt, odtCount}
 use Rattle.state.specs.Bytes.{block}
 use Rattle.state.specs.State.{consistent}
-use Rattle.lists.specs.Event.{samplingOf, captured, tally, happened, eventOf}
-use Rattle.model.specs.Model.{DaqList}
-use Rattle.model.specs.Calls.{contentsIn, packetWith, sampleFrom}
+use Rattle.lists.specs.Event.{captured, tally, happened, eventOf}
+use Rattle.model.specs.Model.{DaqList, Session, waitingIn}
 use Rattle.model.specs.Step.{withLists}
+use Rattle.model.specs.Calls.{samplingIn, contentsIn, packetWith, sampleFrom}
+use Rattle.model.specs.Whole.{AfterEvent, isSampled, countedIn, sampledIn, eventIn}
 use Rattle.model.specs.View.{listsOf, sessionOf, viewOf}
-use Rattle.model.specs.declared.Sampling.{Sampling}
-use Rattle.model.specs.declared.Sampling.the-variants.{Idle, Sampled, Missed}
-use Rattle.words.specs.declared.Evented.the-variants.{Done}
+use Rattle.model.specs.declared.Sampling.the-variants.{Sampled}
 use Rattle.state.proofs.Consistent.{consistent-size}
 use Rattle.fields.proofs.Frames.{only-take, only-drop, only-wider}
 use Rattle.fields.proofs.Readers.{Same, apart, same-block, answer-reads}
-use Rattle.views.proofs.Parts.{in-lists}
 use Rattle.fields.proofs.Captures.{only-event}
+use Rattle.views.proofs.Parts.{in-lists}
+use Rattle.views.proofs.Waits.{sampled-empty, event-waits}
+use Rattle.views.proofs.Happening.{view-event}
 use Rattle.demands.specs.Slave.{ours}
 use Rattle.demands.specs.Runs.{Event}
-use Rattle.demands.specs.Waiting.{AllBut, waitingOf, sampleOf, isSampled, isMissed}
-use Rattle.demands.specs.Demand2.{storeSize, howMany}
+use Rattle.demands.specs.Waiting.{AllBut, waitingOf, sampleOf}
+use Rattle.demands.specs.Demand2.{storeSize}
 use Rattle.demands.specs.Kept.{gains}
-use Rattle.demands.proofs.Samples.{SameStore, waiting-reads}
 use Rattle.demands.proofs.ByteKeeps.{SameRound, round-reads}
-use Rattle.demands.proofs.EventSteps.{sampled-empty, count-sampled, count-missed, unsampled-store, sampled-waits, sampled-store}
+use Rattle.demands.proofs.EventSteps.{SameStore, unsampled-store, sampled-store}
 
 -- ---- an event takes the lists, or is none
 taken : (s cal meas : List ℕ) (event clock : ℕ) → consistent s ≡ true → event ≤ 1 → eventOf s cal meas event clock ≡ happened (tally s event clock cal meas lists)
@@ -43,32 +42,42 @@ refused : (s cal meas : List ℕ) (event clock : ℕ) → consistent s ≡ true 
 unfolding eventOf
 refused s cal meas event clock c h = rw (c, lt-ltb 1 event h)
 
--- ---- what it counts, and what waits after it
-pub counts : (s cal meas : List ℕ) (event clock : ℕ) → consistent s ≡ true → event ≤ 1
-    → ours .event s cal meas event clock .evented ≡ Done (howMany (λ l. isSampled (samplingOf s l event)) lists) (howMany (λ l. isMissed (samplingOf s l event)) lists)
-counts s cal meas event clock c h =
-    let long = consistent-size s c in
-    rw (taken s cal meas event clock c h, count-sampled s event clock cal meas long lists (lit≤ tt), count-missed s event clock cal meas long lists (lit≤ tt))
+-- ---- what it counts, and what it makes of the session
+pub counts : (s cal meas : List ℕ) (event clock : ℕ) → consistent s ≡ true → event ≤ 1 → ours .event s cal meas event clock .evented ≡ countedIn (sessionOf s) event
+unfolding eventIn viewOf
+counts s cal meas event clock c h = ap (λ (o : AfterEvent). o .evented) (view-event s cal meas event clock c) ∙ rw (le-ltb 1 event h)
 
-pub samples : (s cal meas : List ℕ) (event clock l : ℕ) → consistent s ≡ true → event ≤ 1 → l < lists → samplingOf s l event ≡ Sampled
+event-session : (s cal meas : List ℕ) (event clock : ℕ) → consistent s ≡ true → event ≤ 1 → sessionOf (eventOf s cal meas event clock .state) ≡ sampledIn (sessionOf s) event clock cal meas
+unfolding eventIn viewOf
+event-session s cal meas event clock c h = ap (λ (o : AfterEvent). o .slave .session) (view-event s cal meas event clock c) ∙ rw (le-ltb 1 event h)
+
+-- ---- a list keeps what waits, and gains what the event gives it
+pub event-waiting : (s cal meas : List ℕ) (event clock l : ℕ) → consistent s ≡ true → waitingOf (eventOf s cal meas event clock .state) l ≡ waitingOf s l ++ gains l s (Event cal meas event clock)
+event-waiting s cal meas event clock l c = go (ltb 1 event) refl where
+  go : (t : Bool) → ltb 1 event ≡ t
+      → waitingOf (eventOf s cal meas event clock .state) l ≡ waitingOf s l ++ cond t [] (cond (isSampled (samplingIn (sessionOf s) l event)) (sampleOf s l clock cal meas) [])
+  go true e = rw (refused s cal meas event clock c (ltb-true 1 event e)) (sym (append-nil (waitingOf s l)))
+  go false e = ap (λ (x : Session). waitingIn x l) (event-session s cal meas event clock c (ltb-false 1 event e)) ∙ event-waits (sessionOf s) l event clock cal meas
+
+pub samples : (s cal meas : List ℕ) (event clock l : ℕ) → consistent s ≡ true → event ≤ 1 → l < lists → samplingIn (sessionOf s) l event ≡ Sampled
     → waitingOf (ours .event s cal meas event clock .state) l ≡ sampleOf s l clock cal meas
-samples s cal meas event clock l c h q e = rw (taken s cal meas event clock c h) (sampled-waits s event clock cal meas (consistent-size s c) l q e)
+samples s cal meas event clock l c h q e = event-waiting s cal meas event clock l c ∙ rw (sampled-empty (sessionOf s) l event e, le-ltb 1 event h, e)
 
--- as if it alone were captured
-pub stores : (s cal meas : List ℕ) (event clock l : ℕ) → consistent s ≡ true → event ≤ 1 → l < lists → samplingOf s l event ≡ Sampled
+-- ---- what it stores: as if a list that is sampled alone were captured
+pub stores : (s cal meas : List ℕ) (event clock l : ℕ) → consistent s ≡ true → event ≤ 1 → l < lists → samplingIn (sessionOf s) l event ≡ Sampled
     → block (ours .event s cal meas event clock .state) (sampleAt (firstOdt l)) storeSize ≡ block (captured s l clock cal meas) (sampleAt (firstOdt l)) storeSize
 stores s cal meas event clock l c h q e =
     rw (taken s cal meas event clock c h) (same-block (sampleAt (firstOdt l)) storeSize (omega arith) (omega arith) (sampled-store s event clock cal meas (consistent-size s c) l q e))
 
 -- ---- what it leaves
 -- the store of a list that is not sampled
-kept-store : (s cal meas : List ℕ) (event clock l : ℕ) → consistent s ≡ true → l < lists → samplingOf s l event ≢ Sampled → SameStore l s (eventOf s cal meas event clock .state)
+kept-store : (s cal meas : List ℕ) (event clock l : ℕ) → consistent s ≡ true → l < lists → samplingIn (sessionOf s) l event ≢ Sampled → SameStore l s (eventOf s cal meas event clock .state)
 kept-store s cal meas event clock l c q n = go (ltb 1 event) refl where
   go : (t : Bool) → ltb 1 event ≡ t → SameStore l s (eventOf s cal meas event clock .state)
   go true e = rw (refused s cal meas event clock c (ltb-true 1 event e)) (record { long = refl; byte = λ j p r. refl })
   go false e = rw (taken s cal meas event clock c (ltb-false 1 event e)) (unsampled-store s event clock cal meas (consistent-size s c) l q n)
 
-pub others : (s cal meas : List ℕ) (event clock l : ℕ) → consistent s ≡ true → l < lists → samplingOf s l event ≢ Sampled
+pub others : (s cal meas : List ℕ) (event clock l : ℕ) → consistent s ≡ true → l < lists → samplingIn (sessionOf s) l event ≢ Sampled
     → block (ours .event s cal meas event clock .state) (sampleAt (firstOdt l)) storeSize ≡ block s (sampleAt (firstOdt l)) storeSize
 others s cal meas event clock l c q n = same-block (sampleAt (firstOdt l)) storeSize (omega arith) (omega arith) (kept-store s cal meas event clock l c q n)
 
@@ -95,28 +104,6 @@ event-round s cal meas event clock = round-reads (apart tt (only-event s cal mea
 -- of the session the lists alone
 pub event-lists : (s cal meas : List ℕ) (event clock : ℕ) → sessionOf (eventOf s cal meas event clock .state) ≡ withLists (sessionOf s) (listsOf (eventOf s cal meas event clock .state))
 event-lists s cal meas event clock = in-lists (only-wider (lit≤ tt) (lit≤ tt) (only-event s cal meas event clock))
-
--- ---- a list keeps what waits, and gains what the event gives it
-not-sampled : (c : Sampling) → isSampled c ≡ false → c ≢ Sampled
-not-sampled c e p = false-true (sym e ∙ ap isSampled p)
-
-is-sampled : (c : Sampling) → isSampled c ≡ true → c ≡ Sampled
-is-sampled Idle e = absurd (false-true e)
-is-sampled Sampled e = refl
-is-sampled Missed e = absurd (false-true e)
-
-pub event-waiting : (s cal meas : List ℕ) (event clock l : ℕ) → consistent s ≡ true → l < lists
-    → waitingOf (eventOf s cal meas event clock .state) l ≡ waitingOf s l ++ gains l s (Event cal meas event clock)
-event-waiting s cal meas event clock l c q = go (ltb 1 event) (isSampled (samplingOf s l event)) refl refl where
-  go : (t x : Bool) → ltb 1 event ≡ t → isSampled (samplingOf s l event) ≡ x
-      → waitingOf (eventOf s cal meas event clock .state) l ≡ waitingOf s l ++ cond t [] (cond x (sampleOf s l clock cal meas) [])
-  go true x e f = rw (refused s cal meas event clock c (ltb-true 1 event e)) (sym (append-nil (waitingOf s l)))
-  go false true e f =
-      let own = is-sampled (samplingOf s l event) f in
-      rw (sampled-empty s l event own) (samples s cal meas event clock l c (ltb-false 1 event e) q own)
-  go false false e f =
-      waiting-reads l q (apart tt (only-event s cal meas event clock)) (kept-store s cal meas event clock l c q (not-sampled (samplingOf s l event) f))
-      ∙ sym (append-nil (waitingOf s l))
 
 -- a packet for each ODT at most
 packet-few : (k : ℕ) (bs : List ℕ) → length (packetWith k bs) ≤ 1

@@ -11,11 +11,9 @@ pub mod Unchanged
 pub mod Refusals
 pub mod Demand1
 -- The second demand.
-pub mod Waiting
 pub mod Round
 pub mod Turns
 pub mod Sends
-pub mod Samples
 pub mod EventSteps
 pub mod Events
 pub mod Deeds

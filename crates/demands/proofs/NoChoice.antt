@@ -9,6 +9,7 @@ use native.Mathlib.Nat.{lt-of-not-le}
 use native.Mathlib.Decide.{decLe, ℕ-discrete}
 use lib.ListN.{length, take, drop, take-append-drop}
 use lib.Seq.{drop-drop}
+use Rattle.model.specs.Whole.{isSampled}
 use Rattle.line.specs.Message.{room}
 use Rattle.line.proofs.Stuffed.{false-true}
 use Rattle.state.specs.Layout.{lists, size, sampleAt, firstOdt}
@@ -26,7 +27,7 @@ use Rattle.words.specs.declared.Evented.the-variants as event
 use Rattle.words.specs.declared.Slotted.{Slotted}
 use Rattle.words.specs.declared.Slotted.the-variants as slot
 use Rattle.demands.specs.Slave.{Slave, ours}
-use Rattle.demands.specs.Waiting.{AllBut, isSampled}
+use Rattle.demands.specs.Waiting.{AllBut}
 use Rattle.demands.specs.Tight.{Tight}
 use Rattle.demands.specs.Demand1.{Demand1}
 use Rattle.demands.specs.Demand2.{Demand2, storeSize}

@@ -7,7 +7,7 @@ use native.Mathlib.Omega.{arith}
 use native.Mathlib.Nat.{lt-of-not-le, mod-eq-of-lt, mod-add-mod}
 use native.Mathlib.Decide.{decLe}
 use borrow.Author.Tests.{lt-ltb, le-ltb, eq-eqb}
-use lib.Dec.{lit≤, lit<}
+use lib.Dec.{lit≤}
 use lib.ListN.{length, replicate}
 use lib.Seq.{getD-set-other}
 use Rattle.line.specs.Message.{room, frame}

@@ -21,6 +21,7 @@ use Rattle.line.proofs.Steps.{Puts, refuses, goes, fills, spoils, puts, take-lo
 use Rattle.state.specs.Layout.{placeAt, answerAt, size, messageAt}
 use Rattle.state.specs.State.{consistent, placeOf, messageOf, waits}
 use Rattle.session.specs.Receive.{fedOf}
+use Rattle.model.specs.Model.{hasAnswer}
 use Rattle.model.specs.View.{sessionOf, viewOf}
 use Rattle.model.proofs.Shown.{answer-long}
 use Rattle.state.proofs.Consistent.{consistent-size}
@@ -29,7 +30,6 @@ use Rattle.fields.proofs.Readers.{apart, consistent-reads, answer-reads}
 use Rattle.state.proofs.Sets.{block-length}
 use Rattle.views.proofs.Calls.{session-reads}
 use Rattle.demands.specs.Heard.{readBy}
-use Rattle.demands.specs.Waiting.{hasAnswer}
 
 message-length : (s : List ℕ) → length s ≡ size → length (messageOf s) ≡ longest
 unfolding messageOf

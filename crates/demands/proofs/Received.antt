@@ -18,7 +18,7 @@ use Rattle.state.specs.State.{consistent}
 use Rattle.session.specs.Perform.{after}
 use Rattle.judge.specs.Doable.{Doable}
 use Rattle.session.specs.Receive.{Step, only, obeyed, heededBy, heeded, meant, fedOf, receivedBy, receiveOf}
-use Rattle.model.specs.Model.{Session}
+use Rattle.model.specs.Model.{Session, hasAnswer}
 use Rattle.model.specs.Heed.{Dropped, Obeyed, Ignored, goodConnect, heedingIn}
 use Rattle.model.specs.Answers.{replyIn}
 use Rattle.model.specs.View.{sessionOf, viewOf}
@@ -29,7 +29,6 @@ use Rattle.words.specs.declared.Received.{Received}
 use Rattle.words.specs.declared.Received.the-variants.{Nothing, Silent, BadLength, BadEscape, BadChecksum, Unread, CutOff}
 use Rattle.look.proofs.Looked.{judged-doable}
 use Rattle.fields.proofs.Effects.{after-answer}
-use Rattle.demands.specs.Waiting.{hasAnswer}
 use Rattle.demands.specs.Heard.{packetBy, packetEnded, readBy, Commands, deedOf, answerTo, deedBy, heeds, doneAt}
 use Rattle.demands.proofs.Judged.{Found, judged}
 use Rattle.demands.proofs.ReadBy.{waits-shown, Roomy, read-roomy, read-length, read-session, read-answer}

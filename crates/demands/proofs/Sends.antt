@@ -1,5 +1,5 @@
 -- What a slot sends: the frame of the packet whose turn it is, one at most, and what it leaves. Assumes nothing.
-use Prim.Native.Nat.{ℕ, _≤_, _<_}
+use Prim.Native.Nat.{ℕ, suc, _≤_, _<_}
 use mathlib.Core.Path.{_≡_, refl, ap, _∙_}
 use mathlib.Core.Bool.{true, false}
 use mathlib.Core.List.{List, [], _∷_}
@@ -16,22 +16,22 @@ use Rattle.line.proofs.RoundTrip.{round-trip}
 use Rattle.line.proofs.Stuffed.{frame-short}
 use Rattle.state.specs.Layout.{size, allOdts}
 use Rattle.state.specs.State.{consistent, ctrOf, answerOf}
+use Rattle.state.specs.Lists.{storedLength}
 use Rattle.lists.specs.Slot.{Slot, sentAs, answerSent, packetSent, sentBy, slotOf}
 use Rattle.words.specs.Number.{slottedValue}
 use Rattle.words.specs.declared.Slotted.the-variants.{NoRoom}
 use Rattle.model.specs.declared.Turn.{Turn}
 use Rattle.model.specs.declared.Turn.the-variants.{Nobody, Answer, Packet}
 use Rattle.state.proofs.Consistent.{consistent-size}
-use Rattle.model.specs.Model.{Slave}
+use Rattle.model.specs.Model.{Slave, hasAnswer}
 use Rattle.model.specs.Calls.{turnIn, packetFrom, packetFor, answerGone, packetGone}
 use Rattle.model.specs.View.{sessionOf, viewOf}
-use Rattle.model.proofs.Shown.{stored-most, answer-most, answer-long}
+use Rattle.model.proofs.Shown.{stored-most, stored-long, packet-by, answer-most, answer-long}
 use Rattle.views.proofs.Calls.{view-answerSent, view-packetSent}
 use Rattle.demands.specs.Slave.{ours}
 use Rattle.demands.specs.Runs.{SendingSlot, frameIn, sends}
-use Rattle.demands.specs.Waiting.{AllBut, hasAnswer}
+use Rattle.demands.specs.Waiting.{AllBut}
 use Rattle.demands.specs.Demand2.{ReadsBack}
-use Rattle.demands.proofs.Waiting.{packet-length}
 use Rattle.demands.proofs.Turns.{Fair, nobody, answer, list, fair}
 
 -- ---- with room, and without
@@ -72,6 +72,10 @@ unfolding viewOf
 answer-packed s h w =
     let n : 0 < length (answerOf s) = ltb-true 0 (length (answerOf s)) w in
     record { some = n; few = rw (answer-long s h) (answer-most s) }
+
+-- a packet's length
+packet-length : (s : List ℕ) (k : ℕ) → length s ≡ size → k < allOdts → length (packetFrom (sessionOf s) k) ≡ suc (storedLength s k)
+packet-length s k h q = ap length (packet-by s k q) ∙ ap suc (stored-long s k h q)
 
 pub packet-packed : (s : List ℕ) (k : ℕ) → length s ≡ size → k < allOdts → Packed (packetFrom (sessionOf s) k)
 packet-packed s k h q = record { some = rw (packet-length s k h q) (omega arith); few = rw (packet-length s k h q) (omega (arith, stored-most s k)) }

@@ -15,7 +15,7 @@ use Rattle.state.specs.State.{consistent}
 use Rattle.session.specs.Receive.{receiveOf}
 use Rattle.lists.specs.Event.{eventOf}
 use Rattle.lists.specs.Slot.{slotOf}
-use Rattle.model.specs.Model.{Slave}
+use Rattle.model.specs.Model.{Slave, hasAnswer}
 use Rattle.model.specs.Calls.{turnIn, orElse, roundIn, packetFrom, packetFor, answerGone, packetGone}
 use Rattle.model.specs.View.{viewOf}
 use Rattle.model.specs.declared.Turn.{Turn}
@@ -23,7 +23,7 @@ use Rattle.model.specs.declared.Turn.the-variants.{Answer, Packet}
 use Rattle.fields.proofs.Kept.{receive-kept, event-kept, slot-kept}
 use Rattle.demands.specs.Slave.{ours}
 use Rattle.demands.specs.Runs.{Call, Byte, Event, SendingSlot, Elsewhere, afterCall, frames, sends, oneMore, slots}
-use Rattle.demands.specs.Waiting.{hasAnswer, isAnswer, answersIn}
+use Rattle.demands.specs.Waiting.{isAnswer, answersIn}
 use Rattle.demands.specs.Demand3.{LeavesWithin}
 use Rattle.demands.proofs.Turns.{Next, Fair, nobody, answer, list, round-fair}
 use Rattle.demands.proofs.Sends.{turned, framesOf, slot-shows, slot-stays, slot-sends, slot-silent}

@@ -1,5 +1,4 @@
 -- Whose turn it is has something waiting, and with a packet of a list waiting its turn comes. Assumes nothing.
-use borrow.Author.Tests.{lt-ltb}
 use Prim.Native.Nat.{ℕ, suc, _+_, _-_, _%_, _≤_, _<_, zero}
 use mathlib.Core.Path.{_≡_, refl, sym, ap, ap₂, _∙_, subst}
 use mathlib.Core.Logic.{_≢_}
@@ -8,20 +7,19 @@ use mathlib.Core.List.{List, [], _∷_}
 use native.Mathlib.Omega.{arith}
 use native.Mathlib.Nat.{mod-lt}
 use native.Mathlib.Decide.{ℕ-discrete}
-use lib.Dec.{ltb, lit<}
-use lib.ListN.{length, getD}
-use Rattle.line.proofs.Laws.{false-true, cond-ind}
+use lib.Dec.{lit<}
+use lib.ListN.{length}
+use Rattle.line.proofs.Laws.{cond-ind}
 use Rattle.state.specs.Layout.{lists, firstOdt, listOf, allOdts, odtCount}
-use Rattle.model.specs.Model.{DaqList, Session, Slave, runsIn, hasPacket, inStores, waitingIn}
+use Rattle.model.specs.Model.{DaqList, Session, Slave, runsIn, hasPacket, inStores, waitingIn, hasAnswer}
 use Rattle.model.specs.Step.{at, odtIn}
 use Rattle.model.specs.Calls.{withoutPacket, packetGone, firstPacket, packetIn, orElse, roundIn, packetFrom, turnIn}
 use Rattle.model.specs.declared.Turn.{Turn}
 use Rattle.model.specs.declared.Turn.the-variants.{Nobody, Answer, Packet}
 use Rattle.lists.proofs.Round.{or-holds, round-holds}
-use Rattle.views.proofs.Waits.{rests, Empty, none-waits, first-waits, first-sent, sent-others}
-use Rattle.demands.specs.Waiting.{hasAnswer}
+use Rattle.views.proofs.Parts.{this-or-other}
+use Rattle.views.proofs.Waits.{no-packet, rests, Empty, none-waits, first-waits, first-sent, sent-others}
 use Rattle.demands.proofs.Round.{packet-some, round-finds, Far, nearer}
-use Rattle.demands.proofs.Waiting.{this-or-other}
 
 -- ODT k's packet is the next one of list j: what waits of the list, and what waits of it and of the others once it is sent
 pub record Next (v : Slave) (j k : ℕ) : Type 0 where
@@ -37,10 +35,6 @@ pub record Next (v : Slave) (j k : ℕ) : Type 0 where
 pub data Has (v : Slave) (j : ℕ) : Turn → Type 0 where
   nothing : waitingIn (v .session) j ≡ [] → Has v j Nobody
   packet : (k : ℕ) → Next v j k → Has v j (Packet k)
-
-pub no-packet : (bs : List ℕ) → ltb 0 (length bs) ≡ false → bs ≡ []
-no-packet [] e = refl
-no-packet (b ∷ bs) e = absurd (false-true (sym e ∙ lt-ltb 0 (length (b ∷ bs)) (omega arith)))
 
 -- of list l the ODT d
 list-of : (l d : ℕ) → d < odtCount l → listOf (firstOdt l + d) ≡ l

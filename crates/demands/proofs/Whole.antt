@@ -23,10 +23,12 @@ use Rattle.state.proofs.Consistent.{consistent-size}
 use Rattle.fields.proofs.Kept.{receive-kept, event-kept, slot-kept}
 use Rattle.model.specs.Model.{Slave, waitingIn}
 use Rattle.model.specs.Calls.{turnIn, packetFrom, packetFor, answerGone, packetGone, samplingIn}
+use Rattle.model.specs.Whole.{isSampled}
 use Rattle.model.specs.View.{sessionOf, viewOf}
+use Rattle.views.proofs.Waits.{sampled-empty}
 use Rattle.demands.specs.Slave.{ours}
 use Rattle.demands.specs.Runs.{Call, Byte, Event, SendingSlot, Elsewhere, sends, frames, slots}
-use Rattle.demands.specs.Waiting.{waitingOf, sampleOf, isSampled, isOf, packetsIn}
+use Rattle.demands.specs.Waiting.{waitingOf, sampleOf, isOf, packetsIn}
 use Rattle.demands.specs.Demand3.{Undisturbed, Begins}
 use Rattle.demands.specs.Kept.{gains}
 use Rattle.demands.specs.Ranking.{Proceeds, all-gone, at-end, answer-first, own-packet, other-list}
@@ -36,7 +38,6 @@ use Rattle.demands.proofs.Turns.{Next, Moves, by-answer, by-own, by-oth
 use Rattle.demands.proofs.Sends.{turned, framesOf, slot-shows, slot-stays, slot-sends, slot-silent}
 use Rattle.demands.proofs.Carried.{carried-append, carries, carries-none, packet-own, packet-other, answer-answers, answer-of-none}
 use Rattle.demands.proofs.ByteKeeps.{SameRound, byte-waiting, byte-round}
-use Rattle.demands.proofs.EventSteps.{sampled-empty}
 use Rattle.demands.proofs.Events.{samples, sample-length, event-waiting, event-round}
 use Rattle.demands.proofs.Soon.{counted, uncounted}
 
@@ -64,14 +65,14 @@ no-gain s cal meas event clock l p ps e =
 
       go : (c : Sampling) → samplingIn (sessionOf s) l event ≡ c → cond (isSampled c) (sampleOf s l clock cal meas) [] ≡ []
       go Idle z = refl
-      go Sampled z = absurd (empty (sym (sampled-empty s l event z) ∙ e))
+      go Sampled z = absurd (empty (sym (sampled-empty (sessionOf s) l event z) ∙ e))
       go Missed z = refl
 
 event-seen : (s cal meas : List ℕ) (event clock l far : ℕ) (last : Bool) (p : List ℕ) (ps : List (List ℕ)) → l < lists → Seen l far last (p ∷ ps) s
     → Seen l far last (p ∷ ps) (eventOf s cal meas event clock .state)
 event-seen s cal meas event clock l far last p ps h x =
     seen-on (event-kept s cal meas event clock (x .fit)) (event-round s cal meas event clock)
-    (event-waiting s cal meas event clock l (x .fit) h ∙ ap (λ g. waitingOf s l ++ g) (no-gain s cal meas event clock l p ps (x .waiting)) ∙ append-nil (waitingOf s l)) x
+    (event-waiting s cal meas event clock l (x .fit) ∙ ap (λ g. waitingOf s l ++ g) (no-gain s cal meas event clock l p ps (x .waiting)) ∙ append-nil (waitingOf s l)) x
 
 -- ---- a slot with room, by whose turn it is
 -- what the run sends of the list: what this slot does, and then the rest

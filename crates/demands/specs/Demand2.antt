@@ -1,6 +1,6 @@
 -- What it does on the wire and in memory is what XCP and its SxI transport say, with our choices in document 01. Bytes are read by those rules, and
 -- what it sends reads back by the same rules as the very packet meant. While calibration is locked no calibration byte changes.
-use Prim.Native.Nat.{ℕ, zero, suc, _+_, _*_, _%_, _^_, _≤_, _<_}
+use Prim.Native.Nat.{ℕ, suc, _+_, _*_, _%_, _^_, _≤_, _<_}
 use mathlib.Core.Path.{_≡_}
 use mathlib.Core.Logic.{_≢_, _⊎_}
 use mathlib.Core.Bool.{Bool, true, false, cond}
@@ -27,15 +27,15 @@ use Rattle.words.specs.declared.Mta.the-variants.{At}
 use Rattle.words.specs.declared.Seed.the-variants.{For}
 use Rattle.model.specs.declared.Deed.the-variants.{Download}
 use Rattle.model.specs.declared.Sampling.the-variants.{Sampled}
-use Rattle.words.specs.declared.Evented.the-variants.{Done}
 use Rattle.model.specs.Model.{byte, Session}
 use Rattle.model.specs.Calls.{turnIn, packetFor, samplingIn}
+use Rattle.model.specs.Whole.{countedIn}
 use Rattle.model.specs.View.{sessionOf, viewOf}
 use Rattle.demands.specs.Slave.{Slave}
 use Rattle.demands.specs.Runs.{Call, Byte, Event, SendingSlot, Elsewhere, afterCall, run, sends, each, frames}
 use Rattle.demands.specs.Life.{Device, Moment, PowerOn, Hears, Samples, Serves, passed, lived, sentIn, OfBytes}
 use Rattle.demands.specs.Heard.{Commands, doneAt, bringsKey, keyMatches}
-use Rattle.demands.specs.Waiting.{AllBut, waitingOf, sampleOf, isSampled, isMissed}
+use Rattle.demands.specs.Waiting.{AllBut, waitingOf, sampleOf}
 
 -- the packets that are to go, slot by slot: with room enough, that of whose turn it is
 abbrev pub dueAt : List ℕ → Call → List (List ℕ)
@@ -148,11 +148,6 @@ pub record SeedOpens (v : Slave) (r : Resource) (s t : List ℕ) : Type 0 where
 abbrev pub storeSize : ℕ
 storeSize = odts * sampleSize
 
--- how many of the first n lists pass a test
-abbrev pub howMany : (ℕ → Bool) → ℕ → ℕ
-howMany test zero = 0
-howMany test (suc n) = howMany test n + cond (test n) 1 0
-
 pub record Demand2 (v : Slave) : Type 0 where
   -- power-up leaves the one state that document 01 says
   pub powersUp : (s : List ℕ) (start : ℕ) → length s ≡ size → v .powerUp s start .state ≡ powered start
@@ -202,7 +197,7 @@ pub record Demand2 (v : Slave) : Type 0 where
       → Commands s b p → take 3 p ≡ 0xF8 ∷ 0x00 ∷ bitOf r ∷ [] → sessionOf s .unlocked r ≡ false → SeedOpens v r s (v .receive s cal meas b .state)
   -- an event samples the lists that run on it and have no unsent packet, and misses those that have one; exactly these are counted
   pub counts : (s cal meas : List ℕ) (event clock : ℕ) → consistent s ≡ true → event ≤ 1
-      → v .event s cal meas event clock .evented ≡ Done (howMany (λ l. isSampled (samplingIn (sessionOf s) l event)) lists) (howMany (λ l. isMissed (samplingIn (sessionOf s) l event)) lists)
+      → v .event s cal meas event clock .evented ≡ countedIn (sessionOf s) event
   -- the lists that are sampled gain a sample, each byte as the memories lent to this event hold it
   pub samples : (s cal meas : List ℕ) (event clock l : ℕ) → consistent s ≡ true → event ≤ 1 → l < lists → samplingIn (sessionOf s) l event ≡ Sampled
       → waitingOf (v .event s cal meas event clock .state) l ≡ sampleOf s l clock cal meas

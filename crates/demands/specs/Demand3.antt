@@ -9,13 +9,14 @@ use Rattle.line.specs.Message.{most, room, frame}
 use Rattle.state.specs.Layout.{lists, placeAt, answerAt}
 use Rattle.state.specs.State.{consistent}
 use Rattle.model.specs.Calls.{samplingIn}
+use Rattle.model.specs.Model.{hasAnswer}
 use Rattle.model.specs.View.{sessionOf, viewOf}
 use Rattle.words.specs.declared.Received.the-variants.{Answered, Unread}
 use Rattle.model.specs.declared.Sampling.the-variants.{Sampled}
 use Rattle.demands.specs.Slave.{Slave}
 use Rattle.demands.specs.Runs.{Call, Byte, Event, SendingSlot, Elsewhere, afterCall, run, frames, sends, slots, received}
 use Rattle.demands.specs.Heard.{packetEnded, answerTo, stopsAt}
-use Rattle.demands.specs.Waiting.{hasAnswer, waitingOf, sampleOf, answersIn, packetsIn}
+use Rattle.demands.specs.Waiting.{waitingOf, sampleOf, answersIn, packetsIn}
 use Rattle.demands.specs.Demand1.{ChangesOnly}
 
 -- the answer a leaves in one of the first n counted slots of cs: before it no answer does, and after it none waits

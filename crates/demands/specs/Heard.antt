@@ -11,7 +11,7 @@ use Rattle.line.specs.declared.Outcome.the-variants.{Nothing, Good, BadLength, 
 use Rattle.state.specs.Bytes.{block, u32At}
 use Rattle.state.specs.Generator.{keyOf}
 use Rattle.session.specs.Receive.{fedOf, readOn}
-use Rattle.model.specs.Model.{byte, Session, Slave}
+use Rattle.model.specs.Model.{byte, Session, Slave, hasAnswer}
 use Rattle.model.specs.Judge.{judgeIn}
 use Rattle.model.specs.Heed.{Heeding, Dropped, Obeyed, Ignored, heedingIn}
 use Rattle.model.specs.Answers.{commandIn}
@@ -21,7 +21,6 @@ use Rattle.words.specs.declared.Seed.{Seed}
 use Rattle.words.specs.declared.Seed.the-variants.{None, For}
 use Rattle.model.specs.declared.Deed.{Deed}
 use Rattle.model.specs.declared.Deed.the-variants.{Refuse, RefuseSize, WrongKey, Connect, Disconnect, Status, Synch, NoSeed, GiveSeed, Unlock, SetMta, Upload, ShortUpload, Checksum, Download, ClearList, SetPointer, ClearEntry, WriteEntry, SetMode, Stop, Start, KeepRunning, Select, StopAll, StartSelected, StopSelected, ProcessorInfo, ResolutionInfo}
-use Rattle.demands.specs.Waiting.{hasAnswer}
 
 -- the packet of a good message that has just ended
 abbrev pub packetBy : Outcome → List ℕ → Option (List ℕ)

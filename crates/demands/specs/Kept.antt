@@ -7,13 +7,14 @@ use lib.Dec.{ltb}
 use Rattle.state.specs.Layout.{lists}
 use Rattle.state.specs.State.{consistent}
 use Rattle.model.specs.Calls.{samplingIn}
+use Rattle.model.specs.Whole.{isSampled}
 use Rattle.model.specs.View.{sessionOf, viewOf}
 use Rattle.words.specs.declared.Received.{Received}
 use Rattle.words.specs.declared.Received.the-variants.{Nothing, Answered, Silent, BadLength, BadEscape, BadChecksum, Unread, CutOff, NoState}
 use Rattle.demands.specs.Slave.{Slave}
 use Rattle.demands.specs.Runs.{Call, Byte, Event, SendingSlot, Elsewhere, run, sends, each, frames}
 use Rattle.demands.specs.Heard.{stopsAt}
-use Rattle.demands.specs.Waiting.{waitingAnswer, waitingOf, sampleOf, isSampled, answersIn, packetsIn}
+use Rattle.demands.specs.Waiting.{waitingAnswer, waitingOf, sampleOf, answersIn, packetsIn}
 
 -- an answer is accepted with number 1 alone
 abbrev pub answerBy : Received → List ℕ → List (List ℕ)

@@ -1,28 +1,22 @@
 -- What waits to be sent, what a frame carries, and what a sample is.
 use Prim.Native.Nat.{ℕ}
 use mathlib.Core.Path.{_≡_}
-use mathlib.Core.Bool.{Bool, true, false, cond}
+use mathlib.Core.Bool.{Bool, false, cond}
 use mathlib.Core.List.{List, [], _∷_}
-use lib.Dec.{eqb, ltb, leb}
+use lib.Dec.{eqb, leb}
 use lib.ListN.{length, getD, take, drop}
 use Rattle.line.specs.Wire.{unstuff}
 use Rattle.state.specs.Layout.{listOf}
 use Rattle.state.specs.Bytes.{block}
-use Rattle.model.specs.Model.{Slave, waitingIn}
+use Rattle.model.specs.Model.{hasAnswer, waitingIn}
 use Rattle.model.specs.Calls.{sampleIn}
 use Rattle.model.specs.View.{sessionOf, viewOf}
-use Rattle.model.specs.declared.Sampling.{Sampling}
-use Rattle.model.specs.declared.Sampling.the-variants.{Idle, Sampled, Missed}
 
 -- t is s, but for the bytes from lo up to hi
 pub record AllBut (lo hi : ℕ) (s t : List ℕ) : Type 0 where
   pub long : length t ≡ length s
   pub front : take lo t ≡ take lo s
   pub back : drop hi t ≡ drop hi s
-
--- an answer waits
-abbrev pub hasAnswer : Slave → Bool
-hasAnswer v = ltb 0 (length (v .answer))
 
 -- the waiting answer, if one waits
 abbrev pub waitingAnswer : List ℕ → List (List ℕ)
@@ -35,16 +29,6 @@ waitingOf s l = waitingIn (sessionOf s) l
 -- ---- a sample of list l, as the memories are now
 abbrev pub sampleOf : List ℕ → ℕ → ℕ → List ℕ → List ℕ → List (List ℕ)
 sampleOf s l clock cal meas = sampleIn (sessionOf s) l clock cal meas
-
-abbrev pub isSampled : Sampling → Bool
-isSampled Idle = false
-isSampled Sampled = true
-isSampled Missed = false
-
-abbrev pub isMissed : Sampling → Bool
-isMissed Idle = false
-isMissed Sampled = false
-isMissed Missed = true
 
 -- ---- what a frame carries: the packet of the message that it is on the wire
 abbrev pub packetInside : List ℕ → List ℕ

@@ -9,6 +9,7 @@ use lib.Seq.{sets}
 use Rattle.state.specs.Layout.{lists, events, sampleAt, firstOdt, odtCount}
 use Rattle.state.specs.State.{consistent}
 use Rattle.model.specs.Calls.{samplingIn, contentsIn}
+use Rattle.model.specs.Whole.{isSampled, isMissed}
 use Rattle.model.specs.View.{odtOf, sessionOf}
 use Rattle.model.specs.declared.Sampling.{Sampling}
 use Rattle.model.specs.declared.Sampling.the-variants.{Idle, Sampled, Missed}
@@ -48,14 +49,10 @@ sampledState Sampled s l clock cal meas = captured s l clock cal meas
 sampledState Missed s l clock cal meas = s
 
 abbrev pub sampledBy : Sampling → ℕ
-sampledBy Idle = 0
-sampledBy Sampled = 1
-sampledBy Missed = 0
+sampledBy c = cond (isSampled c) 1 0
 
 abbrev pub missedBy : Sampling → ℕ
-missedBy Idle = 0
-missedBy Sampled = 0
-missedBy Missed = 1
+missedBy c = cond (isMissed c) 1 0
 
 abbrev pub counted : Sampling → Tally → ℕ → ℕ → List ℕ → List ℕ → Tally
 counted c t l clock cal meas =

@@ -3,7 +3,7 @@ use Prim.Native.Nat.{ℕ, zero, suc, _+_, _%_, _/_}
 use mathlib.Core.Bool.{true, false, cond}
 use mathlib.Core.List.{List, [], _∷_, _++_}
 use lib.Dec.{eqb, ltb}
-use lib.ListN.{length, replicate}
+use lib.ListN.{replicate}
 use Rattle.line.specs.Message.{longest}
 use Rattle.line.specs.declared.Place.{Place}
 use Rattle.line.specs.declared.Place.the-variants.{Outside}
@@ -14,7 +14,7 @@ use Rattle.model.specs.declared.Sampling.{Sampling}
 use Rattle.model.specs.declared.Sampling.the-variants.{Idle, Sampled, Missed}
 use Rattle.model.specs.declared.Turn.{Turn}
 use Rattle.model.specs.declared.Turn.the-variants.{Nobody, Answer, Packet}
-use Rattle.model.specs.Model.{put, Entry, Odt, DaqList, Session, Slave, blank, runsIn, hasPacket, unsent}
+use Rattle.model.specs.Model.{put, Entry, Odt, DaqList, Session, Slave, blank, runsIn, hasAnswer, hasPacket, unsent}
 use Rattle.model.specs.Step.{emptied, odtIn, at}
 
 abbrev pub withAnswer : Slave → List ℕ → Slave
@@ -51,7 +51,7 @@ roundIn c served = roundFrom lists (packetIn c) (served + 1) lists
 -- an answer goes if one waits and the last frame was not an answer; else the next list after the last one served; else an answer
 unfoldable pub turnIn : Slave → Turn
 turnIn v =
-    cond (ltb 0 (length (v .answer)))
+    cond (hasAnswer v)
     (cond (v .lastAnswer)
     (orElse (roundIn (v .session) (v .served)) Answer)
     Answer)

@@ -122,6 +122,10 @@ unfoldable pub someRuns : Session → ℕ → Bool
 someRuns c zero = false
 someRuns c (suc n) = cond (someRuns c n) true (runsIn c n)
 
+-- ---- an answer waits
+abbrev pub hasAnswer : Slave → Bool
+hasAnswer v = ltb 0 (length (v .answer))
+
 -- ---- packets: of an ODT one waits, of some of a list's first n ODTs, of some of all
 abbrev pub hasPacket : Odt → Bool
 hasPacket y = ltb 0 (length (y .store))

@@ -37,4 +37,4 @@ viewOf s = record {
 
 -- what a state and a calibration memory show of a command that is done
 abbrev pub shown : List ℕ → List ℕ → Done
-shown s cal = record { session = sessionOf s; memory = cal; answer = answerOf s }
+shown s cal = record { session = sessionOf s; memory = cal; answer = viewOf s .answer }

@@ -1,15 +1,14 @@
 -- Runs of ours that meet premises which no other run here meets: a good message while an answer waits; a wrong key, and DISCONNECT in its place.
 -- Assumes nothing.
-use Rattle.demands.specs.Waiting.{AllBut, hasAnswer}
+use Rattle.demands.specs.Waiting.{AllBut}
 use Prim.Native.Nat.{ℕ}
 use mathlib.Core.Path.{_≡_, refl}
 use mathlib.Core.Bool.{true}
 use mathlib.Core.Option.{some}
 use mathlib.Core.List.{List, [], _∷_, _++_}
-use lib.ListN.{getD}
 use Rattle.state.specs.Layout.{placeAt, sessionAt}
 use Rattle.state.specs.State.{consistent}
-use Rattle.model.specs.Model.{byte}
+use Rattle.model.specs.Model.{byte, hasAnswer}
 use Rattle.model.specs.View.{sessionOf, viewOf}
 use Rattle.words.specs.declared.Received.the-variants.{Unread}
 use Rattle.demands.specs.Slave.{ours}

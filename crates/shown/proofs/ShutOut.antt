@@ -22,10 +22,10 @@ use Rattle.words.specs.declared.Extension.the-variants.{Calibration as Calibrat
 use Rattle.words.specs.declared.Mta.{Mta}
 use Rattle.words.specs.declared.Mta.the-variants.{At}
 use Rattle.model.specs.Calls.{turnIn, packetFor}
+use Rattle.model.specs.Model.{hasAnswer}
 use Rattle.model.specs.View.{sessionOf, viewOf}
 use Rattle.demands.specs.Slave.{Slave}
 use Rattle.demands.specs.Runs.{Byte, Event, SendingSlot}
-use Rattle.demands.specs.Waiting.{hasAnswer}
 use Rattle.demands.specs.Heard.{packetEnded}
 use Rattle.demands.specs.Demand1.{Demand1}
 use Rattle.demands.specs.Demand2.{Demand2, ReadsBack}

@@ -10,12 +10,12 @@ use Rattle.state.specs.Layout.{addressable}
 use Rattle.state.specs.State.{consistent}
 use Rattle.session.specs.Receive.{obeyed}
 use Rattle.model.specs.Judge.{judgeIn}
+use Rattle.model.specs.Model.{hasAnswer}
 use Rattle.model.specs.View.{sessionOf, viewOf}
 use Rattle.model.specs.declared.Deed.{Deed}
 use Rattle.model.specs.declared.Deed.the-variants.{Refuse, Download}
 use Rattle.words.specs.declared.Reason.the-variants.{NotInside}
 use Rattle.demands.specs.Slave.{Slave}
-use Rattle.demands.specs.Waiting.{hasAnswer}
 use Rattle.demands.specs.Heard.{packetEnded, readBy}
 use Rattle.demands.specs.Demand2.{Demand2}
 use Rattle.shown.specs.Exchange.{lastByte}

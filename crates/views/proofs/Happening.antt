@@ -13,7 +13,7 @@ use Rattle.state.specs.Layout.{size, lists, events}
 use Rattle.state.specs.State.{consistent}
 use Rattle.state.proofs.Consistent.{consistent-size}
 use Rattle.words.specs.declared.Evented.the-variants.{Done}
-use Rattle.lists.specs.Event.{samplingOf, sampledState, sampledBy, missedBy, tally, Happened, eventOf}
+use Rattle.lists.specs.Event.{samplingOf, sampledState, tally, Happened, eventOf}
 use Rattle.lists.proofs.Fitting.{Fitting, sampling-fits}
 use Rattle.fields.proofs.Captures.{only-tally}
 use Rattle.model.specs.declared.Sampling.{Sampling}
@@ -24,7 +24,7 @@ use Rattle.model.specs.Calls.{samplingIn}
 use Rattle.model.specs.View.{sessionOf, viewOf}
 use Rattle.model.proofs.Bounded.{either}
 use Rattle.model.proofs.Shown.{no-list}
-use Rattle.views.specs.Whole.{sampledAs, isSampled, isMissed, howMany, sampledIn, eventIn}
+use Rattle.model.specs.Whole.{sampledAs, isSampled, isMissed, howMany, sampledIn, eventIn}
 use Rattle.views.specs.Shown.{eventShown}
 use Rattle.views.proofs.Parts.{put-by}
 use Rattle.views.proofs.Calls.{view-captured}
@@ -74,16 +74,6 @@ module _ (s : List ℕ) (l clock : ℕ) (cal meas : List ℕ) (h : length s ≡ 
   view-turn Sampled f = view-captured s l clock cal meas h there f
   view-turn Missed f = unchanged
 
-sampled-one : (x : Sampling) → sampledBy x ≡ cond (isSampled x) 1 0
-sampled-one Idle = refl
-sampled-one Sampled = refl
-sampled-one Missed = refl
-
-missed-one : (x : Sampling) → missedBy x ≡ cond (isMissed x) 1 0
-missed-one Idle = refl
-missed-one Sampled = refl
-missed-one Missed = refl
-
 -- ---- one after the other
 module _ (s : List ℕ) (event clock : ℕ) (cal meas : List ℕ) (h : length s ≡ size) where
   abbrev now : Session
@@ -118,18 +108,18 @@ module _ (s : List ℕ) (event clock : ℕ) (cal meas : List ℕ) (h : length s 
       ∙ ap₂ (λ (x : Sampling) (y : DaqList). withSession (viewOf s) (withLists now (put n (sampledAs x n clock cal meas y) (first turned (now .list) n)))) (turn-by n e) (first-at turned (now .list) n)
       ∙ ap (λ (g : ℕ → DaqList). withSession (viewOf s) (withLists now g)) (first-next turned (now .list) n)
 
-  event-turn : (n : ℕ) → n ≤ lists → samplingOf (state n) n event ≡ sampling n
+  pub event-turn : (n : ℕ) → n ≤ lists → samplingOf (state n) n event ≡ sampling n
   event-turn n p = turn-by n (reached n p)
 
   count-sampled : (n : ℕ) → n ≤ lists → tally s event clock cal meas n .sampled ≡ howMany (λ l. isSampled (sampling l)) n
   unfolding tally
   count-sampled zero p = refl
-  count-sampled (suc n) p = rw (count-sampled n (omega arith), event-turn n (omega arith), sampled-one (sampling n))
+  count-sampled (suc n) p = rw (count-sampled n (omega arith), event-turn n (omega arith))
 
   count-missed : (n : ℕ) → n ≤ lists → tally s event clock cal meas n .missed ≡ howMany (λ l. isMissed (sampling l)) n
   unfolding tally
   count-missed zero p = refl
-  count-missed (suc n) p = rw (count-missed n (omega arith), event-turn n (omega arith), missed-one (sampling n))
+  count-missed (suc n) p = rw (count-missed n (omega arith), event-turn n (omega arith))
 
   -- to a list that there is not an event is nothing
   unlisted : (l : ℕ) → lists ≤ l → sampling l ≡ Idle

@@ -38,6 +38,13 @@ pub both : {lo hi lo′ hi′ a b : ℕ} {s t u : List ℕ} → Only lo hi s t �
 both w v m = same-then (spared w (m .0)) (spared v (m .1))
 
 -- ---- one place of a function changed
+-- either it is that one, or another
+pub this-or-other : {P : Type 0} (j l : ℕ) → (j ≡ l → P) → (j ≢ l → P) → P
+this-or-other {P} j l f g = go (eqb j l) refl where
+  go : (t : Bool) → eqb j l ≡ t → P
+  go true e = f (eqb-true j l e)
+  go false e = g (eqb-false j l e)
+
 pub put-by : {A : Type 0} (P : A → Type 0) (i : ℕ) (x : A) (f : ℕ → A) (j : ℕ) → (j ≡ i → P x) → (j ≢ i → P (f j)) → P (put i x f j)
 unfolding put
 put-by P i x f j p q = cond-ind P (eqb j i) (λ b. p (eqb-true j i b)) (λ b. q (eqb-false j i b))

@@ -34,7 +34,7 @@ use Rattle.model.specs.Answers.{written}
 use Rattle.model.specs.Calls.{withReader}
 use Rattle.model.specs.View.{sessionOf, viewOf}
 use Rattle.model.proofs.Shown.{answer-long}
-use Rattle.views.specs.Whole.{heededAs, heededIn, readAs, receivedIn}
+use Rattle.model.specs.Whole.{heededAs, heededIn, readAs, receivedIn}
 use Rattle.views.specs.Shown.{byteShown}
 use Rattle.views.proofs.Bytes.{bytes-block, fed-bytes}
 use Rattle.views.proofs.Fit.{Fit, generator-fits, judged-fits}

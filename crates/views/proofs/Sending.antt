@@ -28,7 +28,7 @@ use Rattle.model.specs.Model.{DaqList, Slave, runsIn, hasPacket}
 use Rattle.model.specs.Calls.{firstPacket, packetIn, roundIn, turnIn, poweredUp}
 use Rattle.model.specs.View.{viewOf}
 use Rattle.model.proofs.Shown.{stored-most, stored-long, packet-by, answer-most, answer-long}
-use Rattle.views.specs.Whole.{sentAs, sentIn, slotIn}
+use Rattle.model.specs.Whole.{sentAs, sentIn, slotIn}
 use Rattle.views.specs.Shown.{slotShown}
 use Rattle.views.proofs.Calls.{view-answerSent, view-packetSent, view-powered}
 
@@ -58,7 +58,7 @@ module _ (v : Slave) where
       cond-ind Waits (v .lastAnswer) (λ _. or-holds Waits (roundIn (v .session) (v .served)) Answer round some) (λ _. some))
       (λ _. round)
 
-written : (p : List ℕ) (ctr : ℕ) (out : List ℕ) → 1 ≤ length p → length p ≤ most → room ≤ length out
+pub written : (p : List ℕ) (ctr : ℕ) (out : List ℕ) → 1 ≤ length p → length p ≤ most → room ≤ length out
     → writeOf p ctr out ≡ record { written = Frame (length (frame ctr p)); out = atFront (frame ctr p) out }
 unfolding writeOf
 written = write-good byteForm byte-serial

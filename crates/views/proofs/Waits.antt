@@ -3,22 +3,23 @@ use Prim.Native.Nat.{ℕ, zero, suc, _+_, _≤_, _<_}
 use mathlib.Core.Path.{_≡_, refl, sym, ap, ap₂, subst, _∙_}
 use mathlib.Core.Logic.{_≢_}
 use mathlib.Core.Bool.{Bool, true, false, cond}
-use mathlib.Core.List.{List, [], _∷_, _++_}
+use mathlib.Core.List.{List, [], _∷_, _++_, append-nil}
 use native.Mathlib.Nat.{add-zero}
 use native.Mathlib.Omega.{arith}
 use borrow.Author.Tests.{lt-ltb}
 use lib.Dec.{eqb, ltb}
 use lib.ListN.{length}
-use Rattle.line.proofs.Laws.{cond-ind}
+use Rattle.line.proofs.Laws.{cond-ind, false-true}
 use Rattle.state.specs.Layout.{firstOdt, odtCount}
 use Rattle.model.specs.declared.Sampling.{Sampling}
 use Rattle.model.specs.declared.Sampling.the-variants.{Idle, Sampled, Missed}
-use Rattle.model.specs.Model.{Odt, DaqList, Session, runsIn, hasPacket, somePacket, inStore, inStores, waiting, waitingIn, runs}
+use Rattle.model.specs.Model.{Odt, DaqList, Session, runsIn, hasPacket, somePacket, unsent, inStore, inStores, waiting, waitingIn, runs}
 use Rattle.model.specs.Step.{emptied, at}
 use Rattle.model.specs.Calls.{withoutPacket, samplingIn, contentsIn, sampled, packetWith, sampleFrom, sampleIn}
+use Rattle.model.specs.Whole.{sampledAs, isSampled, sampledIn}
 use Rattle.model.proofs.Bounded.{either}
 use Rattle.model.proofs.Fits.{runs-same}
-use Rattle.views.proofs.Parts.{put-by, put-here, put-there}
+use Rattle.views.proofs.Parts.{this-or-other, put-by, put-here, put-there}
 
 -- ---- by the stores
 module _ (l : ℕ) (x z : DaqList) where
@@ -29,24 +30,9 @@ module _ (l : ℕ) (x z : DaqList) where
       ap₂ (λ (ps qs : List (List ℕ)). ps ++ qs) (ap (λ (bs : List ℕ). cond (ltb 0 (length bs)) (((firstOdt l + o) ∷ bs) ∷ []) []) (h o (omega arith) (omega arith)))
       (stores-same (o + 1) n (λ i p q. h i (omega arith) (omega arith)))
 
-  packets-same : (n : ℕ) → ((i : ℕ) → i < n → x .odt i .store ≡ z .odt i .store) → somePacket x n ≡ somePacket z n
-  unfolding somePacket
-  packets-same zero h = refl
-  packets-same (suc n) h = ap₂ (λ (b c : Bool). cond b true c) (packets-same n (λ i p. h i (omega arith))) (ap (λ (bs : List ℕ). ltb 0 (length bs)) (h n (omega arith)))
-
   pub waits-alike : (o p : Bool) → runs o l x ≡ runs p l z → ((i : ℕ) → i < odtCount l → x .odt i .store ≡ z .odt i .store) → waiting o l x ≡ waiting p l z
   unfolding waiting
   waits-alike o p run stores = ap₂ (λ (b : Bool) (ps : List (List ℕ)). cond b ps []) run (stores-same 0 (odtCount l) (λ i _ h. stores i (omega arith)))
-
-module _ (c d : Session) (l : ℕ) (run : runsIn c l ≡ runsIn d l) (stores : (o : ℕ) → o < odtCount l → c .list l .odt o .store ≡ d .list l .odt o .store) where
-  pub waiting-same : waitingIn c l ≡ waitingIn d l
-  waiting-same = waits-alike l (c .list l) (d .list l) (c .opened) (d .opened) run stores
-
-  pub sampling-same : (event : ℕ) → c .list l .mode ≡ d .list l .mode → samplingIn c l event ≡ samplingIn d l event
-  unfolding samplingIn
-  sampling-same event m =
-      ap₂ (λ (n : ℕ) (t : Sampling). cond (eqb n (event + 1)) t Idle) m
-      (ap₂ (λ (r u : Bool). cond r (cond u Missed Sampled) Idle) run (packets-same l (c .list l) (d .list l) (odtCount l) stores))
 
 -- ---- nothing waits of a list that does not run
 pub rests : (o : Bool) (l : ℕ) (x : DaqList) → runs o l x ≡ false → waiting o l x ≡ []
@@ -146,11 +132,53 @@ module _ (l clock : ℕ) (cal meas : List ℕ) (x : DaqList) where
       (ap (λ (bs : List ℕ). cond (ltb 0 (length bs)) ((k ∷ bs) ∷ []) []) (captured-store o (omega arith)) ∙ packet-waits k (contentsIn k clock cal meas (x .odt o)))
       (captured-in (o + 1) n (omega arith))
 
-pub sampled-waits : (c : Session) (l clock : ℕ) (cal meas : List ℕ) → runsIn c l ≡ true → waitingIn (at l (sampled l clock cal meas) c) l ≡ sampleIn c l clock cal meas
+pub sampled-waits : (o : Bool) (l clock : ℕ) (cal meas : List ℕ) (x : DaqList) → runs o l x ≡ true → waiting o l (sampled l clock cal meas x) ≡ sampleFrom l x clock cal meas 0 (odtCount l)
 unfolding waiting
-sampled-waits c l clock cal meas run =
-    let x : DaqList = c .list l in
+sampled-waits o l clock cal meas x run =
     let z : DaqList = sampled l clock cal meas x in
-    ap (λ (y : DaqList). waiting (c .opened) l y) (put-here l z (c .list))
-    ∙ ap (λ (b : Bool). cond b (inStores l z 0 (odtCount l)) []) (runs-same l z x (λ o h. same-entry l clock cal meas x o) (c .opened) refl refl ∙ run)
-    ∙ captured-in l clock cal meas x 0 (odtCount l) (omega arith)
+    ap (λ (b : Bool). cond b (inStores l z 0 (odtCount l)) []) (runs-same l z x (λ i h. same-entry l clock cal meas x i) o refl refl ∙ run) ∙ captured-in l clock cal meas x 0 (odtCount l) (omega arith)
+
+-- ---- a list that an event samples runs, and has nothing unsent
+pub sampled-free : (c : Session) (l event : ℕ) → samplingIn c l event ≡ Sampled → (runsIn c l ≡ true) × (unsent l (c .list l) ≡ false)
+unfolding samplingIn
+sampled-free c l event =
+    let x : DaqList = c .list l in
+    let P : Sampling → Type 0 = λ (y : Sampling). y ≡ Sampled → (runsIn c l ≡ true) × (unsent l x ≡ false) in
+    cond-ind P (eqb (x .mode) (event + 1))
+    (λ _. cond-ind P (runsIn c l)
+    (λ r. cond-ind P (unsent l x) (λ _ f. absurd (false-true (ap isSampled f))) (λ u _. (r, u)))
+    (λ _ f. absurd (false-true (ap isSampled f))))
+    (λ _ f. absurd (false-true (ap isSampled f)))
+
+pub no-packet : (bs : List ℕ) → ltb 0 (length bs) ≡ false → bs ≡ []
+no-packet [] e = refl
+no-packet (b ∷ bs) e = absurd (false-true (sym e ∙ lt-ltb 0 (length (b ∷ bs)) (omega arith)))
+
+both-none : (b c : Bool) → cond b true c ≡ false → (b ≡ false) × (c ≡ false)
+both-none true c f = absurd (false-true (sym f))
+both-none false c f = (refl, f)
+
+none-stored : (x : DaqList) (n : ℕ) → somePacket x n ≡ false → Empty x 0 n
+unfolding somePacket
+none-stored x zero e i h = absurd (omega arith)
+none-stored x (suc n) e i h =
+    let none = both-none (somePacket x n) (hasPacket (x .odt n)) e in
+    this-or-other i n
+    (λ same. let m : 0 + i ≡ n = omega arith in subst (λ (o : ℕ). x .odt o .store ≡ []) (sym m) (no-packet (x .odt n .store) (none .1)))
+    (λ other. none-stored x n (none .0) i (omega arith))
+
+pub sampled-empty : (c : Session) (l event : ℕ) → samplingIn c l event ≡ Sampled → waitingIn c l ≡ []
+sampled-empty c l event e = none-waits (c .opened) l (c .list l) (none-stored (c .list l) (odtCount l) (sampled-free c l event e .1))
+
+-- so after an event what waited of a list waits, and the sample that it took
+pub event-waits : (c : Session) (l event clock : ℕ) (cal meas : List ℕ)
+    → waitingIn (sampledIn c event clock cal meas) l ≡ waitingIn c l ++ cond (isSampled (samplingIn c l event)) (sampleIn c l clock cal meas) []
+unfolding sampledAs
+event-waits c l event clock cal meas = go (samplingIn c l event) refl where
+  x : DaqList
+  x = c .list l
+
+  go : (y : Sampling) → samplingIn c l event ≡ y → waiting (c .opened) l (sampledAs y l clock cal meas x) ≡ waitingIn c l ++ cond (isSampled y) (sampleIn c l clock cal meas) []
+  go Idle e = sym (append-nil (waitingIn c l))
+  go Sampled e = rw (sampled-empty c l event e) (sampled-waits (c .opened) l clock cal meas x (sampled-free c l event e .0))
+  go Missed e = sym (append-nil (waitingIn c l))

@@ -1,7 +1,6 @@
 -- `Commands`: what stands of every command that is done. `Locked`: what no command changes while lists are locked. `Samples`: what an event captures.
--- `Whole`: each call whole. `Shown`: what a call in bytes shows of that.
+-- `Shown`: what a call in bytes shows.
 pub mod Commands
 pub mod Locked
 pub mod Samples
-pub mod Whole
 pub mod Shown

@@ -3,7 +3,7 @@ use Rattle.lists.specs.Event.{Happened}
 use Rattle.lists.specs.Slot.{Slot}
 use Rattle.session.specs.Receive.{Step}
 use Rattle.model.specs.View.{viewOf}
-use Rattle.views.specs.Whole.{AfterByte, AfterEvent, AfterSlot}
+use Rattle.model.specs.Whole.{AfterByte, AfterEvent, AfterSlot}
 
 abbrev pub byteShown : Step → AfterByte
 byteShown o = record { received = o .received; slave = viewOf (o .state); memory = o .cal }

@@ -18,15 +18,15 @@ use Rattle.words.specs.declared.Evented.{Evented}
 use Rattle.words.specs.declared.Evented.the-variants.{Done, BadEvent}
 use Rattle.words.specs.declared.Slotted.{Slotted}
 use Rattle.words.specs.declared.Slotted.the-variants.{Idle as NothingWaits, Sent, NoRoom}
 use Rattle.model.specs.declared.Sampling.{Sampling}
 use Rattle.model.specs.declared.Sampling.the-variants.{Idle, Sampled, Missed}
 use Rattle.model.specs.declared.Turn.{Turn}
 use Rattle.model.specs.declared.Turn.the-variants.{Nobody, Answer, Packet}
-use Rattle.model.specs.Model.{DaqList, Session, Slave}
+use Rattle.model.specs.Model.{DaqList, Session, Slave, hasAnswer}
 use Rattle.model.specs.Heed.{Heeding, Dropped, Obeyed, Ignored, heedingIn}
 use Rattle.model.specs.Step.{withSession, eachList, step}
 use Rattle.model.specs.Answers.{replyIn, written}
 use Rattle.model.specs.Calls.{withAnswer, withReader, turnIn, packetFrom, answerGone, packetGone, samplingIn, sampled}
 
 -- ---- a received byte: what the call answers, and the slave and the calibration memory after it
 pub record AfterByte : Type 0 where
@@ -44,12 +44,8 @@ heededAs Dropped p v cal meas = onlyRead Unread v cal
 heededAs (Obeyed d) p v cal meas = record { received = Answered; slave = withAnswer (step d v) (replyIn d (v .session) cal meas); memory = written d p cal }
 heededAs Ignored p v cal meas = onlyRead Silent v cal
 
--- an answer waits
-abbrev pub waitsIn : Slave → Bool
-waitsIn v = ltb 0 (length (v .answer))
-
 unfoldable pub heededIn : List ℕ → Slave → List ℕ → List ℕ → AfterByte
-heededIn p v cal meas = heededAs (heedingIn (waitsIn v) p (v .session) (length cal) (length meas)) p v cal meas
+heededIn p v cal meas = heededAs (heedingIn (hasAnswer v) p (v .session) (length cal) (length meas)) p v cal meas
 
 -- by what the byte is to the line, the reader being where the line left it: the packet of a good message lies in its buffer. One with too short a
 -- buffer for the line is no slave
