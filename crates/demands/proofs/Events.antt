@@ -8,14 +8,14 @@ use native.Mathlib.Omega.{arith}
 use borrow.Author.Tests.{lt-ltb, le-ltb, ltb-true, ltb-false}
 use lib.Dec.{ltb, lit≤}
 use lib.ListN.{length, length-append}
-use Rattle.state.specs.Layout.{lists, placeAt, sampleAt, firstOdt, size, sessionAt, odtCount}
+use Rattle.state.specs.Layout.{lists, events, placeAt, sampleAt, firstOdt, size, sessionAt, odtCount}
 use Rattle.state.specs.Bytes.{block}
 use Rattle.state.specs.State.{consistent}
 use Rattle.lists.specs.Event.{captured, tally, happened, eventOf}
 use Rattle.model.specs.Model.{DaqList, Session, waitingIn}
 use Rattle.model.specs.Step.{withLists}
 use Rattle.model.specs.Calls.{samplingIn, contentsIn, packetWith, sampleFrom}
-use Rattle.model.specs.Whole.{AfterEvent, isSampled, countedIn, sampledIn, eventIn}
+use Rattle.model.specs.Whole.{AfterEvent, isSampled, countedIn, eventIn}
 use Rattle.model.specs.View.{listsOf, sessionOf, viewOf}
 use Rattle.model.specs.declared.Sampling.the-variants.{Sampled}
 use Rattle.state.proofs.Consistent.{consistent-size}
@@ -24,7 +24,7 @@ use Rattle.fields.proofs.Readers.{Same, apart, same-block, answer-reads}
 use Rattle.fields.proofs.Captures.{only-event}
 use Rattle.views.proofs.Parts.{in-lists}
 use Rattle.views.proofs.Waits.{sampled-empty, event-waits}
-use Rattle.views.proofs.Happening.{view-event}
+use Rattle.views.proofs.Happening.{view-event, event-session}
 use Rattle.demands.specs.Slave.{ours}
 use Rattle.demands.specs.Runs.{Event}
 use Rattle.demands.specs.Waiting.{AllBut, waitingOf, sampleOf}
@@ -47,17 +47,16 @@ pub counts : (s cal meas : List ℕ) (event clock : ℕ) → consistent s ≡ tr
 unfolding eventIn viewOf
 counts s cal meas event clock c h = ap (λ (o : AfterEvent). o .evented) (view-event s cal meas event clock c) ∙ rw (le-ltb 1 event h)
 
-event-session : (s cal meas : List ℕ) (event clock : ℕ) → consistent s ≡ true → event ≤ 1 → sessionOf (eventOf s cal meas event clock .state) ≡ sampledIn (sessionOf s) event clock cal meas
-unfolding eventIn viewOf
-event-session s cal meas event clock c h = ap (λ (o : AfterEvent). o .slave .session) (view-event s cal meas event clock c) ∙ rw (le-ltb 1 event h)
-
 -- ---- a list keeps what waits, and gains what the event gives it
 pub event-waiting : (s cal meas : List ℕ) (event clock l : ℕ) → consistent s ≡ true → waitingOf (eventOf s cal meas event clock .state) l ≡ waitingOf s l ++ gains l s (Event cal meas event clock)
 event-waiting s cal meas event clock l c = go (ltb 1 event) refl where
+  low : event ≤ 1 → event < events
+  low h = omega arith
+
   go : (t : Bool) → ltb 1 event ≡ t
       → waitingOf (eventOf s cal meas event clock .state) l ≡ waitingOf s l ++ cond t [] (cond (isSampled (samplingIn (sessionOf s) l event)) (sampleOf s l clock cal meas) [])
   go true e = rw (refused s cal meas event clock c (ltb-true 1 event e)) (sym (append-nil (waitingOf s l)))
-  go false e = ap (λ (x : Session). waitingIn x l) (event-session s cal meas event clock c (ltb-false 1 event e)) ∙ event-waits (sessionOf s) l event clock cal meas
+  go false e = ap (λ (x : Session). waitingIn x l) (event-session s cal meas event clock c (low (ltb-false 1 event e))) ∙ event-waits (sessionOf s) l event clock cal meas
 
 pub samples : (s cal meas : List ℕ) (event clock l : ℕ) → consistent s ≡ true → event ≤ 1 → l < lists → samplingIn (sessionOf s) l event ≡ Sampled
     → waitingOf (ours .event s cal meas event clock .state) l ≡ sampleOf s l clock cal meas

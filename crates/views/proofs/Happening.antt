@@ -5,7 +5,7 @@ use mathlib.Core.Path.{_≡_, refl, sym, ap, ap₂, _∙_, fun-ext}
 use mathlib.Core.Bool.{Bool, true, cond}
 use mathlib.Core.List.{List}
 use native.Mathlib.Omega.{arith}
-use borrow.Author.Tests.{lt-ltb, le-ltb, ltb-true, ltb-false, ne-eqb}
+use borrow.Author.Tests.{lt-ltb, le-ltb, ltb-true, ltb-false, ne-eqb, lt-leb}
 use lib.Dec.{eqb, ltb, leb, lit≤}
 use lib.ListN.{length}
 use Rattle.line.proofs.Laws.{cond-ind}
@@ -24,7 +24,7 @@ use Rattle.model.specs.Calls.{samplingIn}
 use Rattle.model.specs.View.{sessionOf, viewOf}
 use Rattle.model.proofs.Bounded.{either}
 use Rattle.model.proofs.Shown.{no-list}
-use Rattle.model.specs.Whole.{sampledAs, isSampled, isMissed, howMany, sampledIn, eventIn}
+use Rattle.model.specs.Whole.{AfterEvent, sampledAs, isSampled, isMissed, howMany, sampledIn, eventIn}
 use Rattle.views.specs.Shown.{eventShown}
 use Rattle.views.proofs.Parts.{put-by}
 use Rattle.views.proofs.Calls.{view-captured}
@@ -142,3 +142,8 @@ view-event s cal meas event clock c =
       evented = Done (count-sampled s event clock cal meas h lists (lit≤ tt) i) (count-missed s event clock cal meas h lists (lit≤ tt) i);
       slave = view-tally s event clock cal meas h i;
     })))
+
+-- what it makes of the session
+pub event-session : (s cal meas : List ℕ) (event clock : ℕ) → consistent s ≡ true → event < events → sessionOf (eventOf s cal meas event clock .state) ≡ sampledIn (sessionOf s) event clock cal meas
+unfolding eventIn viewOf
+event-session s cal meas event clock c h = ap (λ (o : AfterEvent). o .slave .session) (view-event s cal meas event clock c) ∙ rw (lt-leb events event h)

@@ -1,38 +1,30 @@
 -- Each byte of a sample comes from its own place. Assumes nothing.
 use Prim.Native.Nat.{ℕ, zero, suc, _+_, _%_, _/_, _≤_, _<_}
-use mathlib.Core.Path.{_≡_, refl, sym, ap, ap₂, subst, _∙_}
+use mathlib.Core.Path.{_≡_, refl, sym, ap, subst, _∙_}
 use mathlib.Core.Logic.{_≢_}
-use mathlib.Core.Bool.{Bool, true, cond}
+use mathlib.Core.Bool.{true}
 use mathlib.Core.List.{List, [], _∷_, _++_}
 use native.Mathlib.Nat.{add-zero, min-le-left, min-le-right}
 use native.Mathlib.Omega.{arith}
-use borrow.Author.Tests.{ltb-false, eqb-true, eqb-false, eq-eqb, ne-eqb, lt-ltb, le-ltb, lt-leb}
-use lib.Dec.{eqb, ltb, lit≤}
-use lib.ListN.{length, getD, length-append, List·getD-append}
+use borrow.Author.Tests.{eqb-true, eqb-false, eq-eqb, ne-eqb, lt-ltb, le-ltb}
+use lib.Dec.{eqb}
+use lib.ListN.{length, length-append, List·getD-append}
 use lib.Seq.{getD-append-add}
-use Rattle.line.proofs.Laws.{cond-ind}
-use Rattle.state.specs.Layout.{size, lists, events, modeAt, addressable, firstOdt, odtCount, entryCount, listOf}
+use Rattle.state.specs.Layout.{size, events, addressable, firstOdt, odtCount, entryCount, listOf}
 use Rattle.state.specs.Memory.{pick, reach, byteOf, bytesOf}
 use Rattle.state.specs.State.{consistent}
-use Rattle.state.specs.Lists.{modeOf}
-use Rattle.state.proofs.Consistent.{consistent-size}
-use Rattle.words.specs.declared.Evented.the-variants.{BadEvent, NoState}
-use Rattle.lists.specs.Event.{samplingOf, captured, sampledState, sampledBy, tally, happened, eventOf}
+use Rattle.lists.specs.Event.{eventOf}
 use Rattle.lists.proofs.Gathered.{bytes-length}
-use Rattle.lists.proofs.Fitting.{Fitting, sampling-fits}
-use Rattle.fields.proofs.Readers.{apart, open-reads}
-use Rattle.fields.proofs.Captures.{only-tally}
 use Rattle.model.specs.declared.Sampling.{Sampling}
-use Rattle.model.specs.declared.Sampling.the-variants.{Idle, Sampled, Missed}
-use Rattle.model.specs.Model.{byte, put, Entry, Odt, DaqList, Slave, eachFits, runs, unsent}
+use Rattle.model.specs.declared.Sampling.the-variants.{Sampled}
+use Rattle.model.specs.Model.{byte, Entry, Odt, DaqList, Session}
 use Rattle.model.specs.Calls.{samplingIn, blockIn, blocksIn, leadOf, contentsIn, sampled}
-use Rattle.model.specs.View.{sessionOf, viewOf}
+use Rattle.model.specs.Whole.{sampledAs}
+use Rattle.views.proofs.Happening.{event-session}
+use Rattle.model.specs.View.{sessionOf}
 use Rattle.model.proofs.Bounded.{either}
-use Rattle.model.proofs.Shown.{mode-at}
 use Rattle.views.specs.Commands.{memoryOf}
 use Rattle.views.specs.Samples.{leadSize, sizesBefore, ReadAs, Captured, Samples}
-use Rattle.views.proofs.Parts.{put-here, put-there}
-use Rattle.views.proofs.Calls.{view-captured}
 use Rattle.views.proofs.MemoryLaws.{memory-is}
 
 -- ---- one address, and the block from it
@@ -133,80 +125,10 @@ pub samples-from : (l clock : ℕ) (cal meas : List ℕ) (x : DaqList) → Sampl
 samples-from l clock cal meas x o h =
     subst (Captured l o clock cal meas (x .odt o)) (sym (rw (lt-ltb o (odtCount l) h))) (contents-from l o clock cal meas (x .odt o) h)
 
--- ---- an event, list by list: each has its turn, which is what it would be at once, and leaves the others
--- a list that is sampled has that event's mode, which there is
-sampled-event : (s : List ℕ) (l event : ℕ) → l < lists → samplingOf s l event ≡ Sampled → event < events
-unfolding samplingIn modeOf
-sampled-event s l event l4 =
-    let x : DaqList = sessionOf s .list l in
-    let most : modeOf s l ≤ events =
-    cond-ind (λ (n : ℕ). n ≤ events) (ltb events (getD s (modeAt l) 0)) (λ _. omega arith) (λ b. ltb-false events (getD s (modeAt l) 0) b) in
-    cond-ind (λ (c : Sampling). c ≡ Sampled → event < events) (eqb (x .mode) (event + 1))
-    (λ b _. omega (arith, eqb-true (x .mode) (event + 1) b, mode-at s l l4)) (λ _ e. absurd (omega (arith, ap sampledBy e)))
-
-captured-list : (s : List ℕ) (l clock : ℕ) (cal meas : List ℕ) → length s ≡ size → l < lists → eachFits l (sessionOf s .list l) (odtCount l) ≡ true
-    → sessionOf (captured s l clock cal meas) .list ≡ put l (sampled l clock cal meas (sessionOf s .list l)) (sessionOf s .list)
-unfolding viewOf
-captured-list s l clock cal meas long l4 fit = ap (λ (v : Slave). v .session .list) (view-captured s l clock cal meas long l4 fit)
-
-module _ (s : List ℕ) (event clock : ℕ) (cal meas : List ℕ) (long : length s ≡ size) where
-  -- the state when the first n lists have had their turn
-  abbrev had : ℕ → List ℕ
-  had n = tally s event clock cal meas n .state
-
-  had-long : (n : ℕ) → n ≤ lists → length (had n) ≡ size
-  had-long n h = only-tally s event clock cal meas n h .long ∙ long
-
-  others-kept : (n l : ℕ) → n < lists → l ≢ n → sessionOf (had (suc n)) .list l ≡ sessionOf (had n) .list l
-  unfolding tally sampledState
-  others-kept n l h m = go (samplingOf (had n) n event) refl where
-    go : (c : Sampling) → samplingOf (had n) n event ≡ c → sessionOf (sampledState c (had n) n clock cal meas) .list l ≡ sessionOf (had n) .list l
-    go Idle e = refl
-    go Sampled e =
-        ap (λ (f : ℕ → DaqList). f l) (captured-list (had n) n clock cal meas (had-long n (omega arith)) h (subst (Fitting (had n) n) e (sampling-fits (had n) n event)))
-        ∙ put-there n (sampled n clock cal meas (sessionOf (had n) .list n)) (sessionOf (had n) .list) l m
-    go Missed e = refl
-
-  before-turn : (n l : ℕ) → n ≤ l → l < lists → sessionOf (had n) .list l ≡ sessionOf s .list l
-  unfolding tally
-  before-turn zero l h l4 = refl
-  before-turn (suc n) l h l4 = others-kept n l (omega arith) (omega arith) ∙ before-turn n l (omega arith) l4
-
-  after-turn : (n l : ℕ) → l < n → n ≤ lists → sessionOf (had n) .list l ≡ sessionOf (had (suc l)) .list l
-  after-turn zero l h h4 = absurd (omega arith)
-  after-turn (suc n) l h h4 =
-      either (eqb l n) (λ b. ap (λ (i : ℕ). sessionOf (had (suc i)) .list l) (sym (eqb-true l n b)))
-      (λ b. let other : l ≢ n = eqb-false l n b in others-kept n l (omega arith) other ∙ after-turn n l (omega arith) (omega arith))
-
-  open-kept : (n : ℕ) → n ≤ lists → sessionOf (had n) .opened ≡ sessionOf s .opened
-  unfolding sessionOf
-  open-kept n h = open-reads (apart tt (only-tally s event clock cal meas n h))
-
-  turn : (l : ℕ) → l < lists → samplingOf (had l) l event ≡ samplingOf s l event
-  unfolding samplingIn
-  turn l h =
-      ap₂ (λ (x : DaqList) (b : Bool). cond (eqb (x .mode) (event + 1)) (cond (runs b l x) (cond (unsent l x) Missed Sampled) Idle) Idle) (before-turn l l (omega arith) h) (open-kept l (omega arith))
-
-  sampled-list : (l : ℕ) → l < lists → samplingOf s l event ≡ Sampled → sessionOf (had lists) .list l ≡ sampled l clock cal meas (sessionOf s .list l)
-  unfolding tally sampledState
-  sampled-list l h e =
-      let own : had (suc l) ≡ captured (had l) l clock cal meas = rw (turn l h, e) refl in
-      after-turn lists l h (lit≤ tt)
-      ∙ ap (λ (t : List ℕ). sessionOf t .list l) own
-      ∙ ap (λ (f : ℕ → DaqList). f l) (captured-list (had l) l clock cal meas (had-long l (omega arith)) h (subst (Fitting (had l) l) (turn l h ∙ e) (sampling-fits (had l) l event)))
-      ∙ put-here l (sampled l clock cal meas (sessionOf (had l) .list l)) (sessionOf (had l) .list)
-      ∙ ap (sampled l clock cal meas) (before-turn l l (omega arith) h)
-
--- of the bytes: what an event leaves in the stores of a list that it samples
-event-done : (s cal meas : List ℕ) (event clock : ℕ) → consistent s ≡ true → event < events → eventOf s cal meas event clock .state ≡ tally s event clock cal meas lists .state
-unfolding eventOf
-event-done s cal meas event clock c h =
-    ap₂ (λ (a b : Bool). cond a (cond b (record { evented = BadEvent; state = s }) (happened (tally s event clock cal meas lists))) (record { evented = NoState; state = s }) .state) c (lt-leb events event h)
-
-pub event-samples : (s cal meas : List ℕ) (event clock l : ℕ) → consistent s ≡ true → l < lists → samplingOf s l event ≡ Sampled
+-- ---- of the bytes: what an event leaves in the stores of a list that it samples
+pub event-samples : (s cal meas : List ℕ) (event clock l : ℕ) → consistent s ≡ true → event < events → samplingIn (sessionOf s) l event ≡ Sampled
     → Samples l clock cal meas (sessionOf s .list l) (sessionOf (eventOf s cal meas event clock .state) .list l)
-event-samples s cal meas event clock l c l4 e =
+unfolding sampledAs
+event-samples s cal meas event clock l c h e =
     let x : DaqList = sessionOf s .list l in
-    subst (Samples l clock cal meas x)
-    (sym (ap (λ (t : List ℕ). sessionOf t .list l) (event-done s cal meas event clock c (sampled-event s l event l4 e)) ∙ sampled-list s event clock cal meas (consistent-size s c) l l4 e))
-    (samples-from l clock cal meas x)
+    subst (Samples l clock cal meas x) (sym (ap (λ (d : Session). d .list l) (event-session s cal meas event clock c h) ∙ ap (λ (y : Sampling). sampledAs y l clock cal meas x) e)) (samples-from l clock cal meas x)
