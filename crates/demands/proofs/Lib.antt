@@ -40,3 +40,4 @@ pub mod Whole
 pub mod Reading
 pub mod Conserved
 pub mod Demand3
+pub mod Shows

@@ -24,7 +24,7 @@ use Rattle.words.specs.Number.{receivedNumber}
 use Rattle.model.specs.Judge.{connectDeed, judgeThe, judgeBy, judge, judgeIn}
 use Rattle.model.specs.Heed.{goodConnect}
 use Rattle.model.specs.declared.Deed.the-variants.{Connect}
-use Rattle.model.specs.View.{sessionOf, shown}
+use Rattle.model.specs.View.{sessionOf, viewOf, shown}
 use Rattle.views.specs.Commands.{Obeys}
 use Rattle.views.proofs.Bytes.{bytes-block, fed-bytes}
 use Rattle.views.proofs.Fit.{Fit, generator-fits, judged-fits}
@@ -61,6 +61,7 @@ connect-judged p c nc nm g = go (eqb (byte p 0) 0xFF) (ltb (length p) 2) (eqb (b
 
 module _ (s : List ℕ) (b : ℕ) (c : consistent s ≡ true) (w : Bytes s) (low : b < 256) where
   pub ended-bytes : (p : List ℕ) → packetEnded s b ≡ some p → Bytes p
+  unfolding viewOf
   ended-bytes p e = packet-bytes (fedOf s b .taken .outcome) (fedOf s b .message) p (fed-bytes s b w low) e
 
   generator-low : generatorOf (readBy s b) < 2 ^ 32

@@ -85,7 +85,7 @@ module _ (s cal meas : List ℕ) (b : ℕ) (c : consistent s ≡ true) where
 
   meant-reads : (o : Outcome) → Roomy o → fedOf s b .taken .outcome ≡ o
       → Reads s cal meas b (meant o (fedOf s b .message) (readBy s b) cal meas) (heeds (packetBy o (fedOf s b .message)) (viewOf s) (length cal) (length meas))
-  unfolding meant heeds
+  unfolding meant heeds viewOf
   meant-reads line.Nothing y e = rests Nothing (omega arith) (omega arith)
   meant-reads (line.Good ctr at n) y e = heeded-reads (block (fedOf s b .message) at n) (rw e)
   meant-reads line.BadLength y e = rests BadLength (omega arith) (omega arith)
@@ -151,6 +151,7 @@ unfolding receiveOf
 received-by s cal meas b c = rw c refl
 
 pub heeded-whole : (s cal meas : List ℕ) (b : ℕ) (p : List ℕ) → packetEnded s b ≡ some p → receivedBy (fedOf s b) s cal meas ≡ heeded p (readBy s b) cal meas
+unfolding viewOf
 heeded-whole s cal meas b p e = heeded-by (fedOf s b .taken .outcome) (fedOf s b .message) (readBy s b) cal meas p e
 
 pub heeds-right : (s cal meas : List ℕ) (b : ℕ) (p : List ℕ) → consistent s ≡ true → packetEnded s b ≡ some p → receiveOf s cal meas b ≡ heeded p (readBy s b) cal meas

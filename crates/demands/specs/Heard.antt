@@ -15,6 +15,7 @@ use Rattle.model.specs.Model.{byte, Session, Slave, hasAnswer}
 use Rattle.model.specs.Judge.{judgeIn}
 use Rattle.model.specs.Heed.{Heeding, Dropped, Obeyed, Ignored, heedingIn}
 use Rattle.model.specs.Answers.{commandIn}
+use Rattle.model.specs.Whole.{fedIn}
 use Rattle.model.specs.View.{sessionOf, viewOf}
 use Rattle.words.specs.declared.Resource.{Resource}
 use Rattle.words.specs.declared.Seed.{Seed}
@@ -33,7 +34,7 @@ packetBy CutOff m = none
 packetBy ShortBuffer m = none
 
 abbrev pub packetEnded : List ℕ → ℕ → Option (List ℕ)
-packetEnded s b = packetBy (fedOf s b .taken .outcome) (fedOf s b .message)
+packetEnded s b = packetBy (fedIn b (viewOf s) .taken .outcome) (fedIn b (viewOf s) .message)
 
 -- the state once byte b is read: s, but for the reader's place
 abbrev pub readBy : List ℕ → ℕ → List ℕ

@@ -1,10 +1,11 @@
 -- Runs: calls in any order, folded over a slave.
-use Prim.Native.Nat.{ℕ, suc}
+use Prim.Native.Nat.{ℕ, suc, _<_}
 use mathlib.Core.Bool.{Bool, cond}
 use mathlib.Core.List.{List, [], _∷_, _++_}
 use lib.Dec.{leb}
 use lib.ListN.{length, take}
 use Rattle.line.specs.Message.{room}
+use Rattle.model.specs.Model.{Bytes}
 use Rattle.words.specs.declared.Slotted.{Slotted}
 use Rattle.words.specs.declared.Slotted.the-variants.{Idle, Sent, NoRoom, NoState}
 use Rattle.demands.specs.Slave.{Slave}
@@ -66,3 +67,11 @@ received (Byte cal meas b ∷ cs) = b ∷ received cs
 received (Event cal meas event clock ∷ cs) = received cs
 received (SendingSlot out ∷ cs) = received cs
 received (Elsewhere ∷ cs) = received cs
+
+-- what is lent to the calls, and received, is of bytes
+abbrev pub LentBytes : List Call → Type 0
+LentBytes [] = Unit {0}
+LentBytes (Byte cal meas b ∷ cs) = Bytes cal × Bytes meas × (b < 256) × LentBytes cs
+LentBytes (Event cal meas event clock ∷ cs) = Bytes cal × Bytes meas × LentBytes cs
+LentBytes (SendingSlot out ∷ cs) = LentBytes cs
+LentBytes (Elsewhere ∷ cs) = LentBytes cs

@@ -61,8 +61,12 @@ readAs line.ShortBuffer v cal meas = onlyRead NoState v cal
 abbrev pub readIn : Fed → Slave → List ℕ → List ℕ → AfterByte
 readIn f v cal meas = readAs (f .taken .outcome) (withReader v (f .taken .place) (f .message)) cal meas
 
+-- what the line makes of byte b
+abbrev pub fedIn : ℕ → Slave → Fed
+fedIn b v = takeOf (v .place) (v .message) b
+
 unfoldable pub receivedIn : ℕ → Slave → List ℕ → List ℕ → AfterByte
-receivedIn b v cal meas = readIn (takeOf (v .place) (v .message) b) v cal meas
+receivedIn b v cal meas = readIn (fedIn b v) v cal meas
 
 -- ---- an event: what the call answers, and the slave after it
 pub record AfterEvent : Type 0 where

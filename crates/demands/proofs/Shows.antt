@@ -1,0 +1,46 @@
+-- What each call shows is what document 01 says of it, of ours and so of every slave that meets the first two demands; likewise the laws of its
+-- commands and of its locks. Assumes nothing.
+use Prim.Native.Nat.{ℕ, _≤_, _<_}
+use mathlib.Core.Path.{sym, subst}
+use mathlib.Core.List.{List}
+use native.Mathlib.Omega.{arith}
+use Rattle.state.specs.Layout.{events}
+use Rattle.views.specs.Commands.{Obeys}
+use Rattle.views.proofs.Receiving.{view-receive}
+use Rattle.views.proofs.Happening.{view-event}
+use Rattle.views.proofs.Sending.{view-slot, view-powerUp}
+use Rattle.views.proofs.SampleLaws.{event-samples}
+use Rattle.demands.specs.Slave.{Slave, ours}
+use Rattle.demands.specs.Demand1.{Demand1}
+use Rattle.demands.specs.Demand2.{Demand2}
+use Rattle.demands.specs.Obeyed.{Obeyed}
+use Rattle.demands.specs.ListsLocked.{ListsLocked}
+use Rattle.demands.specs.Shows.{Shows}
+use Rattle.demands.proofs.Obeyed.{ours-obeys}
+use Rattle.demands.proofs.ListsLocked.{lists-locked}
+use Rattle.demands.proofs.NoChoice.{only-ours}
+
+low : (number : ℕ) → number ≤ 1 → number < events
+low number h = omega arith
+
+pub ours-shows : Shows ours
+ours-shows = record {
+  byte = view-receive;
+  event = view-event;
+  slot = view-slot;
+  powerUp = λ s start h k. view-powerUp s start h k .1;
+  sample = λ s cal meas number clock l c h e. event-samples s cal meas number clock l c (low number h) e;
+}
+
+-- whatever stands of ours stands of every slave that meets the first two demands
+pub every : (P : Slave → Type 0) → P ours → (v : Slave) → Demand1 v → Demand2 v → P v
+every P p v d e = subst P (sym (only-ours v d e)) p
+
+pub every-shows : (v : Slave) → Demand1 v → Demand2 v → Shows v
+every-shows = every Shows ours-shows
+
+pub every-obeys : (v : Slave) → Demand1 v → Demand2 v → Obeys (Obeyed v)
+every-obeys = every (λ (v : Slave). Obeys (Obeyed v)) ours-obeys
+
+pub every-locked : (v : Slave) → Demand1 v → Demand2 v → ListsLocked v
+every-locked = every ListsLocked lists-locked

@@ -1,0 +1,27 @@
+-- What each call of a slave shows is what document 01 says of that call, over the model: the answer, and the slave, the memory and the lent bytes after
+-- it.
+use Prim.Native.Nat.{ℕ, _^_, _≤_, _<_}
+use mathlib.Core.Path.{_≡_}
+use mathlib.Core.Bool.{true}
+use mathlib.Core.List.{List}
+use lib.ListN.{length}
+use Rattle.state.specs.Layout.{size}
+use Rattle.state.specs.State.{consistent}
+use Rattle.model.specs.Model.{Bytes}
+use Rattle.model.specs.Calls.{samplingIn, poweredUp}
+use Rattle.model.specs.Whole.{receivedIn, eventIn, slotIn}
+use Rattle.model.specs.View.{sessionOf, viewOf}
+use Rattle.model.specs.declared.Sampling.the-variants.{Sampled}
+use Rattle.views.specs.Samples.{Samples}
+use Rattle.views.specs.Shown.{byteShown, eventShown, slotShown}
+use Rattle.demands.specs.Slave.{Slave}
+
+pub record Shows (v : Slave) : Type 0 where
+  -- of a byte, in a state of bytes: a generator or an address of more than its bytes would read as another
+  pub byte : (s cal meas : List ℕ) (b : ℕ) → consistent s ≡ true → Bytes s → b < 256 → byteShown (v .receive s cal meas b) ≡ receivedIn b (viewOf s) cal meas
+  pub event : (s cal meas : List ℕ) (number clock : ℕ) → consistent s ≡ true → eventShown (v .event s cal meas number clock) ≡ eventIn number clock (viewOf s) cal meas
+  pub slot : (s out : List ℕ) → consistent s ≡ true → slotShown (v .slot s out) ≡ slotIn (viewOf s) out
+  pub powerUp : (s : List ℕ) (start : ℕ) → length s ≡ size → start < 2 ^ 32 → viewOf (v .powerUp s start .state) ≡ poweredUp start
+  -- each byte of a sample is that of its own place
+  pub sample : (s cal meas : List ℕ) (number clock l : ℕ) → consistent s ≡ true → number ≤ 1 → samplingIn (sessionOf s) l number ≡ Sampled
+      → Samples l clock cal meas (sessionOf s .list l) (sessionOf (v .event s cal meas number clock .state) .list l)
