@@ -85,10 +85,6 @@ storesOnly s cal meas event clock =
     let w = only-event s cal meas event clock in
     record { long = w .long; front = only-take (sampleAt 0) (lit≤ tt) w; back = only-drop size (lit≤ tt) w }
 
--- all before the stores: the CTR, the list last served, whether the last frame was an answer, the session
-pub event-front : (s cal meas : List ℕ) (event clock : ℕ) → Same 0 (sampleAt 0) s (eventOf s cal meas event clock .state)
-event-front s cal meas event clock = apart tt (only-event s cal meas event clock)
-
 -- among them the reader and the answer
 pub event-back : (s cal meas : List ℕ) (event clock : ℕ) → Same placeAt sessionAt s (eventOf s cal meas event clock .state)
 event-back s cal meas event clock = apart tt (only-event s cal meas event clock)

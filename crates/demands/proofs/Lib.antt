@@ -11,7 +11,6 @@ pub mod Unchanged
 pub mod Refusals
 pub mod Demand1
 -- The second demand.
-pub mod Round
 pub mod Turns
 pub mod Sends
 pub mod EventSteps

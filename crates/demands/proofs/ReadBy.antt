@@ -15,28 +15,20 @@ use Rattle.line.specs.declared.Place.the-variants.{Outside, Inside, Escaped}
 use Rattle.line.specs.declared.Outcome.{Outcome}
 use Rattle.line.specs.declared.Outcome.the-variants.{Nothing, Good, BadLength, BadEscape, BadChecksum, CutOff, ShortBuffer}
 use Rattle.line.proofs.Laws.{cond-ind}
-use Rattle.line.proofs.After.{take-length}
 use Rattle.line.proofs.Unframing.{Takes, begins, passes, escapes, brings, breaks, takes}
 use Rattle.line.proofs.Steps.{Puts, refuses, goes, fills, spoils, puts, take-long}
-use Rattle.state.specs.Layout.{placeAt, answerAt, size, messageAt}
+use Rattle.state.specs.Layout.{placeAt, answerAt, size}
 use Rattle.state.specs.State.{consistent, placeOf, messageOf, waits}
 use Rattle.session.specs.Receive.{fedOf}
-use Rattle.model.specs.Model.{hasAnswer}
+use Rattle.model.specs.Model.{Slave, hasAnswer}
 use Rattle.model.specs.View.{sessionOf, viewOf}
 use Rattle.model.proofs.Shown.{answer-long}
 use Rattle.state.proofs.Consistent.{consistent-size}
-use Rattle.fields.proofs.Frames.{Only, only-readOn}
-use Rattle.fields.proofs.Readers.{apart, consistent-reads, answer-reads}
-use Rattle.state.proofs.Sets.{block-length}
-use Rattle.views.proofs.Calls.{session-reads}
+use Rattle.fields.proofs.Frames.{Only}
+use Rattle.model.specs.Calls.{withReader}
+use Rattle.views.proofs.Receiving.{message-long, view-read}
+use Rattle.views.proofs.Receiving as receiving
 use Rattle.demands.specs.Heard.{readBy}
-
-message-length : (s : List ℕ) → length s ≡ size → length (messageOf s) ≡ longest
-unfolding messageOf
-message-length s h = block-length s messageAt longest (omega arith)
-
-fed-length : (s : List ℕ) (b : ℕ) → length s ≡ size → length (fedOf s b .message) ≡ longest
-fed-length s b h = take-length (placeOf s) (messageOf s) b ∙ message-length s h
 
 -- an answer waits where one is shown
 pub waits-shown : (s : List ℕ) → length s ≡ size → waits s ≡ hasAnswer (viewOf s)
@@ -46,21 +38,21 @@ waits-shown s h = ap (ltb 0) (sym (answer-long s h))
 -- ---- the state once a byte is read
 module _ (s : List ℕ) (b : ℕ) (c : consistent s ≡ true) where
   pub read-only : Only placeAt answerAt s (readBy s b)
-  read-only = only-readOn s (fedOf s b) (consistent-size s c) (fed-length s b (consistent-size s c))
+  read-only = receiving.read-only s b (consistent-size s c)
 
   pub read-length : length (readBy s b) ≡ size
   read-length = read-only .long ∙ consistent-size s c
 
-  pub read-consistent : consistent (readBy s b) ≡ true
-  read-consistent = consistent-reads (apart tt read-only) ∙ c
+  -- of the slave that it shows nothing but the reader, which is where the line left it
+  pub read-shows : viewOf (readBy s b) ≡ withReader (viewOf s) (fedOf s b .taken .place) (fedOf s b .message)
+  read-shows = view-read s b (consistent-size s c)
 
-  -- of the slave that it shows nothing but the reader
   pub read-session : sessionOf (readBy s b) ≡ sessionOf s
-  read-session = session-reads (apart tt read-only) (apart tt read-only)
+  unfolding viewOf
+  read-session = ap (λ (v : Slave). v .session) read-shows
 
   pub read-answer : viewOf (readBy s b) .answer ≡ viewOf s .answer
-  unfolding viewOf
-  read-answer = answer-reads (apart tt read-only)
+  read-answer = ap (λ (v : Slave). v .answer) read-shows
 
 -- ---- the state's message buffer has room for every message
 abbrev pub Roomy : Outcome → Type 0
@@ -94,4 +86,4 @@ fed-roomy : (p : Place) (m : List ℕ) (b : ℕ) → longest ≤ length m → Ro
 fed-roomy p m b fits = rw (take-long p m b fits) (take-roomy fits (takes messages p m b))
 
 pub read-roomy : (s : List ℕ) (b : ℕ) → consistent s ≡ true → Roomy (fedOf s b .taken .outcome)
-read-roomy s b c = fed-roomy (placeOf s) (messageOf s) b (omega (arith, message-length s (consistent-size s c)))
+read-roomy s b c = fed-roomy (placeOf s) (messageOf s) b (omega (arith, message-long s (consistent-size s c)))

@@ -95,7 +95,7 @@ module _ (s cal meas : List ℕ) (b : ℕ) (c : consistent s ≡ true) where
   meant-reads line.ShortBuffer y e = absurd y
 
   pub received : Reads s cal meas b (receiveOf s cal meas b) (doneAt s cal meas b)
-  unfolding receiveOf
+  unfolding receiveOf viewOf
   received =
       cond-ind (λ (o : Step). Reads s cal meas b o (doneAt s cal meas b)) (consistent s)
       (λ _. meant-reads (fedOf s b .taken .outcome) (read-roomy s b c) refl)
@@ -109,12 +109,6 @@ pub record Rests (s cal : List ℕ) (b : ℕ) (o : Step) : Type 0 where
   pub state : o .state ≡ readBy s b
   pub memory : o .cal ≡ cal
 
--- deed d is done
-pub record Acts (s cal meas : List ℕ) (b : ℕ) (d : Deed) (o : Step) : Type 0 where
-  pub packet : List ℕ
-  pub does : Does s cal meas b d packet
-  pub step : o ≡ obeyed d packet (readBy s b) cal meas
-
 pub some-none : {A : Type 0} {x : A} → some x ≡ none → ⊥
 some-none e = let z : _≡_ {A = ℕ} 0 1 = cc in omega arith
 
@@ -122,18 +116,8 @@ rests-by : {s cal meas : List ℕ} {b : ℕ} {o : Step} {x : Option Deed} → Re
 rests-by (rests r n f) e = record { number = n; few = f; state = refl; memory = refl }
 rests-by (acts d p w) e = absurd (some-none e)
 
-acts-by : {s cal meas : List ℕ} {b : ℕ} {o : Step} {x : Option Deed} (d : Deed) → Reads s cal meas b o x → x ≡ some d → Acts s cal meas b d o
-acts-by d (rests r n f) e = absurd (some-none (sym e))
-acts-by {s} {cal} {meas} {b} d (acts d′ p w) e =
-    let same : d′ ≡ d = cc in
-    let w′ : Does s cal meas b d p = rw same at w in
-    record { packet = p; does = w′; step = rw same }
-
 pub rests-known : (s cal meas : List ℕ) (b : ℕ) → consistent s ≡ true → doneAt s cal meas b ≡ none → Rests s cal b (receiveOf s cal meas b)
 rests-known s cal meas b c e = rests-by (received s cal meas b c) e
-
-pub acts-known : (s cal meas : List ℕ) (b : ℕ) (d : Deed) → consistent s ≡ true → doneAt s cal meas b ≡ some d → Acts s cal meas b d (receiveOf s cal meas b)
-acts-known s cal meas b d c e = acts-by d (received s cal meas b c) e
 
 -- ---- a good message is heeded
 heeded-by : (o : Outcome) (m t cal meas p : List ℕ) → packetBy o m ≡ some p → meant o m t cal meas ≡ heeded p t cal meas

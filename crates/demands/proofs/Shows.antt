@@ -2,7 +2,6 @@
 -- commands and of its locks. Assumes nothing.
 use Prim.Native.Nat.{ℕ, _≤_, _<_}
 use mathlib.Core.Path.{sym, subst}
-use mathlib.Core.List.{List}
 use native.Mathlib.Omega.{arith}
 use Rattle.state.specs.Layout.{events}
 use Rattle.views.specs.Commands.{Obeys}

@@ -1,5 +1,5 @@
 -- Whose turn it is has something waiting, and with a packet of a list waiting its turn comes. Assumes nothing.
-use Prim.Native.Nat.{ℕ, suc, _+_, _-_, _%_, _≤_, _<_, zero}
+use Prim.Native.Nat.{ℕ, suc, _+_, _-_, _%_, _≤_, _<_}
 use mathlib.Core.Path.{_≡_, refl, sym, ap, ap₂, _∙_, subst}
 use mathlib.Core.Logic.{_≢_}
 use mathlib.Core.Bool.{true, false}
@@ -7,19 +7,21 @@ use mathlib.Core.List.{List, [], _∷_}
 use native.Mathlib.Omega.{arith}
 use native.Mathlib.Nat.{mod-lt}
 use native.Mathlib.Decide.{ℕ-discrete}
+use borrow.Author.Tests.{lt-ltb}
 use lib.Dec.{lit<}
 use lib.ListN.{length}
 use Rattle.line.proofs.Laws.{cond-ind}
 use Rattle.state.specs.Layout.{lists, firstOdt, listOf, allOdts, odtCount}
 use Rattle.model.specs.Model.{DaqList, Session, Slave, runsIn, hasPacket, inStores, waitingIn, hasAnswer}
 use Rattle.model.specs.Step.{at, odtIn}
-use Rattle.model.specs.Calls.{withoutPacket, packetGone, firstPacket, packetIn, orElse, roundIn, packetFrom, turnIn}
+use Rattle.model.specs.Calls.{withoutPacket, packetGone, packetIn, orElse, roundIn, packetFrom, turnIn}
 use Rattle.model.specs.declared.Turn.{Turn}
 use Rattle.model.specs.declared.Turn.the-variants.{Nobody, Answer, Packet}
 use Rattle.lists.proofs.Round.{or-holds, round-holds}
-use Rattle.views.proofs.Parts.{this-or-other}
-use Rattle.views.proofs.Waits.{no-packet, rests, Empty, none-waits, first-waits, first-sent, sent-others}
-use Rattle.demands.proofs.Round.{packet-some, round-finds, Far, nearer}
+use Rattle.model.proofs.Bounded.{either}
+use Rattle.views.proofs.TurnLaws as turns
+use Rattle.views.proofs.Waits.{rests, Empty, none-waits, first-waits, first-sent, sent-others}
+use Rattle.views.proofs.Round.{packet-some, round-finds, Far, nearer}
 
 -- ODT k's packet is the next one of list j: what waits of the list, and what waits of it and of the others once it is sent
 pub record Next (v : Slave) (j k : ℕ) : Type 0 where
@@ -63,26 +65,19 @@ module _ (v : Slave) (j : ℕ) (q : j < lists) where
         others = λ l z. ap (λ (c : Session). waitingIn c l) sent ∙ sent-others (v .session) j d l z;
       }
 
-  -- one ODT more without a packet
-  more : (d : ℕ) → Empty x 0 d → hasPacket (x .odt d) ≡ false → Empty x 0 (d + 1)
-  more d none a i z =
-      this-or-other i d
-      (λ e. let m : 0 + i ≡ d = omega arith in subst (λ (o : ℕ). x .odt o .store ≡ []) (sym m) (no-packet (x .odt d .store) a))
-      (λ other. none i (omega arith))
-
-  from : runsIn (v .session) j ≡ true → (d n : ℕ) → d + n ≡ odtCount j → Empty x 0 d → Has v j (firstPacket j x d n)
-  unfolding firstPacket
-  from r d zero e none = nothing (none-waits (v .session .opened) j x (let f : d ≡ odtCount j = omega arith in subst (λ (m : ℕ). Empty x 0 m) f none))
-  from r d (suc n) e none =
-      cond-ind (Has v j) (hasPacket (x .odt d)) (λ a. packet (firstOdt j + d) (next r d n e none a)) (λ a. from r (d + 1) n (omega arith) (more d none a))
+  -- what the list's turn says of what waits
+  by-turn : (t : Turn) → turns.Has (v .session) j t → Has v j t
+  by-turn _ (turns.none f) =
+      nothing (either (runsIn (v .session) j)
+      (λ r. none-waits (v .session .opened) j x (λ i h. f r (0 + i) (omega arith)))
+      (λ r. rests (v .session .opened) j x r))
+  by-turn _ (turns.some d p) =
+      packet (firstOdt j + d) (next (p .runs) d (odtCount j - suc d) (left (p .inList)) (λ i h. p .first (0 + i) (omega arith)) (lt-ltb 0 (length (x .odt d .store)) (p .some))) where
+        left : d < odtCount j → d + suc (odtCount j - suc d) ≡ odtCount j
+        left h = omega arith
 
   pub has : Has v j (packetIn (v .session) j)
-  unfolding packetIn
-  has =
-      cond-ind (Has v j) (runsIn (v .session) j) (λ r. from r 0 (odtCount j) (omega arith) (λ i z. absurd (nothing-below i z))) (λ r. nothing (rests (v .session .opened) j x r))
-    where
-      nothing-below : (i : ℕ) → i < 0 → ⊥
-      nothing-below i z = omega arith
+  has = by-turn (packetIn (v .session) j) (turns.has (v .session) j)
 
 -- ---- whose turn it is has something waiting
 pub data Fair (v : Slave) : Turn → Type 0 where

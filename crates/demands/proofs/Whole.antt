@@ -33,7 +33,7 @@ use Rattle.demands.specs.Demand3.{Undisturbed, Begins}
 use Rattle.demands.specs.Kept.{gains}
 use Rattle.demands.specs.Ranking.{Proceeds, all-gone, at-end, answer-first, own-packet, other-list}
 use Rattle.demands.proofs.Ranking.{leaves-whole}
-use Rattle.demands.proofs.Round.{Far, far-of}
+use Rattle.views.proofs.Round.{Far, far-of}
 use Rattle.demands.proofs.Turns.{Next, Moves, by-answer, by-own, by-other, moves}
 use Rattle.demands.proofs.Sends.{turned, framesOf, slot-shows, slot-stays, slot-sends, slot-silent}
 use Rattle.demands.proofs.Carried.{carried-append, carries, carries-none, packet-own, packet-other, answer-answers, answer-of-none}

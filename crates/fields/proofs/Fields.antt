@@ -12,12 +12,10 @@ use lib.Seq.{sets, getD-set-same, getD-set-other, set-getD}
 use Rattle.line.specs.declared.Place.{Place}
 use Rattle.line.specs.declared.Place.the-variants.{Outside, Inside, Escaped}
 use Rattle.line.proofs.Laws.{cond-ind}
-use Rattle.state.specs.Layout.{size, generatorAt, sessionAt, sessionSize, openAt, calibrationAt, listsAt, seedAt, pointerAt, pointerEntryAt, mtaAt, addressAt, runningAt, sampleAt, placeAt, countAt, messageAt, answerAt, answerBytesAt, lists, entryCount, allOdts, packetMost}
+use Rattle.state.specs.Layout.{size, generatorAt, sessionAt, sessionSize, openAt, calibrationAt, listsAt, seedAt, pointerAt, pointerEntryAt, mtaAt, addressAt, sampleAt, placeAt, countAt, messageAt, answerAt, answerBytesAt, entryCount, allOdts, packetMost}
 use Rattle.state.specs.Bytes.{u32At, put32, block}
 use Rattle.state.specs.Generator.{startOf}
 use Rattle.state.specs.State.{bitOf, flagOf, generatorOf, setGenerator, openOf, lockAt, unlockedOf, seedOf, setSeed, mtaTag, mtaOf, setMta, pointerOf, setPointer, Pointed, closed, fresh, placeOf, setPlace, answerLength, waits, answerKind, answerOf, answered}
-use Rattle.lists.specs.Lists.{runsOf}
-use Rattle.model.proofs.Shown.{runs-at}
 use Rattle.state.specs.Lists.{leastOf, storedLength}
 use Rattle.words.specs.declared.Resource.{Resource}
 use Rattle.words.specs.declared.Resource.the-variants.{Calibration, Lists}
@@ -179,20 +177,10 @@ pub bare-pointer : (s : List ℕ) → Bare s → pointerOf s ≡ NoEntry
 unfolding pointerOf
 bare-pointer s z = simp (z pointerAt (lit≤ tt) (lit< tt))
 
-bare-flag : (s : List ℕ) (l : ℕ) → Bare s → l < lists → flagOf s (runningAt l) ≡ false
-unfolding flagOf
-bare-flag s l z k = rw (z (runningAt l) (omega arith) (omega arith))
-
-pub bare-runs : (s : List ℕ) (l : ℕ) → Bare s → l < lists → runsOf s l ≡ false
-bare-runs s l z k = runs-at s l k ∙ rw (bare-flag s l z k) (cond-ind (λ (b : Bool). b ≡ false) (openOf s) (λ _. refl) (λ _. refl))
-
 -- an empty store
 pub empty-stored : (s : List ℕ) (k : ℕ) → getD s (sampleAt k) 0 ≡ 0 → storedLength s k ≡ 0
 unfolding storedLength
 empty-stored s k e = rw e (cond-ind (λ (n : ℕ). n ≡ 0) (ltb 0 (leastOf k)) (λ _. refl) (λ _. refl))
-
-pub bare-stored : (s : List ℕ) (k : ℕ) → Bare s → k < allOdts → storedLength s k ≡ 0
-bare-stored s k z h = empty-stored s k (z (sampleAt k) (omega arith) (omega arith))
 
 -- ---- a closed session
 pub closed-length : (s : List ℕ) → length (closed s) ≡ length s
@@ -211,10 +199,6 @@ pub closed-bare : (s : List ℕ) → length s ≡ size → Bare (closed s)
 closed-bare s h j p q = closed-zero s j h (omega arith) q
 
 -- ---- a fresh session
-pub fresh-length : (s : List ℕ) → length (fresh s) ≡ length s
-unfolding fresh
-fresh-length s = length-set (closed s) openAt 1 ∙ closed-length s
-
 pub fresh-open : (s : List ℕ) → length s ≡ size → openOf (fresh s) ≡ true
 unfolding fresh flagOf
 fresh-open s h = simp (getD-set-same (closed s) openAt 1 0 (rw closed-length (omega arith)))

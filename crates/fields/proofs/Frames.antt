@@ -1,5 +1,5 @@
 -- Which bytes a writer changes, and which a reader reads: what a change leaves as it was. Assumes nothing.
-use Prim.Native.Nat.{ℕ, _+_, _*_, _-_, _%_, _≤_, _<_}
+use Prim.Native.Nat.{ℕ, _+_, _-_, _%_, _≤_, _<_}
 use mathlib.Core.Path.{_≡_, refl, sym, ap, _∙_}
 use mathlib.Core.Bool.{Bool, true, false, cond}
 use mathlib.Core.List.{List, _∷_, _++_, append-assoc}
@@ -153,12 +153,6 @@ unfolding readOn
 only-readOn s f h k =
     only-then (only-wider (lit≤ tt) (lit≤ tt) (only-message s (f .message) h k))
     (only-wider (lit≤ tt) (lit≤ tt) (only-place (setMessage s (f .message)) (f .taken .place)))
-
-pub readOn-before : (s : List ℕ) (f : Fed) → length s ≡ size → length (f .message) ≡ longest → take placeAt (readOn s f) ≡ take placeAt s
-readOn-before s f h k = only-take placeAt (lit≤ tt) (only-readOn s f h k)
-
-pub readOn-after : (s : List ℕ) (f : Fed) → length s ≡ size → length (f .message) ≡ longest → drop answerAt (readOn s f) ≡ drop answerAt s
-readOn-after s f h k = only-drop answerAt (lit≤ tt) (only-readOn s f h k)
 
 pub only-answered : (s bs : List ℕ) → length bs ≤ packetMost → Only answerAt sessionAt s (answered s bs)
 unfolding answered

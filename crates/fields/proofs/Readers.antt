@@ -1,6 +1,6 @@
 -- A reader reads its own bytes alone: a change elsewhere leaves what it reads. Assumes nothing.
 use Prim.Native.Nat.{ℕ, _+_, _≤_, _<_}
-use mathlib.Core.Path.{_≡_, refl, sym, ap, _∙_}
+use mathlib.Core.Path.{_≡_, refl, sym, _∙_}
 use mathlib.Core.Bool.{Bool, true, false, cond}
 use mathlib.Core.List.{List}
 use native.Mathlib.Omega.{arith}
@@ -9,22 +9,17 @@ use lib.Dec.{T, eqb, ltb, leb, leb→le, lit<, lit≤}
 use lib.ListN.{length, getD, drop, set, length-take, length-drop, length-set}
 use lib.Seq.{getD-take, getD-drop, ext-getD, getD-set-same, getD-set-other, set-out}
 use Rattle.line.specs.Message.{longest}
-use Rattle.line.specs.Unstuffing.{Fed}
-use Rattle.state.specs.Layout.{size, lists, entryCount, packetMost, markAt, generatorAt, ctrAt, placeAt, countAt, messageAt, answerAt, answerBytesAt, sessionAt, openAt, calibrationAt, listsAt, seedAt, mtaAt, addressAt, pointerAt, pointerEntryAt, modeAt, runningAt, entrySize, entriesAt, entryAt, sampleAt, firstOdt, odtCount}
+use Rattle.state.specs.Layout.{entryCount, generatorAt, ctrAt, placeAt, countAt, messageAt, answerAt, answerBytesAt, sessionAt, openAt, calibrationAt, listsAt, seedAt, mtaAt, addressAt, pointerAt, pointerEntryAt, modeAt, entrySize, entriesAt, entryAt, sampleAt}
 use Rattle.state.specs.Bytes.{u16At, u32At, block}
-use Rattle.state.specs.State.{consistent, flagOf, generatorOf, openOf, unlockedOf, maskOf, seedOf, mtaOf, pointerOf, placeOf, messageOf, answerLength, waits, answerKind, answerOf, answered, setSeed}
-use Rattle.state.specs.Lists.{sizeOf, extensionOf, addressOf, modeOf, storedLength}
-use Rattle.lists.specs.Lists.{fitOf, runsOf}
-use Rattle.model.specs.Model.{noEntry, Odt}
-use Rattle.model.specs.View.{entryOf, odtOf, sessionOf}
+use Rattle.state.specs.State.{flagOf, generatorOf, openOf, unlockedOf, seedOf, mtaOf, pointerOf, placeOf, messageOf, answerLength, answerKind, answerOf}
+use Rattle.state.specs.Lists.{sizeOf, extensionOf, addressOf, storedLength}
+use Rattle.model.specs.Model.{noEntry}
+use Rattle.model.specs.View.{entryOf, odtOf}
 use Rattle.model.proofs.Bounded.{upTo-same}
-use Rattle.model.proofs.Shown.{stored-most, odt-at, mode-at, runs-at, answer-most}
-use Rattle.model.proofs.Fits.{fits-same}
-use Rattle.session.specs.Receive.{readOn}
-use Rattle.words.specs.declared.Seed.{Seed}
+use Rattle.model.proofs.Shown.{stored-most, answer-most}
 use Rattle.words.specs.declared.Resource.{Resource}
 use Rattle.words.specs.declared.Resource.the-variants.{Calibration, Lists}
-use Rattle.fields.proofs.Frames.{Only, out-below, out-above, only-seed, only-readOn, only-answered}
+use Rattle.fields.proofs.Frames.{Only, out-below, out-above}
 
 -- ---- t is as long as s and has its bytes from a up to b
 pub record Same (a b : ℕ) (s t : List ℕ) : Type 0 where
@@ -87,10 +82,6 @@ module _ {s t : List ℕ} where
   unfolding flagOf
   flag-reads i w = rw (w .byte i (omega arith) (omega arith))
 
-  pub consistent-reads : Same markAt generatorAt s t → consistent t ≡ consistent s
-  unfolding consistent
-  consistent-reads w = rw (w .long, u32-reads markAt w)
-
   pub generator-reads : Same generatorAt ctrAt s t → generatorOf t ≡ generatorOf s
   unfolding generatorOf
   generator-reads w = rw (u32-reads generatorAt w)
@@ -101,10 +92,6 @@ module _ {s t : List ℕ} where
   pub lock-reads : (r : Resource) → Same calibrationAt seedAt s t → unlockedOf t r ≡ unlockedOf s r
   lock-reads Calibration w = flag-reads calibrationAt (same-part (lit≤ tt) (lit≤ tt) w)
   lock-reads Lists w = flag-reads listsAt (same-part (lit≤ tt) (lit≤ tt) w)
-
-  pub mask-reads : Same calibrationAt seedAt s t → maskOf t ≡ maskOf s
-  unfolding maskOf
-  mask-reads w = rw (lock-reads Calibration w, lock-reads Lists w)
 
   pub seed-reads : Same seedAt mtaAt s t → seedOf t ≡ seedOf s
   unfolding seedOf
@@ -129,9 +116,6 @@ module _ {s t : List ℕ} where
   pub answerLength-reads : Same answerAt sessionAt s t → answerLength t ≡ answerLength s
   unfolding answerLength
   answerLength-reads w = rw (w .byte answerAt (lit≤ tt) (lit< tt))
-
-  pub waits-reads : Same answerAt sessionAt s t → waits t ≡ waits s
-  waits-reads w = rw (answerLength-reads w)
 
   answerKind-reads : Same answerAt sessionAt s t → answerKind t ≡ answerKind s
   unfolding answerKind
@@ -161,42 +145,4 @@ module _ {s t : List ℕ} where
   store-own k w =
       rw (stored-reads k (same-part (omega arith) (omega arith) w)) (same-block (sampleAt k + 1) (storedLength s k) (omega arith) (omega (arith, stored-most s k)) w)
 
-  pub mode-reads : (l : ℕ) → l < lists → Same (modeAt 0) (entriesAt 0) s t → modeOf t l ≡ modeOf s l
-  unfolding modeOf
-  mode-reads l p w = rw (w .byte (modeAt l) (omega arith) (omega arith))
-
-  entries-reads : (l : ℕ) → l < lists → Same (entriesAt 0) (sampleAt 0) s t → (o : ℕ) → o < odtCount l → sessionOf t .list l .odt o .entry ≡ sessionOf s .list l .odt o .entry
-  entries-reads l p w o h =
-      ap (λ (y : Odt). y .entry) (odt-at t l p o h) ∙ entries-own (firstOdt l + o) (same-part (omega arith) (omega arith) w) ∙ ap (λ (y : Odt). y .entry) (sym (odt-at s l p o h))
-
-  list-mode-reads : (l : ℕ) → l < lists → Same (modeAt 0) (entriesAt 0) s t → sessionOf t .list l .mode ≡ sessionOf s .list l .mode
-  list-mode-reads l p w = mode-at t l p ∙ mode-reads l p w ∙ sym (mode-at s l p)
-
-  pub fit-reads : (l : ℕ) → l < lists → Same (modeAt 0) (sampleAt 0) s t → fitOf t l ≡ fitOf s l
-  fit-reads l p w =
-      fits-same l (sessionOf t .list l) (sessionOf s .list l) (entries-reads l p (same-part (lit≤ tt) (lit≤ tt) w)) (list-mode-reads l p (same-part (lit≤ tt) (lit≤ tt) w))
-
-  pub runs-reads : (l : ℕ) → l < lists → Same sessionAt (sampleAt 0) s t → runsOf t l ≡ runsOf s l
-  runs-reads l p w =
-      runs-at t l p
-      ∙ rw (open-reads (same-part (lit≤ tt) (lit≤ tt) w), flag-reads (runningAt l) (same-part (omega arith) (omega arith) w), fit-reads l p (same-part (lit≤ tt) (lit≤ tt) w))
-      (sym (runs-at s l p))
-
 -- ---- for instance: a received byte leaves all but the reader, an answer leaves all but itself, a seed leaves the MTA
-pub readOn-front : (s : List ℕ) (f : Fed) → length s ≡ size → length (f .message) ≡ longest → Same 0 placeAt s (readOn s f)
-readOn-front s f h k = apart tt (only-readOn s f h k)
-
-pub readOn-session : (s : List ℕ) (f : Fed) → length s ≡ size → length (f .message) ≡ longest → Same sessionAt size s (readOn s f)
-readOn-session s f h k = apart tt (only-readOn s f h k)
-
-pub readOn-answer : (s : List ℕ) (f : Fed) → length s ≡ size → length (f .message) ≡ longest → answerOf (readOn s f) ≡ answerOf s
-readOn-answer s f h k = answer-reads (apart tt (only-readOn s f h k))
-
-pub answered-front : (s bs : List ℕ) → length bs ≤ packetMost → Same 0 answerAt s (answered s bs)
-answered-front s bs h = apart tt (only-answered s bs h)
-
-pub answered-session : (s bs : List ℕ) → length bs ≤ packetMost → Same sessionAt size s (answered s bs)
-answered-session s bs h = apart tt (only-answered s bs h)
-
-pub seed-mta : (s : List ℕ) (x : Seed) → mtaOf (setSeed s x) ≡ mtaOf s
-seed-mta s x = mta-reads (apart tt (only-seed s x))

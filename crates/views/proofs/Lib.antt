@@ -7,6 +7,8 @@ pub mod Effect
 pub mod Stepped
 pub mod Calls
 pub mod Waits
+pub mod Round
+pub mod TurnLaws
 pub mod Done
 pub mod Receiving
 pub mod Happening

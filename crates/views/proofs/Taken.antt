@@ -20,13 +20,9 @@ use Rattle.model.specs.declared.Deed.{Deed}
 use Rattle.model.specs.declared.Deed.the-variants.{Refuse}
 use Rattle.model.specs.Model.{byte, Session}
 use Rattle.model.specs.Answers.{replyIn, doneBy}
-use Rattle.views.specs.Commands.{two, four, extensionNumber, Way}
+use Rattle.views.specs.Commands.{four, extensionNumber, Way}
 
 -- ---- the packet's numbers
-pub two-is : (p : List ℕ) (i : ℕ) → u16At p i ≡ two p i
-unfolding u16At
-two-is p i = refl
-
 pub four-is : (p : List ℕ) (i : ℕ) → u32At p i ≡ four p i
 unfolding u32At
 four-is p i = omega arith

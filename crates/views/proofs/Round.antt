@@ -73,12 +73,6 @@ pub record Far (L from l : ℕ) : Type 0 where
   pub most : far ≤ L
   pub turn : (from + far) % L ≡ l
 
--- L lists on it is itself
-pub own-far : (L l : ℕ) → l < L → Far L l l
-own-far L l h = record { far = L; some = omega arith; most = omega arith; turn = round-again } where
-  round-again : (l + L) % L ≡ l
-  round-again = let e : l + L ≡ L * 1 + l = omega arith in rw (e, mul-add-mod-self-left L 1 l, mod-eq-of-lt h)
-
 pub far-of : (L from l : ℕ) → l < L → Far L from l
 far-of L from l h = elim (decLe l (from % L)) [ yes p ↦ behind p | no p ↦ ahead (lt-of-not-le p) ] where
   whole : L * (from / L) + from % L ≡ from
