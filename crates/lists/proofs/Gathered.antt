@@ -11,8 +11,8 @@ use lib.Seq.{sets, set-comm}
 use Rattle.line.proofs.Laws.{sets-append}
 use Rattle.state.specs.Bytes.{put16}
 use Rattle.state.specs.Layout.{entries, isFirst, odtMost, sampleAt, allOdts, clockSize, storedMost}
-use Rattle.state.specs.Memory.{pick, byteOf, bytesOf}
-use Rattle.state.specs.Lists.{sizeOf, extensionOf, addressOf}
+use Rattle.state.specs.Memory.{byteOf, bytesOf}
+use Rattle.state.specs.Lists.{sizeOf}
 use Rattle.lists.specs.Lists.{odtBytes}
 use Rattle.lists.specs.Event.{contentsOf, stored, capturedOdts}
 use Rattle.model.specs.Model.{sizesOf}
@@ -48,7 +48,7 @@ module _ (s : List ℕ) (k : ℕ) (cal meas : List ℕ) where
   pub gathered-length : (n : ℕ) → n < entries → length (gathered (suc n)) ≡ length (gathered n) + sizeOf s k n
   gathered-length n h =
       ap length (blocks-next s k cal meas n h) ∙ length-append (gathered n) (blockIn (entryOf s k n) cal meas)
-      ∙ ap (λ (m : ℕ). length (gathered n) + m) (bytes-length (pick (extensionOf s k n) cal meas) (addressOf s k n) (sizeOf s k n))
+      ∙ ap (λ (m : ℕ). length (gathered n) + m) (bytes-length _ _ _)
 
   gathered-none : length (gathered 0) ≡ sizesOf (odtOf s k) 0
   unfolding blocksIn sizesOf
