@@ -8,7 +8,7 @@ use native.Mathlib.Omega.{arith}
 use native.Mathlib.Nat.{lt-of-not-le, mod-lt, mod-eq-of-lt}
 use native.Mathlib.Decide.{decLe}
 use borrow.Author.Tests.{le-ltb, eq-eqb}
-use lib.Dec.{lit≤, lit<}
+use lib.Dec.{lit<}
 use lib.ListN.{length, getD, take, length-take}
 use lib.Pow.{low, shr-lt}
 use lib.Seq.{getD-take}
@@ -19,7 +19,7 @@ use Rattle.model.specs.Answers.{replyIn}
 use Rattle.model.specs.Calls.{turnIn, packetGone}
 use Rattle.model.specs.View.{sessionOf, viewOf}
 use Rattle.line.specs.Message.{room}
-use Rattle.state.specs.Bytes.{u32At, put32, bytes32}
+use Rattle.state.specs.Bytes.{u32At, bytes32}
 use Rattle.state.specs.Generator.{addend, rotatedLeft8, keyOf, nextOf}
 use Rattle.state.specs.State.{consistent, bitOf, generatorOf}
 use Rattle.words.specs.Command.{commandOf}
@@ -35,7 +35,7 @@ use Rattle.words.specs.declared.Seed.the-variants.{For}
 use Rattle.model.specs.declared.Deed.{Deed}
 use Rattle.model.specs.declared.Deed.the-variants.{GiveSeed}
 use Rattle.state.proofs.Xorshift.{next-fits, next-some, generator-some}
-use Rattle.fields.proofs.Stores.{put32-same}
+use Rattle.fields.proofs.Stores.{four}
 use Rattle.fields.proofs.Kept.{receive-kept, event-kept, slot-kept}
 use Rattle.views.proofs.Done.{view-after}
 use Rattle.demands.specs.Slave.{ours}
@@ -138,10 +138,6 @@ number-is Calibration = refl
 number-is Lists = refl
 
 -- a number is that of its four bytes; rotated left 8, that of its four bytes with the last first
-word-same : (x : ℕ) → x < 2 ^ 32 → x % 256 + 256 * (x / 256 % 256) + 65536 * (x / 65536 % 256) + 16777216 * (x / 16777216 % 256) ≡ x
-unfolding put32 u32At
-word-same x h = put32-same (0 ∷ 0 ∷ 0 ∷ 0 ∷ []) 0 x (lit≤ tt) h
-
 rotated-word : (x : ℕ) → x < 2 ^ 32 → x / 16777216 % 256 + 256 * (x % 256) + 65536 * (x / 256 % 256) + 16777216 * (x / 65536 % 256) ≡ rotatedLeft8 x
 rotated-word x h =
     let a : ℕ = x % 256 in
@@ -149,7 +145,7 @@ rotated-word x h =
     let c : ℕ = x / 65536 % 256 in
     let d : ℕ = x / 16777216 in
     let few : d % 256 ≡ d = mod-eq-of-lt (shr-lt {n = x} 8 24 h) in
-    let up : x * 2 ^ 8 ≡ d * 2 ^ 32 + (256 * a + 65536 * b + 16777216 * c) = omega (arith, word-same x h, few) in
+    let up : x * 2 ^ 8 ≡ d * 2 ^ 32 + (256 * a + 65536 * b + 16777216 * c) = omega (arith, four x h, few) in
     let fits : 256 * a + 65536 * b + 16777216 * c < 2 ^ 32 = omega (arith, mod-lt x {m = 256} (lit< tt), mod-lt (x / 256) {m = 256} (lit< tt), mod-lt (x / 65536) {m = 256} (lit< tt)) in
     let rest : (x * 2 ^ 8) % 2 ^ 32 ≡ 256 * a + 65536 * b + 16777216 * c = ap (λ (n : ℕ). n % 2 ^ 32) up ∙ low d 32 fits in
     omega (arith, few, rest)
@@ -159,7 +155,7 @@ key-right : (r : Resource) (x : ℕ) (p : List ℕ) → x < 2 ^ 32 → take 6 p 
 unfolding bringsKey keyOf u32At
 key-right r x p h e =
     let k : ℕ = (u32At (bytes32 x) 0 + keyNumber r) % 2 ^ 32 in
-    let same : k ≡ (x + addend r) % 2 ^ 32 = rw (word-same x h, number-is r) in (
+    let same : k ≡ (x + addend r) % 2 ^ 32 = rw (four x h, number-is r) in (
       simp (begins-at p _ 6 0 e (lit< tt), begins-at p _ 6 1 e (lit< tt), le-ltb (length p) 6 (begins-long p _ 6 e refl)),
       rw (begins-at p _ 6 2 e (lit< tt), begins-at p _ 6 3 e (lit< tt), begins-at p _ 6 4 e (lit< tt), begins-at p _ 6 5 e (lit< tt)) (rotated-word k (mod-lt _ (lit< tt)) ∙ rw same),
     )

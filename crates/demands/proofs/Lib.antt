@@ -3,7 +3,6 @@ pub mod Reached
 pub mod Tight
 pub mod Numbers
 -- The first demand.
-pub mod Coded
 pub mod Judged
 pub mod ReadBy
 pub mod Received

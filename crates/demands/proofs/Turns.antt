@@ -17,7 +17,7 @@ use Rattle.model.specs.Step.{at, odtIn}
 use Rattle.model.specs.Calls.{withoutPacket, packetGone, packetIn, orElse, roundIn, packetFrom, turnIn}
 use Rattle.model.specs.declared.Turn.{Turn}
 use Rattle.model.specs.declared.Turn.the-variants.{Nobody, Answer, Packet}
-use Rattle.lists.proofs.Round.{or-holds, round-holds}
+use Rattle.lists.proofs.Round.{served-holds, turn-holds}
 use Rattle.model.proofs.Bounded.{either}
 use Rattle.views.proofs.TurnLaws as turns
 use Rattle.views.proofs.Waits.{rests, Empty, none-waits, first-waits, first-sent, sent-others}
@@ -90,14 +90,10 @@ fair-has v j _ (nothing e) = nobody
 fair-has v j _ (packet k n) = list j k n
 
 pub round-fair : (v : Slave) → Fair v (roundIn (v .session) (v .served))
-round-fair v = round-holds (Fair v) lists (packetIn (v .session)) (lit< tt) nobody (λ j q. fair-has v j (packetIn (v .session) j) (has v j q)) (v .served + 1) lists
+round-fair v = served-holds (Fair v) v nobody (λ j q. fair-has v j (packetIn (v .session) j) (has v j q))
 
 pub fair : (v : Slave) → Fair v (turnIn v)
-unfolding turnIn
-fair v =
-    cond-ind (Fair v) (hasAnswer v)
-    (λ w. cond-ind (Fair v) (v .lastAnswer) (λ _. or-holds (Fair v) (roundIn (v .session) (v .served)) Answer (round-fair v) (answer w)) (λ _. answer w))
-    (λ _. round-fair v)
+fair v = turn-holds (Fair v) v nobody (λ j q. fair-has v j (packetIn (v .session) j) (has v j q)) answer
 
 -- ---- while a packet of list l waits, and its turn is `far` lists on: an answer goes, after a frame that was none; or its own packet; or that of a
 -- list from which it is nearer

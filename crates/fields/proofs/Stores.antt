@@ -84,7 +84,7 @@ two x h = rw (mod-eq-of-lt (shr-lt {n = x} 8 8 h)) (omega (arith, div-add-mod' x
 digits : (x a b d r s t : ℕ) → a * 256 + r ≡ x → b * 256 + s ≡ a → d * 256 + t ≡ b → r + 256 * s + 65536 * t + 16777216 * d ≡ x
 digits x a b d r s t p q o = omega arith
 
-four : (x : ℕ) → x < 2 ^ 32 → x % 256 + 256 * (x / 256 % 256) + 65536 * (x / 65536 % 256) + 16777216 * (x / 16777216 % 256) ≡ x
+pub four : (x : ℕ) → x < 2 ^ 32 → x % 256 + 256 * (x / 256 % 256) + 65536 * (x / 65536 % 256) + 16777216 * (x / 16777216 % 256) ≡ x
 four x h =
     rw (mod-eq-of-lt (shr-lt {n = x} 8 24 h))
     (digits x (x / 256) (x / 65536) (x / 16777216) (x % 256) (x / 256 % 256) (x / 65536 % 256)

@@ -4,10 +4,11 @@ use mathlib.Core.Bool.{Bool, true, false, not, cond}
 use Prim.Native.Nat.{ℕ, zero, suc, _+_, _-_, _%_, _<_}
 use native.Mathlib.Nat.{mod-lt}
 use native.Mathlib.Omega.{arith}
+use lib.Dec.{lit<}
 use Rattle.line.proofs.Laws.{cond-ind}
-use Rattle.state.specs.Layout.{firstOdt, odtCount}
-use Rattle.model.specs.Model.{DaqList, Session, fits, runs, runsIn, hasPacket}
-use Rattle.model.specs.Calls.{firstPacket, packetIn, orElse, roundFrom}
+use Rattle.state.specs.Layout.{lists, firstOdt, odtCount}
+use Rattle.model.specs.Model.{DaqList, Session, Slave, fits, runs, runsIn, hasAnswer, hasPacket}
+use Rattle.model.specs.Calls.{firstPacket, packetIn, orElse, roundFrom, roundIn, turnIn}
 use Rattle.model.specs.declared.Turn.{Turn}
 use Rattle.model.specs.declared.Turn.the-variants.{Nobody, Answer, Packet}
 
@@ -31,6 +32,18 @@ unfolding roundFrom
 round-holds P L next h p each l zero = p
 round-holds P L next h p each l (suc n) =
     or-holds P (next (l % L)) (roundFrom L next (l + 1) n) (each (l % L) (mod-lt l h)) (round-holds P L next h p each (l + 1) n)
+
+-- so of the next list after the last one served that has a packet; and, if it holds of an answer that waits, of whose turn it is
+pub served-holds : (P : Turn → Type 0) (v : Slave) → P Nobody → ((l : ℕ) → l < lists → P (packetIn (v .session) l)) → P (roundIn (v .session) (v .served))
+served-holds P v p each = round-holds P lists (packetIn (v .session)) (lit< tt) p each _ lists
+
+pub turn-holds : (P : Turn → Type 0) (v : Slave) → P Nobody → ((l : ℕ) → l < lists → P (packetIn (v .session) l)) → (hasAnswer v ≡ true → P Answer) → P (turnIn v)
+unfolding turnIn
+turn-holds P v p each answer =
+    let round = served-holds P v p each in
+    cond-ind P (hasAnswer v)
+    (λ w. cond-ind P (v .lastAnswer) (λ _. or-holds P (roundIn (v .session) (v .served)) Answer round (answer w)) (λ _. answer w))
+    (λ _. round)
 
 -- an ODT more, from the front
 pub first-step : (l : ℕ) (x : DaqList) (o n : ℕ) → 0 < n → firstPacket l x o n ≡ cond (hasPacket (x .odt o)) (Packet (firstOdt l + o)) (firstPacket l x (o + 1) (n - 1))

@@ -4,17 +4,16 @@ use mathlib.Core.List.{List, _∷_}
 use Prim.Native.Nat.{ℕ, zero, suc, _+_, _≤_, _<_}
 use native.Mathlib.Numerals.{add-one}
 use native.Mathlib.Omega.{arith}
-use lib.Dec.{ltb, lit<}
 use lib.ListN.{length, set, take, drop, length-set}
 use lib.Seq.{drop-cons, getD-set-same, drop-set-lt}
 use Rattle.line.proofs.Laws.{cond-ind}
 use Rattle.state.specs.Layout.{lists, firstOdt, odtCount, allOdts}
 use Rattle.state.specs.Bytes.{block}
 use Rattle.model.specs.Model.{DaqList, Session, Slave, runsIn, hasPacket}
-use Rattle.model.specs.Calls.{firstPacket, packetIn, roundIn, turnIn}
+use Rattle.model.specs.Calls.{firstPacket, packetIn, turnIn}
 use Rattle.model.specs.declared.Turn.{Turn}
 use Rattle.model.specs.declared.Turn.the-variants.{Nobody, Answer, Packet}
-use Rattle.lists.proofs.Round.{or-holds, round-holds}
+use Rattle.lists.proofs.Round.{turn-holds}
 
 -- a number put before n bytes
 pub numbered : (s : List ℕ) (at k n : ℕ) → at < length s → take (suc n) (drop at (set s at k)) ≡ k ∷ block s (at + 1) n
@@ -38,9 +37,4 @@ unfolding packetIn
 packet-within c l h = cond-ind Within (runsIn c l) (λ _. first-within l (c .list l) 0 (odtCount l) (omega arith)) (λ _. tt)
 
 pub turn-within : (v : Slave) → Within (turnIn v)
-unfolding turnIn
-turn-within v =
-    let round = round-holds Within lists (packetIn (v .session)) (lit< tt) tt (packet-within (v .session)) (v .served + 1) lists in
-    cond-ind Within (ltb 0 (length (v .answer)))
-    (λ _. cond-ind Within (v .lastAnswer) (λ _. or-holds Within (roundIn (v .session) (v .served)) Answer round tt) (λ _. tt))
-    (λ _. round)
+turn-within v = turn-holds Within v tt (packet-within (v .session)) (λ _. tt)

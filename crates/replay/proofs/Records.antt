@@ -10,11 +10,7 @@ use borrow.Author.Tests.{leb-true, ltb-false, eqb-true}
 use Rattle.state.specs.Bytes.{u16At}
 use Rattle.replay.specs.declared.record.Record.{Record}
 use Rattle.replay.specs.Record.{header, longestBody, memory, fitsOf, measuredOf, wholeOf, bodyOf, recordAt, nextOf, Inside}
-
--- what holds of both of a choice, each under its test, holds of the choice
-cond-ind : {A : Type 0} (P : A → Type 0) (t : Bool) {a b : A} → (t ≡ true → P a) → (t ≡ false → P b) → P (cond t a b)
-cond-ind P true f g = f refl
-cond-ind P false f g = g refl
+use Rattle.line.proofs.Laws.{cond-ind}
 
 both : (t u : Bool) → cond t u false ≡ true → u ≡ true
 both true u e = e

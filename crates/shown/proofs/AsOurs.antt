@@ -7,6 +7,7 @@ use Rattle.line.specs.declared.Outcome.{Outcome}
 use Rattle.line.specs.declared.Outcome.the-variants.{Nothing, Good, BadLength, BadEscape, BadChecksum, CutOff, ShortBuffer}
 use Rattle.state.specs.State.{consistent, waits}
 use Rattle.session.specs.Receive.{Step, heeded, meant, fedOf, receiveOf}
+use Rattle.model.specs.View.{viewOf}
 use Rattle.demands.specs.Slave.{ours}
 use Rattle.demands.specs.Heard.{packetBy, readBy}
 use Rattle.shown.specs.Wrong.{heardBy, heeding}
@@ -23,6 +24,7 @@ heard-ours CutOff m s cal meas b e = refl
 heard-ours ShortBuffer m s cal meas b e = refl
 
 pub heeding-ours : (s cal meas : List ℕ) (b : ℕ) → heeding heeded .receive s cal meas b ≡ ours .receive s cal meas b
+unfolding viewOf
 heeding-ours s cal meas b =
     cond-ind (λ (x : Step). x ≡ receiveOf s cal meas b) (consistent s)
     (λ c. heard-ours (fedOf s b .taken .outcome) (fedOf s b .message) s cal meas b (sym (received-by s cal meas b c))) (λ _. refl)

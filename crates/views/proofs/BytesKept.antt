@@ -7,7 +7,7 @@ use mathlib.Core.Option.{Option, none, some}
 use mathlib.Core.List.{List, [], _∷_, _++_}
 use native.Mathlib.Nat.{mod-lt}
 use native.Mathlib.Omega.{arith}
-use borrow.Author.Tests.{eq-eqb, eqb-false, ltb-true, ltb-false}
+use borrow.Author.Tests.{eq-eqb, ltb-true, ltb-false}
 use lib.Dec.{T, eqb, ltb, leb, lit<, lit≤}
 use lib.ListN.{length, getD, set, take, drop, replicate}
 use lib.Seq.{sets}
@@ -20,7 +20,7 @@ use Rattle.line.specs.declared.Place.the-variants.{Outside, Inside, Escaped}
 use Rattle.line.specs.declared.Outcome.{Outcome}
 use Rattle.line.specs.declared.Outcome.the-variants as line
 use Rattle.line.proofs.Laws.{cond-ind}
-use Rattle.state.specs.Layout.{size, lists, lastList, events, allOdts, odtCount, firstOdt, entryCount, isFirst, listOf, lastEntry, entriesAt, listSize, entrySize, entryMost, storedMost, packetMost, mark, markAt, generatorAt, ctrAt, servedAt, lastAt, placeAt, countAt, messageAt, answerAt, answerBytesAt, sessionAt, sessionSize, openAt, seedAt, mtaAt, addressAt, pointerAt, pointerEntryAt, modeAt, selectedAt, runningAt, entryAt, sampleAt}
+use Rattle.state.specs.Layout.{size, lists, lastList, events, allOdts, odtCount, firstOdt, entryCount, isFirst, listOf, entriesAt, listSize, entrySize, entryMost, storedMost, packetMost, mark, markAt, generatorAt, ctrAt, servedAt, lastAt, placeAt, countAt, messageAt, answerAt, answerBytesAt, sessionAt, sessionSize, openAt, seedAt, mtaAt, addressAt, pointerAt, pointerEntryAt, modeAt, selectedAt, runningAt, entryAt, sampleAt}
 use Rattle.state.specs.Bytes.{put16, put32, bytes32, block, cleared}
 use Rattle.state.specs.Generator.{nextOf, startOf}
 use Rattle.state.specs.Memory.{pick, reach, byteOf, bytesOf, blockSum}
@@ -66,6 +66,7 @@ use Rattle.session.specs.Receive.{Step, obeyed, heededBy, heeded, meant, readOn
 use Rattle.look.proofs.Looked.{judged-doable}
 use Rattle.fields.proofs.Effects.{answering}
 use Rattle.views.proofs.Bytes.{bytes-cons, bytes-four, bytes-set, bytes-take, bytes-drop, bytes-block, fed-bytes}
+use Rattle.views.proofs.Effect.{next-pointed}
 use Rattle.views.proofs.Fit.{Fit, generator-fits, judged-fits}
 
 -- ---- bytes written out, put together, and stored
@@ -147,10 +148,6 @@ bytes-pointer : (s : List ℕ) (p : Pointer) → Pointed p → Bytes s → Bytes
 unfolding setPointer
 bytes-pointer s NoEntry h w = bytes-set s pointerAt 0 w (lit< tt)
 bytes-pointer s (Points k e) h w = let few : e < entryCount k = h .1 in bytes-set (set s pointerAt ((k + 1) % 256)) pointerEntryAt e (bytes-modulo s pointerAt (k + 1) w) (omega arith)
-
-next-pointed : (k e : ℕ) → k < allOdts → e < entryCount k → Pointed (nextEntry k e)
-unfolding nextEntry
-next-pointed k e p q = cond-ind Pointed (eqb e lastEntry) (λ _. tt) (λ n. let other = eqb-false e lastEntry n in (p, omega arith))
 
 bytes-closed : (s : List ℕ) → Bytes s → Bytes (closed s)
 unfolding closed

@@ -38,7 +38,7 @@ use Rattle.model.specs.Calls.{withAnswer, withReader, answerGone, withoutPacket
 use Rattle.model.specs.View.{odtOf, daqOf, sessionOf, viewOf}
 use Rattle.model.proofs.Bounded.{either, upTo-at, upTo-above, upTo-is, upTo-put}
 use Rattle.views.proofs.Parts.{spared, both, odt-from, list-from, mode-own, odt-own, own-one, list-own, lists-reads, locks-reads, in-session, in-lists}
-use Rattle.views.proofs.Shows.{Changes, changes, as-odt, store-empty, bare-session}
+use Rattle.views.proofs.Shows.{flag-zero, Changes, changes, as-odt, store-empty, bare-session}
 
 pub session-reads : {s t : List ℕ} → Same generatorAt ctrAt s t → Same sessionAt size s t → sessionOf t ≡ sessionOf s
 unfolding sessionOf
@@ -76,10 +76,6 @@ flag-on : (s : List ℕ) (i : ℕ) → getD s i 0 ≡ 1 → flagOf s i ≡ true
 unfolding flagOf
 flag-on s i e = rw e
 
-flag-off : (s : List ℕ) (i : ℕ) → getD s i 0 ≡ 0 → flagOf s i ≡ false
-unfolding flagOf
-flag-off s i e = rw e
-
 pub view-answerSent : (s : List ℕ) → length s ≡ size → viewOf (answerSent s) ≡ answerGone (viewOf s)
 unfolding viewOf answerSent
 view-answerSent s h =
@@ -103,7 +99,7 @@ view-answerSent s h =
 -- ---- a packet is sent
 module _ (s : List ℕ) (k : ℕ) (h : length s ≡ size) (k8 : k < allOdts) where
   store-gone : (t : List ℕ) → getD t (sampleAt k) 0 ≡ 0 → odtOf t (firstOdt (listOf k) + odtIn k) .store ≡ []
-  store-gone t e = rw (as-odt k k8) (store-empty t k e)
+  store-gone t e = rw (as-odt k) (store-empty t k e)
 
   taken : Changes (listOf k) (withoutPacket (odtIn k)) s (set s (sampleAt k) 0)
   taken =
@@ -138,7 +134,7 @@ module _ (s : List ℕ) (k : ℕ) (h : length s ≡ size) (k8 : k < allOdts) whe
         answer = answer-reads (both w v (omega arith)) i;
         ctr = (getD-set-other s₃ lastAt ctrAt 0 0 (omega arith) ∙ getD-set-other s₂ servedAt ctrAt (listOf k) 0 (omega arith) ∙ getD-set-same s₁ ctrAt (nextCtr s) 0 (omega arith)) i;
         served = (getD-set-other s₃ lastAt servedAt 0 0 (omega arith) ∙ getD-set-same s₂ servedAt (listOf k) 0 (omega arith)) i;
-        lastAnswer = flag-off t lastAt (getD-set-same s₃ lastAt 0 0 (omega arith)) i;
+        lastAnswer = flag-zero t lastAt (getD-set-same s₃ lastAt 0 0 (omega arith)) i;
       }
 
 -- ---- a byte is read
@@ -328,11 +324,11 @@ module _ (start : ℕ) (low : start < 2 ^ 32) where
   pub view-powered : viewOf (powered start) ≡ poweredUp start
   unfolding viewOf
   view-powered = λ i. record {
-    session = (bare-session (powered start) powered-bare ∙ ap₂ blank powered-generator (flag-off (powered start) openAt (powered-zero openAt (lit≤ tt) (lit< tt)))) i;
+    session = (bare-session (powered start) powered-bare ∙ ap₂ blank powered-generator (flag-zero (powered start) openAt (powered-zero openAt (lit≤ tt) (lit< tt)))) i;
     place = place-outside (powered start) (powered-zero placeAt (lit≤ tt) (lit< tt)) i;
     message = (message-reads (apart tt powered-only) ∙ empty-message) i;
     answer = no-answer (powered start) (powered-zero answerAt (lit≤ tt) (lit< tt)) i;
     ctr = powered-ctr i;
     served = powered-served i;
-    lastAnswer = flag-off (powered start) lastAt powered-last i;
+    lastAnswer = flag-zero (powered start) lastAt powered-last i;
   }

@@ -146,7 +146,7 @@ module _ (s : List ℕ) (h : length s ≡ size) where
       one-more (λ l. stopIfSelected) (listsOf s) t _ n (changes-stopOne t n (only-stopSelected s n (omega arith) .long ∙ h) (omega arith)) (first-deselected n (omega arith))
 
 -- ---- the deeds
-next-pointed : (k e : ℕ) → k < allOdts → e < entryCount k → Pointed (nextEntry k e)
+pub next-pointed : (k e : ℕ) → k < allOdts → e < entryCount k → Pointed (nextEntry k e)
 unfolding nextEntry
 next-pointed k e p q = cond-ind Pointed (eqb e lastEntry) (λ _. tt) (λ b. let n = eqb-false e lastEntry b in (p, omega arith))
 

@@ -1,6 +1,8 @@
 -- That the state in bytes shows the slave, whatever is done to it.
 pub mod Parts
 pub mod Bytes
+pub mod Coded
+pub mod Verdict
 pub mod Fit
 pub mod Shows
 pub mod Effect

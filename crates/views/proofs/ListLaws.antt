@@ -29,6 +29,7 @@ use Rattle.model.proofs.Bounded.{either}
 use Rattle.model.proofs.Fits.{fits-same, runs-same}
 use Rattle.lists.proofs.Counting.{all-stays}
 use Rattle.views.specs.Commands.{two, four, extensionNumber, TheGenerator, Whether-open, TheLocks, TheSeed, TheMta, ThePointer, TheLists, AllBut, AllButBoth, CLEAR-DAQ-LIST, SET-DAQ-PTR, WRITE-DAQ, SET-DAQ-LIST-MODE, Switched, Unswitched, START-STOP-DAQ-LIST, START-STOP-SYNCH}
+use Rattle.views.proofs.Shows.{as-odt}
 use Rattle.views.proofs.Parts.{put-by, put-here, put-there}
 use Rattle.views.proofs.Taken.{four-is, named-by, fe-ff, Taken, unless, provided, branch, judged, Leads}
 
@@ -104,9 +105,6 @@ last-is : (k e : ℕ) → e + 1 ≡ entryCount k → nextEntry k e ≡ NoEntry
 unfolding nextEntry
 last-is k e n = rw (eq-eqb e lastEntry (omega arith))
 
-as-numbered : (k : ℕ) → firstOdt (listOf k) + odtIn k ≡ k
-as-numbered k = omega arith
-
 odt-in : (k : ℕ) → odtIn k < odtCount (listOf k)
 odt-in k = omega arith
 
@@ -120,7 +118,7 @@ module _ (p : List ℕ) (c : Session) (cal meas : List ℕ) where
       let l : ℕ = listOf k in
       let o : ℕ = odtIn k in
       let q : Session = withPointer (withLists c (put l (setEntry o e x (c .list l)) (c .list))) (nextEntry k e) in
-      let number : firstOdt l + o ≡ k = as-numbered k in
+      let number : firstOdt l + o ≡ k = as-odt k in
       subst (λ (q : Session). WRITE-DAQ p c cal meas (record { session = q; memory = written d p cal; answer = replyIn d c cal meas })) (sym step)
       (record {
         list = l;

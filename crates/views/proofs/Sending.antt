@@ -5,7 +5,7 @@ use mathlib.Core.Bool.{true}
 use mathlib.Core.List.{List}
 use native.Mathlib.Omega.{arith}
 use borrow.Author.Tests.{eq-eqb, ltb-true, ltb-false}
-use lib.Dec.{ltb, lit<}
+use lib.Dec.{ltb}
 use lib.ListN.{length}
 use Rattle.line.specs.Message.{byteForm, most, room, frame}
 use Rattle.line.specs.Writer.{atFront, writeOf}
@@ -13,19 +13,19 @@ use Rattle.line.specs.declared.Written.the-variants.{Frame}
 use Rattle.line.proofs.Laws.{cond-ind}
 use Rattle.line.proofs.Numbers.{byte-serial}
 use Rattle.line.proofs.Writing.{write-good}
-use Rattle.state.specs.Layout.{size, lists, odtCount}
+use Rattle.state.specs.Layout.{size, odtCount}
 use Rattle.state.specs.State.{consistent, ctrOf, answerOf}
 use Rattle.state.specs.Lists.{storedLength}
 use Rattle.state.proofs.Consistent.{consistent-size}
 use Rattle.words.specs.declared.PoweredUp.the-variants.{Done}
 use Rattle.lists.specs.Slot.{Slot, turnOf, packetOf, sentBy, slotOf}
-use Rattle.lists.proofs.Round.{or-holds, round-holds}
+use Rattle.lists.proofs.Round.{turn-holds}
 use Rattle.lists.proofs.Sending.{Within, turn-within}
 use Rattle.session.specs.PowerUp.{powerUpOf}
 use Rattle.model.specs.declared.Turn.{Turn}
 use Rattle.model.specs.declared.Turn.the-variants.{Nobody, Answer, Packet}
 use Rattle.model.specs.Model.{DaqList, Slave, runsIn, hasPacket}
-use Rattle.model.specs.Calls.{firstPacket, packetIn, roundIn, turnIn, poweredUp}
+use Rattle.model.specs.Calls.{firstPacket, packetIn, turnIn, poweredUp}
 use Rattle.model.specs.View.{viewOf}
 use Rattle.model.proofs.Shown.{stored-most, stored-long, packet-by, answer-most, answer-long}
 use Rattle.model.specs.Whole.{sentAs, sentIn, slotIn}
@@ -50,13 +50,7 @@ module _ (v : Slave) where
   packet-waits l = cond-ind Waits (runsIn (v .session) l) (λ _. first-waits l (v .session .list l) 0 (odtCount l)) (λ _. tt)
 
   turn-waits : Waits (turnIn v)
-  unfolding turnIn
-  turn-waits =
-      let round = round-holds Waits lists (packetIn (v .session)) (lit< tt) tt (λ l _. packet-waits l) (v .served + 1) lists in
-      cond-ind Waits (ltb 0 (length (v .answer)))
-      (λ b. let some : 1 ≤ length (v .answer) = ltb-true 0 (length (v .answer)) b in
-      cond-ind Waits (v .lastAnswer) (λ _. or-holds Waits (roundIn (v .session) (v .served)) Answer round some) (λ _. some))
-      (λ _. round)
+  turn-waits = turn-holds Waits v tt (λ l _. packet-waits l) (λ w. ltb-true 0 (length (v .answer)) w)
 
 pub written : (p : List ℕ) (ctr : ℕ) (out : List ℕ) → 1 ≤ length p → length p ≤ most → room ≤ length out
     → writeOf p ctr out ≡ record { written = Frame (length (frame ctr p)); out = atFront (frame ctr p) out }

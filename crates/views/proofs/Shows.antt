@@ -70,7 +70,7 @@ flag-set : (s : List ℕ) (i v : ℕ) → i < length s → flagOf (set s i v) i 
 unfolding flagOf
 flag-set s i v h = rw (getD-set-same s i v 0 h)
 
-flag-zero : (s : List ℕ) (i : ℕ) → getD s i 0 ≡ 0 → flagOf s i ≡ false
+pub flag-zero : (s : List ℕ) (i : ℕ) → getD s i 0 ≡ 0 → flagOf s i ≡ false
 unfolding flagOf
 flag-zero s i e = rw e
 
@@ -235,8 +235,8 @@ module _ (s t : List ℕ) (l o e : ℕ) (x : Entry) (h : length s ≡ size) (l4 
       (λ j p n. list-own j (own-both w v (omega arith)))
 
 -- ODT k is that one of its list
-pub as-odt : (k : ℕ) → k < allOdts → firstOdt (listOf k) + odtIn k ≡ k
-as-odt k k8 = omega arith
+pub as-odt : (k : ℕ) → firstOdt (listOf k) + odtIn k ≡ k
+as-odt k = omega arith
 
 module _ (s : List ℕ) (k e : ℕ) (h : length s ≡ size) (k8 : k < allOdts) (e4 : e < entryCount k) where
   pub changes-entryCleared : Changes (listOf k) (setEntry (odtIn k) e noEntry) s (entryCleared s (listOf k) k e)
@@ -245,8 +245,8 @@ module _ (s : List ℕ) (k e : ℕ) (h : length s ≡ size) (k8 : k < allOdts) (
       let s₁ : List ℕ = set s (runningAt (listOf k)) 0 in
       let t : List ℕ = cleared s₁ (entryAt k e) entrySize in
       changes-entry s t (listOf k) (odtIn k) e noEntry h (omega arith) (omega arith) e4
-      (rw (as-odt k k8) (only-cleared s₁ (entryAt k e) entrySize (omega arith) (omega arith)))
-      (rw (as-odt k k8) (entry-zero t k e (λ i p q. cleared-in s₁ (entryAt k e) entrySize i (rw length-set (omega arith)) p q)))
+      (rw (as-odt k) (only-cleared s₁ (entryAt k e) entrySize (omega arith) (omega arith)))
+      (rw (as-odt k) (entry-zero t k e (λ i p q. cleared-in s₁ (entryAt k e) entrySize i (rw length-set (omega arith)) p q)))
 
   pub changes-entrySet : (n : ℕ) (x : Extension) (a : ℕ) → n ≤ entryMost → a < 2 ^ 16 → Changes (listOf k) (setEntry (odtIn k) e (record { size = n; extension = x; address = a })) s (entrySet s (listOf k) k e n x a)
   unfolding entrySet
@@ -256,5 +256,5 @@ module _ (s : List ℕ) (k e : ℕ) (h : length s ≡ size) (k8 : k < allOdts) (
       let s₂ : List ℕ = set s₁ i n in
       let s₃ : List ℕ = set s₂ (i + 1) (tagOf x) in
       changes-entry s (put16 s₃ (i + 2) a) (listOf k) (odtIn k) e _ h (omega arith) (omega arith) e4
-      (rw (as-odt k k8) (only-then (only-set s₁ i n (omega arith) (omega arith)) (only-then (only-set s₂ (i + 1) (tagOf x) (omega arith) (omega arith)) (only-put16 s₃ (i + 2) a (omega arith) (omega arith)))))
-      (rw (as-odt k k8) (entry-set s₁ k e n a x (length-set s (runningAt (listOf k)) 0 ∙ h) k8 e4 n4 low))
+      (rw (as-odt k) (only-then (only-set s₁ i n (omega arith) (omega arith)) (only-then (only-set s₂ (i + 1) (tagOf x) (omega arith) (omega arith)) (only-put16 s₃ (i + 2) a (omega arith) (omega arith)))))
+      (rw (as-odt k) (entry-set s₁ k e n a x (length-set s (runningAt (listOf k)) 0 ∙ h) k8 e4 n4 low))

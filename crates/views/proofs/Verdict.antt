@@ -1,0 +1,238 @@
+-- What judging a command has found out, by the deed that it leads to: one case a deed, with the facts of packet and session that it was judged by. What
+-- is said of every verdict goes by these cases, and not through the checks again. Assumes nothing.
+use Prim.Native.Nat.{ℕ, _+_, _≤_, _<_}
+use mathlib.Core.Path.{_≡_, refl}
+use mathlib.Core.Bool.{Bool, true, false}
+use borrow.Author.Tests.{eqb-true, ltb-false, leb-false, not-false}
+use lib.Dec.{eqb, ltb, leb}
+use Rattle.line.proofs.Laws.{cond-ind}
+use Rattle.state.specs.Layout.{lists, odtCount, firstOdt, entryCount, events, entryMost, uploadMost, downloadMost, addressable}
+use Rattle.state.specs.Generator.{keyOf}
+use Rattle.state.specs.Memory.{pick, insideOf}
+use Rattle.words.specs.Command.{commandOf, fewest, needsOf}
+use Rattle.model.specs.Judge.{extensionFrom, connectDeed, seedDeed, getSeedDeed, unlockBy, setMtaDeed, uploadDeed, shortUploadDeed, checksumDeed, downloadTo, downloadDeed, clearDeed, pointerDeed, writeBlock, writeDeed, modeDeed, startDeed, startStopDeed, synchDeed, lockedBy, judgeThe, judgeBy, judge}
+use Rattle.judge.specs.Doable.{Inside}
+use Rattle.words.specs.declared.Command.{Command}
+use Rattle.words.specs.declared.Command.the-variants.{Unknown, Connect, Disconnect, GetStatus, Synch, GetSeed, Unlock, SetMta, Upload, ShortUpload, BuildChecksum, Download, ClearDaqList, SetDaqPtr, WriteDaq, SetDaqListMode, StartStopDaqList, StartStopSynch, GetDaqProcessorInfo, GetDaqResolutionInfo}
+use Rattle.words.specs.declared.Reason.{Reason}
+use Rattle.words.specs.declared.Resource.{Resource}
+use Rattle.words.specs.declared.Resource.the-variants.{Calibration, Lists}
+use Rattle.words.specs.declared.Extension.{Extension}
+use Rattle.words.specs.declared.Extension.the-variants.{Calibration as CalibrationMemory, Measured}
+use Rattle.words.specs.declared.Seed.{Seed}
+use Rattle.words.specs.declared.Seed.the-variants.{None, For}
+use Rattle.words.specs.declared.Mta.{Mta}
+use Rattle.words.specs.declared.Mta.the-variants.{Unset, At}
+use Rattle.words.specs.declared.Pointer.{Pointer}
+use Rattle.words.specs.declared.Pointer.the-variants.{Unset as NoEntry, At as Entry}
+use Rattle.model.specs.declared.Deed.{Deed}
+use Rattle.model.specs.declared.Deed.the-variants as deed
+use Rattle.model.specs.Seen.{Packet, Seen}
+
+-- UNLOCK with four key bytes, for the seed that is out
+pub record Keyed (p : Packet) (v : Seen) (r : Resource) : Type 0 where
+  pub seed : v .seed ≡ For r
+  pub four : p .b1 ≡ 4
+  pub long : 6 ≤ p .n
+
+-- the entry that is pointed to, of a list that does not run
+pub record Pointing (v : Seen) (k e : ℕ) : Type 0 where
+  pub here : v .pointer ≡ Entry k e
+  pub still : v .pointed ≡ false
+
+-- of command c
+pub data Verdict (p : Packet) (v : Seen) (nc nm : ℕ) : Command → Deed → Type 0 where
+  refused : (c : Command) (r : Reason) → Verdict p v nc nm c (deed.Refuse r)
+  connects : Verdict p v nc nm Connect deed.Connect
+  disconnects : Verdict p v nc nm Disconnect deed.Disconnect
+  tells : Verdict p v nc nm GetStatus deed.Status
+  synchs : Verdict p v nc nm Synch deed.Synch
+  no-seed : Verdict p v nc nm GetSeed deed.NoSeed
+  gives : (r : Resource) → Verdict p v nc nm GetSeed (deed.GiveSeed r)
+  unlocks : (r : Resource) → Keyed p v r → eqb (p .d2) (keyOf r (v .generator)) ≡ true → Verdict p v nc nm Unlock (deed.Unlock r)
+  wrong : (r : Resource) → Keyed p v r → eqb (p .d2) (keyOf r (v .generator)) ≡ false → Verdict p v nc nm Unlock deed.WrongKey
+  sets : Verdict p v nc nm SetMta (deed.SetMta (extensionFrom (p .b3)) (p .d4))
+  uploads : (x : Extension) (a : ℕ) → v .mta ≡ At x a → Inside uploadMost a (p .b1) (pick x nc nm) → Verdict p v nc nm Upload (deed.Upload x a (p .b1))
+  shorts : Inside uploadMost (p .d4) (p .b1) (pick (extensionFrom (p .b3)) nc nm) → Verdict p v nc nm ShortUpload (deed.ShortUpload (extensionFrom (p .b3)) (p .d4) (p .b1))
+  no-size : Verdict p v nc nm BuildChecksum deed.RefuseSize
+  sums : (x : Extension) (a : ℕ) → v .mta ≡ At x a → Inside addressable a (p .d4) (pick x nc nm) → Verdict p v nc nm BuildChecksum (deed.Checksum x a (p .d4))
+  downloads : (a : ℕ) → v .calibration ≡ true → v .mta ≡ At CalibrationMemory a → p .b1 + 2 ≤ p .n → Inside downloadMost a (p .b1) nc → Verdict p v nc nm Download (deed.Download a (p .b1))
+  clears : v .lists ≡ true → p .w2 < lists → v .runs ≡ false → Verdict p v nc nm ClearDaqList (deed.ClearList (p .w2))
+  points : v .lists ≡ true → p .w2 < lists → p .b4 < odtCount (p .w2) → p .b5 < entryCount (firstOdt (p .w2) + p .b4) → Verdict p v nc nm SetDaqPtr (deed.SetPointer (firstOdt (p .w2) + p .b4) (p .b5))
+  zeroes : (k e : ℕ) → v .lists ≡ true → Pointing v k e → Verdict p v nc nm WriteDaq (deed.ClearEntry k e)
+  writes : (k e : ℕ) → v .lists ≡ true → Pointing v k e → Inside entryMost (p .d4) (p .b2) (pick (extensionFrom (p .b3)) nc nm)
+      → Verdict p v nc nm WriteDaq (deed.WriteEntry k e (p .b2) (extensionFrom (p .b3)) (p .d4))
+  modes : v .lists ≡ true → p .w2 < lists → p .w4 < events → v .runs ≡ false → Verdict p v nc nm SetDaqListMode (deed.SetMode (p .w2) (p .w4))
+  stops : v .lists ≡ true → p .w2 < lists → Verdict p v nc nm StartStopDaqList (deed.Stop (p .w2))
+  starts : v .lists ≡ true → p .w2 < lists → v .runs ≡ false → Verdict p v nc nm StartStopDaqList (deed.Start (p .w2))
+  goes-on : v .lists ≡ true → p .w2 < lists → Verdict p v nc nm StartStopDaqList (deed.KeepRunning (p .w2))
+  selects : v .lists ≡ true → p .w2 < lists → Verdict p v nc nm StartStopDaqList (deed.Select (p .w2))
+  stops-all : v .lists ≡ true → Verdict p v nc nm StartStopSynch deed.StopAll
+  starts-all : v .lists ≡ true → Verdict p v nc nm StartStopSynch deed.StartSelected
+  stops-some : v .lists ≡ true → Verdict p v nc nm StartStopSynch deed.StopSelected
+  processor : Verdict p v nc nm GetDaqProcessorInfo deed.ProcessorInfo
+  resolution : Verdict p v nc nm GetDaqResolutionInfo deed.ResolutionInfo
+
+module _ (p : Packet) (v : Seen) (nc nm : ℕ) where
+  abbrev Led : Command → Deed → Type 0
+  Led c d = Verdict p v nc nm c d
+
+  connect-found : Led Connect (connectDeed (p .b1))
+  unfolding connectDeed
+  connect-found = cond-ind (Led Connect) (eqb (p .b1) 0) (λ _. connects) (λ _. refused Connect _)
+
+  seed-found : (unlocked : Bool) (r : Resource) → Led GetSeed (seedDeed unlocked r)
+  seed-found unlocked r = cond-ind (Led GetSeed) unlocked (λ _. no-seed) (λ _. gives r)
+
+  get-seed-found : Led GetSeed (getSeedDeed (v .calibration) (v .lists) (p .b1) (p .b2))
+  unfolding getSeedDeed
+  get-seed-found =
+      cond-ind (Led GetSeed) (eqb (p .b1) 1) (λ _. refused GetSeed _) (λ _.
+      cond-ind (Led GetSeed) (ltb 1 (p .b1)) (λ _. refused GetSeed _) (λ _.
+      cond-ind (Led GetSeed) (eqb (p .b2) 0x01) (λ _. seed-found (v .calibration) Calibration) (λ _.
+      cond-ind (Led GetSeed) (eqb (p .b2) 0x04) (λ _. seed-found (v .lists) Lists) (λ _. refused GetSeed _))))
+
+  unlock-found : (s : Seed) → v .seed ≡ s → Led Unlock (unlockBy s (v .generator) (p .b1) (p .n) (p .d2))
+  unfolding unlockBy
+  unlock-found None e = refused Unlock _
+  unlock-found (For r) e =
+      cond-ind (Led Unlock) (eqb (p .b1) 4) (λ four.
+      cond-ind (Led Unlock) (ltb (p .n) 6) (λ _. refused Unlock _) (λ long.
+      cond-ind (Led Unlock) (eqb (p .d2) (keyOf r (v .generator)))
+      (unlocks r (record { seed = e; four = eqb-true (p .b1) 4 four; long = ltb-false (p .n) 6 long }))
+      (wrong r (record { seed = e; four = eqb-true (p .b1) 4 four; long = ltb-false (p .n) 6 long })))) (λ _. refused Unlock _)
+
+  set-mta-found : Led SetMta (setMtaDeed (p .b3) (p .d4))
+  unfolding setMtaDeed
+  set-mta-found = cond-ind (Led SetMta) (ltb 1 (p .b3)) (λ _. refused SetMta _) (λ _. sets)
+
+  upload-found : (m : Mta) → v .mta ≡ m → Led Upload (uploadDeed m (p .b1) nc nm)
+  unfolding uploadDeed
+  upload-found Unset there = refused Upload _
+  upload-found (At x a) there =
+      cond-ind (Led Upload) (eqb (p .b1) 0) (λ _. refused Upload _) (λ _.
+      cond-ind (Led Upload) (ltb uploadMost (p .b1)) (λ _. refused Upload _) (λ few.
+      cond-ind (Led Upload) (insideOf a (p .b1) (pick x nc nm)) (λ inside. uploads x a there (ltb-false uploadMost (p .b1) few, inside)) (λ _. refused Upload _)))
+
+  short-upload-found : Led ShortUpload (shortUploadDeed (p .b1) (p .b3) (p .d4) nc nm)
+  unfolding shortUploadDeed
+  short-upload-found =
+      cond-ind (Led ShortUpload) (eqb (p .b1) 0) (λ _. refused ShortUpload _) (λ _.
+      cond-ind (Led ShortUpload) (ltb uploadMost (p .b1)) (λ _. refused ShortUpload _) (λ few.
+      cond-ind (Led ShortUpload) (ltb 1 (p .b3)) (λ _. refused ShortUpload _) (λ _.
+      cond-ind (Led ShortUpload) (insideOf (p .d4) (p .b1) (pick (extensionFrom (p .b3)) nc nm)) (λ inside. shorts (ltb-false uploadMost (p .b1) few, inside)) (λ _. refused ShortUpload _))))
+
+  checksum-found : (m : Mta) → v .mta ≡ m → Led BuildChecksum (checksumDeed m (p .d4) nc nm)
+  unfolding checksumDeed
+  checksum-found Unset there = refused BuildChecksum _
+  checksum-found (At x a) there =
+      cond-ind (Led BuildChecksum) (eqb (p .d4) 0) (λ _. no-size) (λ _.
+      cond-ind (Led BuildChecksum) (ltb addressable (p .d4)) (λ _. no-size) (λ few.
+      cond-ind (Led BuildChecksum) (insideOf a (p .d4) (pick x nc nm)) (λ inside. sums x a there (ltb-false addressable (p .d4) few, inside)) (λ _. refused BuildChecksum _)))
+
+  download-to-found : v .calibration ≡ true → (x : Extension) (a : ℕ) → v .mta ≡ At x a → p .b1 ≤ downloadMost → p .b1 + 2 ≤ p .n → Led Download (downloadTo x a (p .b1) nc)
+  unfolding downloadTo
+  download-to-found free CalibrationMemory a there few long =
+      cond-ind (Led Download) (insideOf a (p .b1) nc) (λ inside. downloads a free there long (few, inside)) (λ _. refused Download _)
+  download-to-found free Measured a there few long = refused Download _
+
+  download-found : v .calibration ≡ true → (m : Mta) → v .mta ≡ m → Led Download (downloadDeed m (p .b1) (p .n) nc)
+  unfolding downloadDeed
+  download-found free Unset there = refused Download _
+  download-found free (At x a) there =
+      cond-ind (Led Download) (eqb (p .b1) 0) (λ _. refused Download _) (λ _.
+      cond-ind (Led Download) (ltb downloadMost (p .b1)) (λ _. refused Download _) (λ few.
+      cond-ind (Led Download) (ltb (p .n) (p .b1 + 2)) (λ _. refused Download _) (λ long.
+      download-to-found free x a there (ltb-false downloadMost (p .b1) few) (ltb-false (p .n) (p .b1 + 2) long))))
+
+  -- ---- the lists, which are unlocked
+  module _ (free : v .lists ≡ true) where
+    clear-found : Led ClearDaqList (clearDeed (v .runs) (p .w2))
+    unfolding clearDeed
+    clear-found =
+        cond-ind (Led ClearDaqList) (leb lists (p .w2)) (λ _. refused ClearDaqList _) (λ list.
+        cond-ind (Led ClearDaqList) (v .runs) (λ _. refused ClearDaqList _) (λ still. clears free (leb-false lists (p .w2) list) still))
+
+    pointer-found : Led SetDaqPtr (pointerDeed (p .w2) (p .b4) (p .b5))
+    unfolding pointerDeed
+    pointer-found =
+        cond-ind (Led SetDaqPtr) (leb lists (p .w2)) (λ _. refused SetDaqPtr _) (λ list.
+        cond-ind (Led SetDaqPtr) (leb (odtCount (p .w2)) (p .b4)) (λ _. refused SetDaqPtr _) (λ odt.
+        cond-ind (Led SetDaqPtr) (leb (entryCount (firstOdt (p .w2) + p .b4)) (p .b5)) (λ _. refused SetDaqPtr _) (λ entry.
+        points free (leb-false lists (p .w2) list) (leb-false (odtCount (p .w2)) (p .b4) odt) (leb-false (entryCount (firstOdt (p .w2) + p .b4)) (p .b5) entry))))
+
+    write-found : (at : Pointer) → v .pointer ≡ at → Led WriteDaq (writeDeed at (v .pointed) (p .b1) (p .b2) (p .b3) (p .d4) nc nm)
+    unfolding writeDeed writeBlock
+    write-found NoEntry here = refused WriteDaq _
+    write-found (Entry k e) here =
+        cond-ind (Led WriteDaq) (eqb (p .b1) 0xFF) (λ _.
+        cond-ind (Led WriteDaq) (ltb entryMost (p .b2)) (λ _. refused WriteDaq _) (λ few.
+        cond-ind (Led WriteDaq) (ltb 1 (p .b3)) (λ _. refused WriteDaq _) (λ _.
+        cond-ind (Led WriteDaq) (v .pointed) (λ _. refused WriteDaq _) (λ still.
+        cond-ind (Led WriteDaq) (eqb (p .b2) 0) (λ _. zeroes k e free (record { here = here; still = still })) (λ _.
+        cond-ind (Led WriteDaq) (insideOf (p .d4) (p .b2) (pick (extensionFrom (p .b3)) nc nm))
+        (λ inside. writes k e free (record { here = here; still = still }) (ltb-false entryMost (p .b2) few, inside)) (λ _. refused WriteDaq _)))))) (λ _. refused WriteDaq _)
+
+    mode-found : Led SetDaqListMode (modeDeed (v .runs) (p .b1) (p .w2) (p .w4) (p .b6) (p .b7))
+    unfolding modeDeed
+    mode-found =
+        cond-ind (Led SetDaqListMode) (eqb (p .b1) 0x10) (λ _.
+        cond-ind (Led SetDaqListMode) (leb lists (p .w2)) (λ _. refused SetDaqListMode _) (λ list.
+        cond-ind (Led SetDaqListMode) (leb events (p .w4)) (λ _. refused SetDaqListMode _) (λ event.
+        cond-ind (Led SetDaqListMode) (eqb (p .b6) 1) (λ _.
+        cond-ind (Led SetDaqListMode) (eqb (p .b7) 0) (λ _.
+        cond-ind (Led SetDaqListMode) (v .runs) (λ _. refused SetDaqListMode _) (λ still.
+        modes free (leb-false lists (p .w2) list) (leb-false events (p .w4) event) still)) (λ _. refused SetDaqListMode _)) (λ _. refused SetDaqListMode _)))) (λ _. refused SetDaqListMode _)
+
+    start-stop-found : Led StartStopDaqList (startStopDeed (v .runs) (v .fits) (p .b1) (p .w2))
+    unfolding startStopDeed startDeed
+    start-stop-found =
+        cond-ind (Led StartStopDaqList) (ltb 2 (p .b1)) (λ _. refused StartStopDaqList _) (λ _.
+        cond-ind (Led StartStopDaqList) (leb lists (p .w2)) (λ _. refused StartStopDaqList _) (λ list.
+        cond-ind (Led StartStopDaqList) (eqb (p .b1) 0) (λ _. stops free (leb-false lists (p .w2) list)) (λ _.
+        cond-ind (Led StartStopDaqList) (eqb (p .b1) 1) (λ _.
+        cond-ind (Led StartStopDaqList) (v .runs) (λ _. goes-on free (leb-false lists (p .w2) list)) (λ still.
+        cond-ind (Led StartStopDaqList) (v .fits) (λ _. starts free (leb-false lists (p .w2) list) still) (λ _. refused StartStopDaqList _)))
+        (λ _. selects free (leb-false lists (p .w2) list)))))
+
+    synch-found : Led StartStopSynch (synchDeed (v .ready) (p .b1))
+    unfolding synchDeed
+    synch-found =
+        cond-ind (Led StartStopSynch) (ltb 2 (p .b1)) (λ _. refused StartStopSynch _) (λ _.
+        cond-ind (Led StartStopSynch) (eqb (p .b1) 0) (λ _. stops-all free) (λ _.
+        cond-ind (Led StartStopSynch) (eqb (p .b1) 1) (λ _.
+        cond-ind (Led StartStopSynch) (v .ready) (λ _. starts-all free) (λ _. refused StartStopSynch _)) (λ _. stops-some free)))
+
+  -- ---- a command whose lock is open
+  the-found : (c : Command) → lockedBy (needsOf c) v ≡ false → Led c (judgeThe c p v nc nm)
+  unfolding judgeThe
+  the-found Unknown free = refused Unknown _
+  the-found Connect free = connect-found
+  the-found Disconnect free = disconnects
+  the-found GetStatus free = tells
+  the-found Synch free = synchs
+  the-found GetSeed free = get-seed-found
+  the-found Unlock free = unlock-found (v .seed) refl
+  the-found SetMta free = set-mta-found
+  the-found Upload free = upload-found (v .mta) refl
+  the-found ShortUpload free = short-upload-found
+  the-found BuildChecksum free = checksum-found (v .mta) refl
+  the-found Download free = download-found (not-false (v .calibration) free) (v .mta) refl
+  the-found ClearDaqList free = clear-found (not-false (v .lists) free)
+  the-found SetDaqPtr free = pointer-found (not-false (v .lists) free)
+  the-found WriteDaq free = write-found (not-false (v .lists) free) (v .pointer) refl
+  the-found SetDaqListMode free = mode-found (not-false (v .lists) free)
+  the-found StartStopDaqList free = start-stop-found (not-false (v .lists) free)
+  the-found StartStopSynch free = synch-found (not-false (v .lists) free)
+  the-found GetDaqProcessorInfo free = processor
+  the-found GetDaqResolutionInfo free = resolution
+
+  by-found : (c : Command) → Led c (judgeBy c p v nc nm)
+  unfolding judgeBy
+  by-found c =
+      cond-ind (Led c) (ltb (p .n) (fewest c)) (λ _. refused c _) (λ _.
+      cond-ind (Led c) (lockedBy (needsOf c) v) (λ _. refused c _) (λ free. the-found c free))
+
+  pub found : Led (commandOf (p .b0)) (judge p v nc nm)
+  unfolding judge
+  found = by-found (commandOf (p .b0))
