@@ -23,4 +23,5 @@ pub mod SampleLaws
 pub mod Obeys
 pub mod Settings
 pub mod Locked
+pub mod BytesStored
 pub mod BytesKept

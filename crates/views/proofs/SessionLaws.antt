@@ -5,13 +5,13 @@ use mathlib.Core.Logic.{_≢_}
 use mathlib.Core.Bool.{Bool, true, false, cond}
 use mathlib.Core.List.{List, [], _∷_}
 use native.Mathlib.Omega.{arith}
-use borrow.Author.Tests.{eqb-true, eqb-false, le-ltb}
+use borrow.Author.Tests.{eqb-true, eqb-false, le-ltb, ne-eqb}
 use lib.Dec.{eqb, ltb, lit<}
 use lib.ListN.{length}
 use Rattle.line.proofs.Stuffed.{false-true}
 use Rattle.state.specs.Layout.{lists}
 use Rattle.state.specs.Bytes.{u32At, bytes32}
-use Rattle.state.specs.Generator.{nextOf, keyOf}
+use Rattle.state.specs.Generator.{nextOf, startOf, keyOf}
 use Rattle.state.specs.State.{bitOf}
 use Rattle.state.proofs.Xorshift.{next-fits}
 use Rattle.words.specs.Command.{commandOf}
@@ -27,6 +27,8 @@ use Rattle.model.specs.declared.Deed.the-variants.{Synch, GiveSeed, Unlock}
 use Rattle.model.specs.Answers.{replyIn, doneBy, writes}
 use Rattle.model.specs.Model.{byte, Session, blank, runsIn, someRuns}
 use Rattle.model.specs.Step.{unlock, withGenerator, withLock, withSeed, stepIn}
+use Rattle.model.specs.Calls.{poweredUp}
+use Rattle.views.specs.PoweredUp.{PoweredUp}
 use Rattle.views.specs.Commands.{resourceNumber, maskFor, TheGenerator, Whether-open, TheLocks, TheSeed, TheMta, ThePointer, TheLists, AllButBoth, Fresh, CONNECT, DISCONNECT, GET-STATUS, SYNCH, Seeds, GET-SEED, UNLOCK, GET-DAQ-PROCESSOR-INFO, GET-DAQ-RESOLUTION-INFO}
 use Rattle.model.proofs.Bounded.{either}
 use Rattle.views.proofs.Taken.{four-is, fe-ff, Taken, unless, provided, branch, judged, Leads}
@@ -49,6 +51,21 @@ blank-fresh c o = record {
 }
 
 -- ---- FD GET_STATUS
+-- ---- power-up
+pub powered-up : (start : ℕ) → PoweredUp start (poweredUp start)
+unfolding startOf
+powered-up start = record {
+  closed = refl;
+  fresh = blank-fresh (poweredUp start .session) false;
+  started = λ n. rw (ne-eqb start 0 n);
+  default = λ e. rw e;
+  ctr = refl;
+  served = refl;
+  lastAnswer = refl;
+  answer = refl;
+  place = refl;
+}
+
 mask-is : (a b : Bool) → cond a 0 (bitOf Calibration) + cond b 0 (bitOf Lists) ≡ maskFor a b
 mask-is true true = refl
 mask-is false true = refl

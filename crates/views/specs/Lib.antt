@@ -1,7 +1,8 @@
 -- `Commands`: what stands of every command that is done. `Locked`: what no command changes while lists are locked. `Samples`: what an event captures.
--- `Turns`: whose turn a slot is. `Shown`: what a call in bytes shows.
+-- `Turns`: whose turn a slot is. `PoweredUp`: what power-up leaves. `Shown`: what a call in bytes shows.
 pub mod Commands
 pub mod Locked
 pub mod Samples
 pub mod Turns
+pub mod PoweredUp
 pub mod Shown
