@@ -25,7 +25,7 @@ use Rattle.fields.proofs.Readers.{Same, apart, same-then, same-part, flag-reads
 use Rattle.fields.proofs.Effects.{effected, answering, after-waits}
 use Rattle.demands.specs.Slave.{ours}
 use Rattle.demands.specs.Runs.{Byte}
-use Rattle.demands.specs.Heard.{readBy, Commands, deedOf, stops, stopsBy, stopsAt}
+use Rattle.demands.specs.Heard.{readBy, Commands, deedIn, stops, stopsBy, stopsAt}
 use Rattle.demands.specs.Waiting.{waitingAnswer, waitingOf}
 use Rattle.demands.specs.Kept.{answerBy, accepts}
 use Rattle.views.proofs.Calls.{session-reads}
@@ -124,9 +124,9 @@ module _ (s cal meas : List ℕ) (b : ℕ) (c : consistent s ≡ true) where
 
 -- ---- a command that is heard leaves of the lists and the locks what it makes of the session
 pub command-steps : (s cal meas : List ℕ) (b : ℕ) (p : List ℕ) → consistent s ≡ true → Commands s b p
-    → Steps (stepIn (deedOf p (sessionOf s) cal meas) (sessionOf s)) (sessionOf (receiveOf s cal meas b .state))
+    → Steps (stepIn (deedIn p (sessionOf s) cal meas) (sessionOf s)) (sessionOf (receiveOf s cal meas b .state))
 command-steps s cal meas b p c w =
-    let d : Deed = deedOf p (sessionOf s) cal meas in
+    let d : Deed = deedIn p (sessionOf s) cal meas in
     subst (λ (o : Step). Steps (stepIn d (sessionOf s)) (sessionOf (o .state))) (sym (commanded s cal meas b p c w))
     (done-steps s cal meas b c d p (record {
       ended = w .ends;

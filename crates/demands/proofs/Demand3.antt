@@ -19,7 +19,7 @@ use Rattle.fields.proofs.Effects.{answering}
 use Rattle.fields.proofs.Kept.{receive-kept}
 use Rattle.demands.specs.Slave.{ours}
 use Rattle.demands.specs.Runs.{Call, run}
-use Rattle.demands.specs.Heard.{packetEnded, readBy, Commands, deedOf, answerTo}
+use Rattle.demands.specs.Heard.{packetEnded, readBy, Commands, deedIn, answerTo}
 use Rattle.demands.specs.Demand1.{ChangesOnly}
 use Rattle.demands.specs.Demand3.{LeavesWithin, AnsweredSoon, AnsweredBy, Demand3}
 use Rattle.demands.proofs.ReadBy.{read-only}
@@ -38,7 +38,7 @@ module _ (s cal meas : List ℕ) (b : ℕ) (p : List ℕ) (c : consistent s ≡ 
   command-waits : hasAnswer (viewOf (receiveOf s cal meas b .state)) ≡ true
   command-waits = ap (λ (bs : List ℕ). ltb 0 (length bs)) (command-answer s cal meas b p c w) ∙ lt-ltb 0 (length (answerTo p (sessionOf s) cal meas)) long where
     long : 0 < length (answerTo p (sessionOf s) cal meas)
-    long = answering (deedOf p (sessionOf s) cal meas) s cal meas (length p) (judged-doable p s (length cal) (length meas)) .some
+    long = answering (deedIn p (sessionOf s) cal meas) s cal meas (length p) (judged-doable p s (length cal) (length meas)) .some
 
   command-soon : (later : List Call) → AnsweredSoon 2 ours s cal meas b p later
   command-soon later =

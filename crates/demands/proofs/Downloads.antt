@@ -33,7 +33,7 @@ use Rattle.state.proofs.Inside.{inside-le}
 use Rattle.state.proofs.Sets.{block-length}
 use Rattle.fields.proofs.Stores.{block-sets}
 use Rattle.demands.specs.Slave.{ours}
-use Rattle.demands.specs.Heard.{deedOf}
+use Rattle.demands.specs.Heard.{deedIn}
 use Rattle.demands.specs.Waiting.{AllBut}
 use Rattle.demands.specs.Demand2.{Downloads, Uploads}
 use Rattle.demands.proofs.Received.{commanded, command-answer}
@@ -78,7 +78,7 @@ module _ (p : List ℕ) (c : Session) (cal meas : List ℕ) (a n : ℕ) where
       cond-ind Good (ltb (length p) 2) (λ _ e. absurd (fe-ff _ e)) (λ _.
       cond-ind Good (lockedBy (needsOf command.Download) (seenIn (u16At p 2) c)) (λ _ e. absurd (fe-ff _ e)) (λ _. the-good there count))
 
-  judged-good : byte p 0 ≡ 0xF0 → c .mta ≡ At Calibration a → byte p 1 ≡ n → Good (deedOf p c cal meas)
+  judged-good : byte p 0 ≡ 0xF0 → c .mta ≡ At Calibration a → byte p 1 ≡ n → Good (deedIn p c cal meas)
   unfolding judgeIn judge commandOf
   judged-good code there count =
       subst (λ (k : ℕ). Good (judgeBy (commandOf k) (numbersOf p) (seenIn (u16At p 2) c) (length cal) (length meas))) (sym code) (by-good there count)
@@ -108,7 +108,7 @@ download-writes a n p cal = refl
 pub uploaded : (t mem meas : List ℕ) (c : ℕ) (q : List ℕ) (a n : ℕ) → consistent t ≡ true → Uploads t c q a n → n ≢ 0 → n ≤ downloadMost → insideOf a n (length mem) ≡ true
     → viewOf (receiveOf t mem meas c .state) .answer ≡ 0xFF ∷ block mem a n
 uploaded t mem meas c q a n v up z few inside =
-    let judged : deedOf q (sessionOf t) mem meas ≡ Upload Calibration a n =
+    let judged : deedIn q (sessionOf t) mem meas ≡ Upload Calibration a n =
     upload-judged q (sessionOf t) a n (length mem) (length meas) (up .code) (up .place) (up .count) z (omega arith) inside in
     command-answer t mem meas c q v (up .command) ∙ ap (λ (d : Deed). replyIn d (sessionOf t) mem meas) judged ∙ upload-says a n (sessionOf t) mem meas
 
@@ -127,7 +127,7 @@ stands cal a n xs e h = rw (← e) (block-sets cal a xs (omega arith))
 pub downloaded : (s cal meas : List ℕ) (b : ℕ) (p : List ℕ) (a n : ℕ) → consistent s ≡ true → Downloads s b p a n → viewOf (ours .receive s cal meas b .state) .answer ≡ 0xFF ∷ []
     → Wrote p a n cal (ours .receive s cal meas b .cal)
 downloaded s cal meas b p a n u down said =
-    let w : Loads p a n (length cal) (deedOf p (sessionOf s) cal meas) =
+    let w : Loads p a n (length cal) (deedIn p (sessionOf s) cal meas) =
     judged-good p (sessionOf s) cal meas a n (down .code) (down .place) (down .count) (sym (command-answer s cal meas b p u (down .command)) ∙ said) in
     let xs : List ℕ = block p 2 n in
     let n-there : n + 2 ≤ length p = w .there in

@@ -40,7 +40,7 @@ use Rattle.fields.proofs.Kept.{receive-kept, event-kept, slot-kept}
 use Rattle.views.proofs.Done.{view-after}
 use Rattle.demands.specs.Slave.{ours}
 use Rattle.demands.specs.Runs.{Call, Byte, Event, SendingSlot, Elsewhere, run}
-use Rattle.demands.specs.Heard.{readBy, Commands, deedOf, bringsKey}
+use Rattle.demands.specs.Heard.{readBy, Commands, deedIn, bringsKey}
 use Rattle.demands.specs.Demand2.{otherLock, keyNumber, keyTo, Uncommanded, SeedOpens}
 use Rattle.demands.proofs.ReadBy.{read-length, read-session}
 use Rattle.demands.proofs.Received.{commanded, command-answer, rests-known}
@@ -165,7 +165,7 @@ pub seed-opens : (s cal meas : List ℕ) (b : ℕ) (p : List ℕ) (r : Resource)
 seed-opens s cal meas b p r c few w e locked =
     let u : List ℕ = receiveOf s cal meas b .state in
     let x : ℕ = nextOf (sessionOf s .generator) in
-    let judged : deedOf p (sessionOf s) cal meas ≡ GiveSeed r = give-judged p (sessionOf s) r (length cal) (length meas) e locked in
+    let judged : deedIn p (sessionOf s) cal meas ≡ GiveSeed r = give-judged p (sessionOf s) r (length cal) (length meas) e locked in
     let step : receiveOf s cal meas b ≡ obeyed (GiveSeed r) p (readBy s b) cal meas = commanded s cal meas b p c w ∙ ap (λ (d : Deed). obeyed d p (readBy s b) cal meas) judged in
     let given : sessionOf u ≡ withSeed (withGenerator (sessionOf s) x) (For r) = ap (λ (o : Step). sessionOf (o .state)) step ∙ seeded r s cal meas b c few in
     record {

@@ -18,7 +18,7 @@ use Rattle.words.specs.declared.Seed.the-variants.{For}
 use Rattle.model.specs.declared.Deed.{Deed}
 use Rattle.model.specs.declared.Deed.the-variants.{Connect, Unlock}
 use Rattle.demands.specs.Slave.{ours}
-use Rattle.demands.specs.Heard.{Commands, deedOf, bringsKey, keyMatches}
+use Rattle.demands.specs.Heard.{Commands, deedIn, bringsKey, keyMatches}
 use Rattle.demands.specs.Demand2.{shut, otherLock}
 use Rattle.fields.proofs.Writes.{by-write}
 use Rattle.demands.proofs.Judged.{Found}
@@ -73,7 +73,7 @@ pub unlocks-own : (s cal meas : List ℕ) (b : ℕ) (p : List ℕ) (r : Resource
     → (sessionOf (ours .receive s cal meas b .state) .unlocked r ≡ true)
     × (sessionOf (ours .receive s cal meas b .state) .unlocked (otherLock r) ≡ sessionOf s .unlocked (otherLock r))
 unlocks-own s cal meas b p r c w e k m =
-    let right : deedOf p (sessionOf s) cal meas ≡ Unlock r = key-judged p (sessionOf s) r (length cal) (length meas) k e ∙ rw m in
+    let right : deedIn p (sessionOf s) cal meas ≡ Unlock r = key-judged p (sessionOf s) r (length cal) (length meas) k e ∙ rw m in
     let locks : sessionOf (receiveOf s cal meas b .state) .unlocked ≡ stepIn (Unlock r) (sessionOf s) .unlocked =
     command-steps s cal meas b p c w .unlocked ∙ ap (λ (d : Deed). stepIn d (sessionOf s) .unlocked) right in
     (ap (λ (f : Resource → Bool). f r) locks ∙ key-opens r (sessionOf s), ap (λ (f : Resource → Bool). f (otherLock r)) locks ∙ key-alone r (sessionOf s))

@@ -31,7 +31,7 @@ use Rattle.views.proofs.Fit.{Fit, generator-fits, judged-fits}
 use Rattle.views.proofs.Done.{shown-after}
 use Rattle.views.proofs.Obeys.{AsModel, obeys}
 use Rattle.demands.specs.Slave.{ours}
-use Rattle.demands.specs.Heard.{packetBy, packetEnded, readBy, Commands, deedOf}
+use Rattle.demands.specs.Heard.{packetBy, packetEnded, readBy, Commands, deedIn}
 use Rattle.demands.specs.Obeyed.{Obeyed}
 use Rattle.demands.proofs.ReadBy.{read-length, read-session}
 use Rattle.demands.proofs.Received.{Does, Reads, rests, acts, some-none, received, commanded}
@@ -76,12 +76,12 @@ module _ (s : List ℕ) (b : ℕ) (c : consistent s ≡ true) (w : Bytes s) (low
 
   -- the deed that a command leads to
   pub command-done : (p cal meas : List ℕ) → Bytes p
-      → shown (after (deedOf p (sessionOf s) cal meas) (readBy s b) cal meas) (written (deedOf p (sessionOf s) cal meas) p cal) ≡ commandIn p (sessionOf s) cal meas
+      → shown (after (deedIn p (sessionOf s) cal meas) (readBy s b) cal meas) (written (deedIn p (sessionOf s) cal meas) p cal) ≡ commandIn p (sessionOf s) cal meas
   command-done p cal meas v =
       let t : List ℕ = readBy s b in
-      let fit : Fit (deedOf p (sessionOf s) cal meas) (generatorOf t) =
-      subst (λ (x : Session). Fit (deedOf p x cal meas) (generatorOf t)) (read-session s b c) (judged-fits p t (length cal) (length meas) v generator-low) in
-      shown-done (deedOf p (sessionOf s) cal meas) p cal meas (length p) (judged-doable p s (length cal) (length meas)) fit
+      let fit : Fit (deedIn p (sessionOf s) cal meas) (generatorOf t) =
+      subst (λ (x : Session). Fit (deedIn p x cal meas) (generatorOf t)) (read-session s b c) (judged-fits p t (length cal) (length meas) v generator-low) in
+      shown-done (deedIn p (sessionOf s) cal meas) p cal meas (length p) (judged-doable p s (length cal) (length meas)) fit
 
   -- a good CONNECT without a session is what it leads to in one
   connect-done : (p cal meas : List ℕ) → goodConnect p ≡ true → shown (after Connect (readBy s b) cal meas) (written Connect p cal) ≡ commandIn p (sessionOf s) cal meas

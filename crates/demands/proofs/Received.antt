@@ -29,7 +29,7 @@ use Rattle.words.specs.declared.Received.{Received}
 use Rattle.words.specs.declared.Received.the-variants.{Nothing, Silent, BadLength, BadEscape, BadChecksum, Unread, CutOff}
 use Rattle.look.proofs.Looked.{judged-doable}
 use Rattle.fields.proofs.Effects.{after-answer}
-use Rattle.demands.specs.Heard.{packetBy, packetEnded, readBy, Commands, deedOf, answerTo, deedBy, heeds, doneAt}
+use Rattle.demands.specs.Heard.{packetBy, packetEnded, readBy, Commands, deedIn, answerTo, deedBy, heeds, doneAt}
 use Rattle.demands.proofs.Judged.{Found, judged}
 use Rattle.demands.proofs.ReadBy.{waits-shown, Roomy, read-roomy, read-length, read-session, read-answer}
 
@@ -39,7 +39,7 @@ pub record Does (s cal meas : List ℕ) (b : ℕ) (d : Deed) (p : List ℕ) : Ty
   pub free : hasAnswer (viewOf s) ≡ false
   pub can : Doable d (length p) (length cal) (length meas)
   pub found : Found d p (sessionOf s)
-  pub opened : sessionOf s .opened ≡ true → d ≡ deedOf p (sessionOf s) cal meas
+  pub opened : sessionOf s .opened ≡ true → d ≡ deedIn p (sessionOf s) cal meas
   pub closed : sessionOf s .opened ≡ false → (d ≡ Connect) × (goodConnect p ≡ true)
 
 pub data Reads (s cal meas : List ℕ) (b : ℕ) : Step → Option Deed → Type 0 where
@@ -63,7 +63,7 @@ module _ (s cal meas : List ℕ) (b : ℕ) (c : consistent s ≡ true) where
       subst (λ (o : Step). Reads s cal meas b o (heeds (some p) (viewOf s) (length cal) (length meas))) (sym (heeded-at s cal meas b p c))
       (go (hasAnswer (viewOf s)) (sessionOf s .opened) (goodConnect p) refl refl refl) where
         d : Deed
-        d = deedOf p (sessionOf s) cal meas
+        d = deedIn p (sessionOf s) cal meas
 
         go : (w o g : Bool) → hasAnswer (viewOf s) ≡ w → sessionOf s .opened ≡ o → goodConnect p ≡ g
             → Reads s cal meas b
@@ -143,7 +143,7 @@ heeds-right s cal meas b p c e = received-by s cal meas b c ∙ heeded-whole s c
 
 -- a command is judged, and what it leads to is done
 pub commanded : (s cal meas : List ℕ) (b : ℕ) (p : List ℕ) → consistent s ≡ true → Commands s b p
-    → receiveOf s cal meas b ≡ obeyed (deedOf p (sessionOf s) cal meas) p (readBy s b) cal meas
+    → receiveOf s cal meas b ≡ obeyed (deedIn p (sessionOf s) cal meas) p (readBy s b) cal meas
 unfolding heedingIn
 commanded s cal meas b p c w = heeds-right s cal meas b p c (w .ends) ∙ heeded-at s cal meas b p c ∙ simp (w .free, w .opened)
 
@@ -157,5 +157,5 @@ done-answer s cal meas b d n c can =
 pub command-answer : (s cal meas : List ℕ) (b : ℕ) (p : List ℕ) → consistent s ≡ true → Commands s b p
     → viewOf (receiveOf s cal meas b .state) .answer ≡ answerTo p (sessionOf s) cal meas
 command-answer s cal meas b p c w =
-    let d : Deed = deedOf p (sessionOf s) cal meas in
+    let d : Deed = deedIn p (sessionOf s) cal meas in
     ap (λ (o : Step). viewOf (o .state) .answer) (commanded s cal meas b p c w) ∙ done-answer s cal meas b d (length p) c (judged-doable p s (length cal) (length meas))

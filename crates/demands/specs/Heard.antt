@@ -47,8 +47,8 @@ pub record Commands (s : List ℕ) (b : ℕ) (p : List ℕ) : Type 0 where
   pub free : hasAnswer (viewOf s) ≡ false
 
 -- what command p leads to in session c, and its answer
-abbrev pub deedOf : List ℕ → Session → List ℕ → List ℕ → Deed
-deedOf p c cal meas = judgeIn p c (length cal) (length meas)
+abbrev pub deedIn : List ℕ → Session → List ℕ → List ℕ → Deed
+deedIn p c cal meas = judgeIn p c (length cal) (length meas)
 
 abbrev pub answerTo : List ℕ → Session → List ℕ → List ℕ → List ℕ
 answerTo p c cal meas = commandIn p c cal meas .answer
