@@ -39,7 +39,7 @@ use Rattle.fields.proofs.Readers.{Same}
 use Rattle.fields.proofs.Kept.{receive-kept, event-kept, slot-kept, power-up-consistent}
 use Rattle.demands.specs.Slave.{ours}
 use Rattle.demands.specs.Heard.{readBy, Commands, wrongKey, wrongKeyIn, wrongKeyAt}
-use Rattle.demands.specs.Waiting.{AllBut}
+use Rattle.demands.specs.Waiting.{SameOutside}
 use Rattle.demands.specs.Demand1.{Demand1}
 use Rattle.demands.proofs.Judged.{Found}
 use Rattle.demands.proofs.ReadBy.{read-only}
@@ -62,7 +62,7 @@ answer-only d s t cal meas n w e can =
     only-then (only-wider (lit≤ tt) (lit≤ tt) w) (only-wider (lit≤ tt) (lit≤ tt) a)
 
 refused-by : {s cal meas : List ℕ} {b : ℕ} {o : Step} {x : Option Deed} → consistent s ≡ true → receivedNumber (o .received) ≡ 1
-    → byte (viewOf (o .state) .answer) 0 ≡ 0xFE → wrongKeyAt s b ≡ false → Reads s cal meas b o x → AllBut placeAt sessionAt s (o .state) × (o .cal ≡ cal)
+    → byte (viewOf (o .state) .answer) 0 ≡ 0xFE → wrongKeyAt s b ≡ false → Reads s cal meas b o x → SameOutside placeAt sessionAt s (o .state) × (o .cal ≡ cal)
 refused-by c one fe n (rests r other few) = absurd (other one)
 refused-by {s} {cal} {meas} {b} c one fe n (acts d p w) =
     let t : List ℕ = readBy s b in
@@ -117,14 +117,14 @@ unfolding effect
 wrong-only t cal meas = only-answered (closed t) (reply WrongKey t cal meas) (answering WrongKey t cal meas 0 tt .few)
 
 wrong-key-ends : (s cal meas : List ℕ) (b : ℕ) (p : List ℕ) → consistent s ≡ true → Commands s b p → wrongKey p (sessionOf s) ≡ true
-    → AllBut answerAt sessionAt (closed (readBy s b)) (receiveOf s cal meas b .state) × (receiveOf s cal meas b .cal ≡ cal)
+    → SameOutside answerAt sessionAt (closed (readBy s b)) (receiveOf s cal meas b .state) × (receiveOf s cal meas b .cal ≡ cal)
 wrong-key-ends s cal meas b p u w wrong =
     let e : receiveOf s cal meas b ≡ obeyed WrongKey p (readBy s b) cal meas = wrong-step s cal meas b p u w wrong in
     (rw e (all-but (wrong-only (readBy s b) cal meas)), ap (λ (o : Step). o .cal) e ∙ wrong-closes .memory p cal)
 
-as-disconnect : (s t cal meas cal′ meas′ : List ℕ) (b c : ℕ) (p q : List ℕ) → consistent s ≡ true → consistent t ≡ true → AllBut placeAt sessionAt s t
+as-disconnect : (s t cal meas cal′ meas′ : List ℕ) (b c : ℕ) (p q : List ℕ) → consistent s ≡ true → consistent t ≡ true → SameOutside placeAt sessionAt s t
     → Commands s b p → wrongKey p (sessionOf s) ≡ true → Commands t c q → byte q 0 ≡ 0xFE
-    → AllBut placeAt sessionAt (receiveOf s cal meas b .state) (receiveOf t cal′ meas′ c .state)
+    → SameOutside placeAt sessionAt (receiveOf s cal meas b .state) (receiveOf t cal′ meas′ c .state)
 as-disconnect s t cal meas cal′ meas′ b c p q u v alike w wrong x code =
     let left : receiveOf s cal meas b ≡ obeyed WrongKey p (readBy s b) cal meas = wrong-step s cal meas b p u w wrong in
     let right : receiveOf t cal′ meas′ c ≡ obeyed Disconnect q (readBy t c) cal′ meas′ =
@@ -135,7 +135,7 @@ as-disconnect s t cal meas cal′ meas′ b c p q u v alike w wrong x code =
 
 -- ---- a byte without an answer
 unanswered-by : {s cal meas : List ℕ} {b : ℕ} {o : Step} {x : Option Deed} → consistent s ≡ true → receivedNumber (o .received) ≢ 1
-    → Reads s cal meas b o x → AllBut placeAt answerAt s (o .state) × (o .cal ≡ cal)
+    → Reads s cal meas b o x → SameOutside placeAt answerAt s (o .state) × (o .cal ≡ cal)
 unanswered-by {s} {cal} {meas} {b} c n (rests r other few) = (all-but (read-only s b c), refl)
 unanswered-by c n (acts d p w) = absurd (n refl)
 

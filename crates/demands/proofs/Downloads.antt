@@ -34,7 +34,7 @@ use Rattle.state.proofs.Sets.{block-length}
 use Rattle.fields.proofs.Stores.{block-sets}
 use Rattle.demands.specs.Slave.{ours}
 use Rattle.demands.specs.Heard.{deedIn}
-use Rattle.demands.specs.Waiting.{AllBut}
+use Rattle.demands.specs.Waiting.{SameOutside}
 use Rattle.demands.specs.Demand2.{Downloads, Uploads}
 use Rattle.demands.proofs.Received.{commanded, command-answer}
 use Rattle.demands.proofs.Unchanged.{all-but}
@@ -119,7 +119,7 @@ pub record Wrote (p : List ℕ) (a n : ℕ) (cal new : List ℕ) : Type 0 where
   pub few : n ≤ downloadMost
   pub inside : insideOf a n (length new) ≡ true
   pub there : block new a n ≡ block p 2 n
-  pub others : AllBut a (a + n) cal new
+  pub others : SameOutside a (a + n) cal new
 
 stands : (cal : List ℕ) (a n : ℕ) (xs : List ℕ) → length xs ≡ n → a + n ≤ length cal → block (sets cal a xs) a n ≡ xs
 stands cal a n xs e h = rw (← e) (block-sets cal a xs (omega arith))
@@ -145,7 +145,7 @@ downloaded s cal meas b p a n u down said =
 
 pub gives-back : (s t cal meas meas′ : List ℕ) (b c : ℕ) (p q : List ℕ) (a n : ℕ) → consistent s ≡ true → consistent t ≡ true
     → Downloads s b p a n → viewOf (ours .receive s cal meas b .state) .answer ≡ 0xFF ∷ [] → Uploads t c q a n
-    → (viewOf (ours .receive t (ours .receive s cal meas b .cal) meas′ c .state) .answer ≡ 0xFF ∷ block p 2 n) × AllBut a (a + n) cal (ours .receive s cal meas b .cal)
+    → (viewOf (ours .receive t (ours .receive s cal meas b .cal) meas′ c .state) .answer ≡ 0xFF ∷ block p 2 n) × SameOutside a (a + n) cal (ours .receive s cal meas b .cal)
 gives-back s t cal meas meas′ b c p q a n u v down said up =
     let new : List ℕ = receiveOf s cal meas b .cal in
     let w : Wrote p a n cal new = downloaded s cal meas b p a n u down said in

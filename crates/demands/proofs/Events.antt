@@ -27,7 +27,7 @@ use Rattle.views.proofs.Waits.{sampled-empty, event-waits}
 use Rattle.views.proofs.Happening.{view-event, event-session}
 use Rattle.demands.specs.Slave.{ours}
 use Rattle.demands.specs.Runs.{Event}
-use Rattle.demands.specs.Waiting.{AllBut, waitingOf, sampleOf}
+use Rattle.demands.specs.Waiting.{SameOutside, waitingOf, sampleOf}
 use Rattle.demands.specs.Demand2.{storeSize}
 use Rattle.demands.specs.Kept.{gains}
 use Rattle.demands.proofs.ByteKeeps.{SameRound, round-reads}
@@ -80,7 +80,7 @@ pub others : (s cal meas : List ℕ) (event clock l : ℕ) → consistent s ≡ 
     → block (ours .event s cal meas event clock .state) (sampleAt (firstOdt l)) storeSize ≡ block s (sampleAt (firstOdt l)) storeSize
 others s cal meas event clock l c q n = same-block (sampleAt (firstOdt l)) storeSize (omega arith) (omega arith) (kept-store s cal meas event clock l c q n)
 
-pub storesOnly : (s cal meas : List ℕ) (event clock : ℕ) → AllBut (sampleAt 0) size s (ours .event s cal meas event clock .state)
+pub storesOnly : (s cal meas : List ℕ) (event clock : ℕ) → SameOutside (sampleAt 0) size s (ours .event s cal meas event clock .state)
 storesOnly s cal meas event clock =
     let w = only-event s cal meas event clock in
     record { long = w .long; front = only-take (sampleAt 0) (lit≤ tt) w; back = only-drop size (lit≤ tt) w }

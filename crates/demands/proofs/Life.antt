@@ -25,7 +25,7 @@ use Rattle.fields.proofs.Readers.{Same, before, behind, same-block}
 use Rattle.fields.proofs.Kept.{power-consistent, receive-kept, event-kept, slot-kept}
 use Rattle.demands.specs.Slave.{ours}
 use Rattle.demands.specs.Runs.{SendingSlot, sends}
-use Rattle.demands.specs.Life.{Device, Moment, PowerOn, Hears, Samples, Serves, passed, lived, sentIn, OfByte, OfBytes}
+use Rattle.demands.specs.Life.{Device, Moment, PowerOn, Hears, Samples, Serves, passed, lived, sentInLife, OfByte, OfBytes}
 use Rattle.demands.specs.Demand2.{Downloads, Uploads, dueAt, dueIn, WhileShut, Spares}
 use Rattle.fields.proofs.Writes.{by-write}
 use Rattle.demands.proofs.Received.{Reads, rests, acts, received}
@@ -117,7 +117,7 @@ gives-back-later h meas b p a n between meas′ c q k down said clear up =
     ∙ ap (λ (x : List ℕ). 0xFF ∷ x) (l .bytes ∙ w .there)
 
 -- ---- the CTR
-life-numbers : (ms : List Moment) (i : ℕ) (h : Device) → consistent (h .state) ≡ true → At 0 i (h .state) → sentIn ours h ms ≡ dueIn ours i h ms
+life-numbers : (ms : List Moment) (i : ℕ) (h : Device) → consistent (h .state) ≡ true → At 0 i (h .state) → sentInLife ours h ms ≡ dueIn ours i h ms
 life-numbers [] i h c a = refl
 life-numbers (PowerOn start ∷ ms) i h c a =
     life-numbers ms 0 (passed ours h (PowerOn start)) (passed-kept h (PowerOn start) c) (ap (λ (s : List ℕ). viewOf s .ctr) (power-up-is (h .state) start (consistent-size (h .state) c)) ∙ power-ctr start)
@@ -130,7 +130,7 @@ life-numbers (Serves out ∷ ms) i h c a =
     let w : Numbered 0 i (sends ours (h .state) (SendingSlot out)) here (u .state) = slot-numbers 0 i (h .state) out c a in
     ap₂ (λ (x y : List (List ℕ)). x ++ y) (w .sent) (life-numbers ms (i + length here) u (passed-kept h (Serves out) c) (w .ctr))
 
-pub life-numbered : (h : Device) (start : ℕ) (ms : List Moment) → length (h .state) ≡ size → sentIn ours h (PowerOn start ∷ ms) ≡ dueIn ours 0 h (PowerOn start ∷ ms)
+pub life-numbered : (h : Device) (start : ℕ) (ms : List Moment) → length (h .state) ≡ size → sentInLife ours h (PowerOn start ∷ ms) ≡ dueIn ours 0 h (PowerOn start ∷ ms)
 life-numbered h start ms e =
     let is : passed ours h (PowerOn start) .state ≡ powered start = power-up-is (h .state) start e in
     life-numbers ms 0 (passed ours h (PowerOn start)) (rw is (power-consistent start)) (ap (λ (s : List ℕ). viewOf s .ctr) is ∙ power-ctr start)

@@ -26,8 +26,8 @@ use Rattle.words.specs.declared.Evented.{Evented}
 use Rattle.words.specs.declared.Evented.the-variants as event
 use Rattle.words.specs.declared.Slotted.{Slotted}
 use Rattle.words.specs.declared.Slotted.the-variants as slot
-use Rattle.demands.specs.Slave.{Slave, ours}
-use Rattle.demands.specs.Waiting.{AllBut}
+use Rattle.demands.specs.Slave.{AnySlave, ours}
+use Rattle.demands.specs.Waiting.{SameOutside}
 use Rattle.demands.specs.Tight.{Tight}
 use Rattle.demands.specs.Demand1.{Demand1}
 use Rattle.demands.specs.Demand2.{Demand2, storeSize}
@@ -86,7 +86,7 @@ same-lists t u (suc n) e f =
     let next : sampleAt (firstOdt n) + storeSize ≡ sampleAt (firstOdt (suc n)) = omega arith in
     same-lists t u n (λ l h. e l (omega arith)) (from-block (sampleAt (firstOdt n)) storeSize t u (e n (omega arith)) (rw next f))
 
-same-stores : (s t u : List ℕ) → AllBut (sampleAt 0) size s t → AllBut (sampleAt 0) size s u
+same-stores : (s t u : List ℕ) → SameOutside (sampleAt 0) size s t → SameOutside (sampleAt 0) size s u
     → ((l : ℕ) → l < lists → block t (sampleAt (firstOdt l)) storeSize ≡ block u (sampleAt (firstOdt l)) storeSize) → t ≡ u
 same-stores s t u a b e = whole (sampleAt 0) t u (a .front ∙ sym (b .front)) (same-lists t u lists e (a .back ∙ sym (b .back)))
 
@@ -97,7 +97,7 @@ missed-not : Missed ≢ Sampled
 missed-not e = false-true (ap isSampled e)
 
 -- ---- two slaves
-module _ (v w : Slave) (v1 : Demand1 v) (v2 : Demand2 v) (w1 : Demand1 w) (w2 : Demand2 w) where
+module _ (v w : AnySlave) (v1 : Demand1 v) (v2 : Demand2 v) (w1 : Demand1 w) (w2 : Demand2 w) where
   power-up-same : (s : List ℕ) (start : ℕ) → v .powerUp s start ≡ w .powerUp s start
   power-up-same s start = elim (ℕ-discrete (length s) size) [ yes e ↦ right e | no e ↦ wrong e ] where
     right : length s ≡ size → v .powerUp s start ≡ w .powerUp s start
@@ -170,9 +170,9 @@ module _ (v w : Slave) (v1 : Demand1 v) (v2 : Demand2 v) (w1 : Demand1 w) (w2 : 
         slot = λ s out. slot-same s out i;
       }
 
-pub no-choice : Tight (λ (v : Slave). Demand1 v × Demand2 v)
+pub no-choice : Tight (λ (v : AnySlave). Demand1 v × Demand2 v)
 no-choice v w a b = same-calls v w (a .0) (a .1) (b .0) (b .1)
 
 -- it is ours
-pub only-ours : (v : Slave) → Demand1 v → Demand2 v → v ≡ ours
+pub only-ours : (v : AnySlave) → Demand1 v → Demand2 v → v ≡ ours
 only-ours v d e = no-choice v ours (d, e) (demand1, demand2)

@@ -15,7 +15,7 @@ use Rattle.line.specs.Message.{most, longest, room, message, frame}
 use Rattle.line.specs.Stuffing.{stuff}
 use Rattle.line.specs.Unstuffing.{Fed, placeBy, cutOf}
 use Rattle.line.specs.Reader.{messages, takeOf}
-use Rattle.line.specs.Run.{Ran, run as reads}
+use Rattle.line.specs.Run.{Ran, runOf as reads}
 use Rattle.line.specs.Wire.{andThen, heard}
 use Rattle.line.specs.Writer.{atFront}
 use Rattle.line.specs.declared.Place.{Place}

@@ -29,8 +29,8 @@ use Rattle.model.specs.View.{sessionOf, viewOf}
 use Rattle.model.proofs.Shown.{stored-most, stored-long, packet-by, answer-most, answer-long}
 use Rattle.views.proofs.Calls.{view-answerSent, view-packetSent}
 use Rattle.demands.specs.Slave.{ours}
-use Rattle.demands.specs.Runs.{SendingSlot, frameIn, sends}
-use Rattle.demands.specs.Waiting.{AllBut}
+use Rattle.demands.specs.Runs.{SendingSlot, frameSent, sends}
+use Rattle.demands.specs.Waiting.{SameOutside}
 use Rattle.demands.specs.Demand2.{ReadsBack}
 use Rattle.demands.proofs.Turns.{Fair, nobody, answer, list, fair}
 
@@ -96,7 +96,7 @@ wrote : (p out : List ℕ) (c : ℕ) → Packed p → room ≤ length out → ta
 wrote p out c k h = take-front (frame c p) out (omega (arith, frame-short c p (k .few)))
 
 sent-turn : (s out : List ℕ) (t : Turn) → length s ≡ size → room ≤ length out → Fair (viewOf s) t
-    → frameIn (sentBy t s out .slotted) (sentBy t s out .out) ≡ framesOf (viewOf s .ctr) (packetFor t (viewOf s))
+    → frameSent (sentBy t s out .slotted) (sentBy t s out .out) ≡ framesOf (viewOf s .ctr) (packetFor t (viewOf s))
 unfolding viewOf sentBy
 sent-turn s out _ h r nobody = refl
 sent-turn s out _ h r (answer w) = let k = answer-packed s h w in rw (written-frame (answerOf s) out (ctrOf s) k r, wrote (answerOf s) out (ctrOf s) k r)
@@ -107,10 +107,10 @@ sent-turn s out _ h r (list j i n) =
 
 pub slot-sends : (s out : List ℕ) → consistent s ≡ true → room ≤ length out → sends ours s (SendingSlot out) ≡ framesOf (viewOf s .ctr) (packetFor (turnIn (viewOf s)) (viewOf s))
 slot-sends s out c h =
-    ap (λ (o : Slot). frameIn (o .slotted) (o .out)) (slot-is s out c h) ∙ sent-turn s out (turnIn (viewOf s)) (consistent-size s c) h (fair (viewOf s))
+    ap (λ (o : Slot). frameSent (o .slotted) (o .out)) (slot-is s out c h) ∙ sent-turn s out (turnIn (viewOf s)) (consistent-size s c) h (fair (viewOf s))
 
 pub slot-silent : (s out : List ℕ) → consistent s ≡ true → length out < room → sends ours s (SendingSlot out) ≡ []
-slot-silent s out c h = ap (λ (o : Slot). frameIn (o .slotted) (o .out)) (slot-refused s out c h)
+slot-silent s out c h = ap (λ (o : Slot). frameSent (o .slotted) (o .out)) (slot-refused s out c h)
 
 -- ---- a slot's frame reads back
 reads-back : (s : List ℕ) (t : Turn) → turnIn (viewOf s) ≡ t → length s ≡ size → Fair (viewOf s) t → ReadsBack (framesOf (viewOf s .ctr) (packetFor t (viewOf s))) s
@@ -128,9 +128,9 @@ slot-reads-back s out c h = rw (slot-sends s out c h) (reads-back s (turnIn (vie
 
 -- ---- and the bytes past it stay
 abbrev Past : List ℕ → Slot → Type 0
-Past out o = AllBut 0 (slottedValue (o .slotted)) out (o .out)
+Past out o = SameOutside 0 (slottedValue (o .slotted)) out (o .out)
 
-untouched : {out : List ℕ} → AllBut 0 0 out out
+untouched : {out : List ℕ} → SameOutside 0 0 out out
 untouched = record { long = refl; front = refl; back = refl }
 
 written-past : (p out s : List ℕ) (c : ℕ) → Past out (sentAs (writeOf p c out) s)
@@ -151,7 +151,7 @@ sent-past Nobody s out = untouched
 sent-past Answer s out = written-past (answerOf s) out (answerSent s) (ctrOf s)
 sent-past (Packet k) s out = written-past (packetFrom (sessionOf s) k) out (packetSent s k) (ctrOf s)
 
-pub slot-past : (s out : List ℕ) → AllBut 0 (slottedValue (slotOf s out .slotted)) out (slotOf s out .out)
+pub slot-past : (s out : List ℕ) → SameOutside 0 (slottedValue (slotOf s out .slotted)) out (slotOf s out .out)
 unfolding slotOf
 slot-past s out =
     cond-ind (Past out) (consistent s) (λ _. cond-ind (Past out) (ltb (length out) room) (λ _. untouched) (λ _. sent-past (turnIn (viewOf s)) s out)) (λ _. untouched)

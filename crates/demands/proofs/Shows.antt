@@ -9,7 +9,7 @@ use Rattle.views.proofs.Receiving.{view-receive}
 use Rattle.views.proofs.Happening.{view-event}
 use Rattle.views.proofs.Sending.{view-slot, view-powerUp}
 use Rattle.views.proofs.SampleLaws.{event-samples}
-use Rattle.demands.specs.Slave.{Slave, ours}
+use Rattle.demands.specs.Slave.{AnySlave, ours}
 use Rattle.demands.specs.Demand1.{Demand1}
 use Rattle.demands.specs.Demand2.{Demand2}
 use Rattle.demands.specs.Obeyed.{Obeyed}
@@ -32,14 +32,14 @@ ours-shows = record {
 }
 
 -- whatever stands of ours stands of every slave that meets the first two demands
-pub every : (P : Slave → Type 0) → P ours → (v : Slave) → Demand1 v → Demand2 v → P v
+pub every : (P : AnySlave → Type 0) → P ours → (v : AnySlave) → Demand1 v → Demand2 v → P v
 every P p v d e = subst P (sym (only-ours v d e)) p
 
-pub every-shows : (v : Slave) → Demand1 v → Demand2 v → Shows v
+pub every-shows : (v : AnySlave) → Demand1 v → Demand2 v → Shows v
 every-shows = every Shows ours-shows
 
-pub every-obeys : (v : Slave) → Demand1 v → Demand2 v → Obeys (Obeyed v)
-every-obeys = every (λ (v : Slave). Obeys (Obeyed v)) ours-obeys
+pub every-obeys : (v : AnySlave) → Demand1 v → Demand2 v → Obeys (Obeyed v)
+every-obeys = every (λ (v : AnySlave). Obeys (Obeyed v)) ours-obeys
 
-pub every-locked : (v : Slave) → Demand1 v → Demand2 v → ListsLocked v
+pub every-locked : (v : AnySlave) → Demand1 v → Demand2 v → ListsLocked v
 every-locked = every ListsLocked lists-locked

@@ -6,9 +6,9 @@ use lib.ListN.{set}
 use lib.Seq.{sets}
 use Rattle.fields.proofs.Frames.{Only, only-take, only-drop}
 use Rattle.fields.proofs.Readers.{Same, same-set}
-use Rattle.demands.specs.Waiting.{AllBut}
+use Rattle.demands.specs.Waiting.{SameOutside}
 
-pub all-but : {lo hi : ℕ} {s t : List ℕ} → Only lo hi s t → AllBut lo hi s t
+pub all-but : {lo hi : ℕ} {s t : List ℕ} → Only lo hi s t → SameOutside lo hi s t
 all-but {lo} {hi} w = record { long = w .long; front = only-take lo (le-refl lo) w; back = only-drop hi (le-refl hi) w }
 
 -- ---- the first n bytes

@@ -12,31 +12,31 @@ use Rattle.state.specs.State.{consistent, closed}
 use Rattle.model.specs.Model.{byte}
 use Rattle.model.specs.View.{sessionOf, viewOf}
 use Rattle.words.specs.Number.{receivedNumber, eventedNumber, slottedNumber, poweredUpNumber}
-use Rattle.demands.specs.Slave.{Slave}
+use Rattle.demands.specs.Slave.{AnySlave}
 use Rattle.demands.specs.Life.{Device, Moment, lived}
 use Rattle.demands.specs.Heard.{readBy, Commands, wrongKey, wrongKeyAt}
-use Rattle.demands.specs.Waiting.{AllBut}
+use Rattle.demands.specs.Waiting.{SameOutside}
 
 -- a received byte changes only the state's bytes from lo up to hi, and no calibration byte
-pub record ChangesOnly (lo hi : ℕ) (v : Slave) (s cal meas : List ℕ) (b : ℕ) : Type 0 where
-  pub state : AllBut lo hi s (v .receive s cal meas b .state)
+pub record ChangesOnly (lo hi : ℕ) (v : AnySlave) (s cal meas : List ℕ) (b : ℕ) : Type 0 where
+  pub state : SameOutside lo hi s (v .receive s cal meas b .state)
   pub memory : v .receive s cal meas b .cal ≡ cal
 
 -- byte b ends a command that is answered FE
-pub record Refused (v : Slave) (s cal meas : List ℕ) (b : ℕ) : Type 0 where
+pub record Refused (v : AnySlave) (s cal meas : List ℕ) (b : ℕ) : Type 0 where
   pub answered : receivedNumber (v .receive s cal meas b .received) ≡ 1
   pub begins : byte (viewOf (v .receive s cal meas b .state) .answer) 0 ≡ 0xFE
 
-pub record Demand1 (v : Slave) : Type 0 where
+pub record Demand1 (v : AnySlave) : Type 0 where
   -- a refused command, a wrong key apart, changes the reader's place and the answer alone
   pub refused : (s cal meas : List ℕ) (b : ℕ) → consistent s ≡ true → Refused v s cal meas b → wrongKeyAt s b ≡ false → ChangesOnly placeAt sessionAt v s cal meas b
   -- after a wrong key every state byte but the answer is DISCONNECT's, which closes the session; and no memory byte has changed
   pub wrongKeyEnds : (s cal meas : List ℕ) (b : ℕ) (p : List ℕ) → consistent s ≡ true → Commands s b p → wrongKey p (sessionOf s) ≡ true
-      → AllBut answerAt sessionAt (closed (readBy s b)) (v .receive s cal meas b .state) × (v .receive s cal meas b .cal ≡ cal)
+      → SameOutside answerAt sessionAt (closed (readBy s b)) (v .receive s cal meas b .state) × (v .receive s cal meas b .cal ≡ cal)
   -- so it leaves all as DISCONNECT itself does, but for the reader's place, where the command's own bytes are, and the answer
-  pub asDisconnect : (s t cal meas cal′ meas′ : List ℕ) (b c : ℕ) (p q : List ℕ) → consistent s ≡ true → consistent t ≡ true → AllBut placeAt sessionAt s t
+  pub asDisconnect : (s t cal meas cal′ meas′ : List ℕ) (b c : ℕ) (p q : List ℕ) → consistent s ≡ true → consistent t ≡ true → SameOutside placeAt sessionAt s t
       → Commands s b p → wrongKey p (sessionOf s) ≡ true → Commands t c q → byte q 0 ≡ 0xFE
-      → AllBut placeAt sessionAt (v .receive s cal meas b .state) (v .receive t cal′ meas′ c .state)
+      → SameOutside placeAt sessionAt (v .receive s cal meas b .state) (v .receive t cal′ meas′ c .state)
   -- the numbers 0 and 2 to 7 of a byte change the reader's place alone
   pub unanswered : (s cal meas : List ℕ) (b : ℕ) → consistent s ≡ true → receivedNumber (v .receive s cal meas b .received) ≢ 1 → ChangesOnly placeAt answerAt v s cal meas b
   -- 10 is for a state that is not consistent, and changes nothing

@@ -31,11 +31,11 @@ use Rattle.model.specs.Model.{byte, Session}
 use Rattle.model.specs.Calls.{turnIn, packetFor, samplingIn}
 use Rattle.model.specs.Whole.{countedIn}
 use Rattle.model.specs.View.{sessionOf, viewOf}
-use Rattle.demands.specs.Slave.{Slave}
+use Rattle.demands.specs.Slave.{AnySlave}
 use Rattle.demands.specs.Runs.{Call, Byte, Event, SendingSlot, Elsewhere, afterCall, run, sends, each, frames}
-use Rattle.demands.specs.Life.{Device, Moment, PowerOn, Hears, Samples, Serves, passed, lived, sentIn, OfBytes}
+use Rattle.demands.specs.Life.{Device, Moment, PowerOn, Hears, Samples, Serves, passed, lived, sentInLife, OfBytes}
 use Rattle.demands.specs.Heard.{Commands, doneAt, bringsKey, keyMatches}
-use Rattle.demands.specs.Waiting.{AllBut, waitingOf, sampleOf}
+use Rattle.demands.specs.Waiting.{SameOutside, waitingOf, sampleOf}
 
 -- the packets that are to go, slot by slot: with room enough, that of whose turn it is
 abbrev pub dueAt : List ℕ → Call → List (List ℕ)
@@ -44,7 +44,7 @@ dueAt s (Event cal meas event clock) = []
 dueAt s (SendingSlot out) = cond (ltb (length out) room) [] (packetFor (turnIn (viewOf s)) (viewOf s))
 dueAt s Elsewhere = []
 
-abbrev pub due : Slave → List ℕ → List Call → List (List ℕ)
+abbrev pub due : AnySlave → List ℕ → List Call → List (List ℕ)
 due v s cs = each dueAt v s cs
 
 -- their frames: the CTR is c plus the frames sent before, modulo 256
@@ -57,7 +57,7 @@ abbrev pub ReadsBack : List (List ℕ) → List ℕ → Type 0
 ReadsBack [] s = packetFor (turnIn (viewOf s)) (viewOf s) ≡ []
 ReadsBack (f ∷ fs) s =
     (fs ≡ []) × (p : List ℕ) × (packetFor (turnIn (viewOf s)) (viewOf s) ≡ p ∷ [])
-    × ((place : Place) (m : List ℕ) → longest ≤ length m → line.run place m f ≡ heard place m (viewOf s .ctr) p)
+    × ((place : Place) (m : List ℕ) → longest ≤ length m → line.runOf place m f ≡ heard place m (viewOf s .ctr) p)
 
 -- the calibration resource is locked, or no session is open
 abbrev pub shut : Session → Bool
@@ -83,7 +83,7 @@ pub record Uploads (s : List ℕ) (b : ℕ) (p : List ℕ) (a n : ℕ) : Type 0 
 
 -- ---- over a life
 -- the frames that are to go, of which i have gone since the power came on: the CTR is i, modulo 256
-abbrev pub dueIn : Slave → ℕ → Device → List Moment → List (List ℕ)
+abbrev pub dueIn : AnySlave → ℕ → Device → List Moment → List (List ℕ)
 dueIn v i h [] = []
 dueIn v i h (PowerOn start ∷ ms) = dueIn v 0 (passed v h (PowerOn start)) ms
 dueIn v i h (Hears meas b ∷ ms) = dueIn v i (passed v h (Hears meas b)) ms
@@ -126,7 +126,7 @@ abbrev pub keyTo : Resource → List ℕ → List ℕ
 keyTo r seed = lastFirst (bytes32 ((u32At seed 0 + keyNumber r) % 2 ^ 32))
 
 -- in no call of the run a command is done
-abbrev pub Uncommanded : Slave → List ℕ → List Call → Type 0
+abbrev pub Uncommanded : AnySlave → List ℕ → List Call → Type 0
 Uncommanded v s [] = Unit {0}
 Uncommanded v s (Byte cal meas b ∷ cs) = (doneAt s cal meas b ≡ none) × Uncommanded v (afterCall v s (Byte cal meas b)) cs
 Uncommanded v s (Event cal meas event clock ∷ cs) = Uncommanded v (afterCall v s (Event cal meas event clock)) cs
@@ -135,7 +135,7 @@ Uncommanded v s (Elsewhere ∷ cs) = Uncommanded v s cs
 
 -- GET_SEED has led from state s to t: four bytes are the answer's seed, and UNLOCK with the key to them, the next command whenever it comes, opens the
 -- lock of r and leaves the other
-pub record SeedOpens (v : Slave) (r : Resource) (s t : List ℕ) : Type 0 where
+pub record SeedOpens (v : AnySlave) (r : Resource) (s t : List ℕ) : Type 0 where
   pub seed : List ℕ
   pub four : length seed ≡ 4
   pub answer : viewOf t .answer ≡ 0xFF ∷ 0x04 ∷ seed
@@ -148,7 +148,7 @@ pub record SeedOpens (v : Slave) (r : Resource) (s t : List ℕ) : Type 0 where
 abbrev pub storeSize : ℕ
 storeSize = odts * sampleSize
 
-pub record Demand2 (v : Slave) : Type 0 where
+pub record Demand2 (v : AnySlave) : Type 0 where
   -- power-up leaves the one state that document 01 says
   pub powersUp : (s : List ℕ) (start : ℕ) → length s ≡ size → v .powerUp s start .state ≡ powered start
   -- every byte is read by the rules of the line, and a good message is heeded as document 01 says
@@ -161,11 +161,11 @@ pub record Demand2 (v : Slave) : Type 0 where
   pub fromPowerUp : (s : List ℕ) (start : ℕ) (cs : List Call) → length s ≡ size
       → frames v (v .powerUp s start .state) cs ≡ numbered 0 0 (due v (v .powerUp s start .state) cs)
   -- in a life with power-ups in it each begins the CTR at 0 again
-  pub numbersOn : (h : Device) (start : ℕ) (ms : List Moment) → length (h .state) ≡ size → sentIn v h (PowerOn start ∷ ms) ≡ dueIn v 0 h (PowerOn start ∷ ms)
+  pub numbersOn : (h : Device) (start : ℕ) (ms : List Moment) → length (h .state) ≡ size → sentInLife v h (PowerOn start ∷ ms) ≡ dueIn v 0 h (PowerOn start ∷ ms)
   -- what a slot sends is one frame, and reads back as the very packet meant
   pub readsBack : (s out : List ℕ) → consistent s ≡ true → room ≤ length out → ReadsBack (sends v s (SendingSlot out)) s
   -- bytes past the frame stay
-  pub restStays : (s out : List ℕ) → AllBut 0 (slottedValue (v .slot s out .slotted)) out (v .slot s out .out)
+  pub restStays : (s out : List ℕ) → SameOutside 0 (slottedValue (v .slot s out .slotted)) out (v .slot s out .out)
   -- while calibration is locked, or no session is open, no calibration byte changes
   pub locked : (s cal meas : List ℕ) (b : ℕ) → shut (sessionOf s) ≡ true → v .receive s cal meas b .cal ≡ cal
   -- so a memory that nothing else writes stays as it is through a life in which calibration is locked whenever a byte comes
@@ -178,7 +178,7 @@ pub record Demand2 (v : Slave) : Type 0 where
   -- what DOWNLOAD wrote, UPLOAD at the same place gives back; other bytes stay
   pub givesBack : (s t cal meas meas′ : List ℕ) (b c : ℕ) (p q : List ℕ) (a n : ℕ) → consistent s ≡ true → consistent t ≡ true
       → Downloads s b p a n → viewOf (v .receive s cal meas b .state) .answer ≡ 0xFF ∷ [] → Uploads t c q a n
-      → (viewOf (v .receive t (v .receive s cal meas b .cal) meas′ c .state) .answer ≡ 0xFF ∷ block p 2 n) × AllBut a (a + n) cal (v .receive s cal meas b .cal)
+      → (viewOf (v .receive t (v .receive s cal meas b .cal) meas′ c .state) .answer ≡ 0xFF ∷ block p 2 n) × SameOutside a (a + n) cal (v .receive s cal meas b .cal)
   -- so does UPLOAD any time later, if nothing but the slave writes that memory and no DOWNLOAD has written there since, whatever calls and power-ups came
   pub givesBackLater : (h : Device) (meas : List ℕ) (b : ℕ) (p : List ℕ) (a n : ℕ) (between : List Moment) (meas′ : List ℕ) (c : ℕ) (q : List ℕ) → consistent (h .state) ≡ true
       → Downloads (h .state) b p a n → viewOf (passed v h (Hears meas b) .state) .answer ≡ 0xFF ∷ [] → OfBytes (Spares a n) v (passed v h (Hears meas b)) between
@@ -207,4 +207,4 @@ pub record Demand2 (v : Slave) : Type 0 where
   -- no other byte of the state changes
   pub others : (s cal meas : List ℕ) (event clock l : ℕ) → consistent s ≡ true → l < lists → samplingIn (sessionOf s) l event ≢ Sampled
       → block (v .event s cal meas event clock .state) (sampleAt (firstOdt l)) storeSize ≡ block s (sampleAt (firstOdt l)) storeSize
-  pub storesOnly : (s cal meas : List ℕ) (event clock : ℕ) → AllBut (sampleAt 0) size s (v .event s cal meas event clock .state)
+  pub storesOnly : (s cal meas : List ℕ) (event clock : ℕ) → SameOutside (sampleAt 0) size s (v .event s cal meas event clock .state)

@@ -13,14 +13,14 @@ use Rattle.model.specs.Model.{hasAnswer}
 use Rattle.model.specs.View.{sessionOf, viewOf}
 use Rattle.words.specs.declared.Received.the-variants.{Answered, Unread}
 use Rattle.model.specs.declared.Sampling.the-variants.{Sampled}
-use Rattle.demands.specs.Slave.{Slave}
+use Rattle.demands.specs.Slave.{AnySlave}
 use Rattle.demands.specs.Runs.{Call, Byte, Event, SendingSlot, Elsewhere, afterCall, run, frames, sends, slots, received}
 use Rattle.demands.specs.Heard.{packetEnded, answerTo, stopsAt}
 use Rattle.demands.specs.Waiting.{waitingOf, sampleOf, answersIn, packetsIn}
 use Rattle.demands.specs.Demand1.{ChangesOnly}
 
 -- the answer a leaves in one of the first n counted slots of cs: before it no answer does, and after it none waits
-pub record LeavesWithin (n : ℕ) (v : Slave) (s : List ℕ) (a : List ℕ) (cs : List Call) : Type 0 where
+pub record LeavesWithin (n : ℕ) (v : AnySlave) (s : List ℕ) (a : List ℕ) (cs : List Call) : Type 0 where
   pub before : List Call
   pub out : List ℕ
   pub later : List Call
@@ -32,14 +32,14 @@ pub record LeavesWithin (n : ℕ) (v : Slave) (s : List ℕ) (a : List ℕ) (cs 
   pub noneAfter : hasAnswer (viewOf (afterCall v (run v s before) (SendingSlot out))) ≡ false
 
 -- byte b ends command p in state s: it is answered, and the answer that the definitions give leaves in one of the first n counted slots after
-pub record AnsweredSoon (n : ℕ) (v : Slave) (s cal meas : List ℕ) (b : ℕ) (p : List ℕ) (later : List Call) : Type 0 where
+pub record AnsweredSoon (n : ℕ) (v : AnySlave) (s cal meas : List ℕ) (b : ℕ) (p : List ℕ) (later : List Call) : Type 0 where
   pub number : v .receive s cal meas b .received ≡ Answered
   pub waiting : hasAnswer (viewOf (v .receive s cal meas b .state)) ≡ true
   pub answer : viewOf (v .receive s cal meas b .state) .answer ≡ answerTo p (sessionOf s) cal meas
   pub leaves : n ≤ slots later → LeavesWithin n v (v .receive s cal meas b .state) (answerTo p (sessionOf s) cal meas) later
 
 -- in no call of the run list l is stopped, or its session ended or renewed
-abbrev pub Undisturbed : Slave → ℕ → List ℕ → List Call → Type 0
+abbrev pub Undisturbed : AnySlave → ℕ → List ℕ → List Call → Type 0
 Undisturbed v l s [] = Unit {0}
 Undisturbed v l s (Byte cal meas b ∷ cs) = (stopsAt l s cal meas b ≡ false) × Undisturbed v l (afterCall v s (Byte cal meas b)) cs
 Undisturbed v l s (Event cal meas event clock ∷ cs) = Undisturbed v l (afterCall v s (Event cal meas event clock)) cs
@@ -53,7 +53,7 @@ Begins xs ys = (rest : List (List ℕ)) × (ys ≡ xs ++ rest)
 -- ---- the demand, with its numbers to be given
 -- from any state, a whole frame, its bytes interleaved with any events and slots, that ends while a session is open and no answer waits, is answered,
 -- and its answer leaves in one of the first n counted slots after, whatever calls come between
-abbrev pub AnsweredBy : ℕ → Slave → Type 0
+abbrev pub AnsweredBy : ℕ → AnySlave → Type 0
 AnsweredBy n v =
     (s : List ℕ) (before : List Call) (cal meas : List ℕ) (b : ℕ) (later : List Call) (ctr : ℕ) (p : List ℕ) → consistent s ≡ true
     → 1 ≤ length p → length p ≤ most → received before ++ b ∷ [] ≡ frame ctr p
@@ -62,19 +62,19 @@ AnsweredBy n v =
 
 -- what waits of a list, p packets, leaves whole and in order by the counted slot `bound p`, unless the list is stopped or its session ends or is
 -- renewed
-abbrev pub WholeBy : (ℕ → ℕ) → Slave → Type 0
+abbrev pub WholeBy : (ℕ → ℕ) → AnySlave → Type 0
 WholeBy bound v =
     (s : List ℕ) (l : ℕ) (cs : List Call) → consistent s ≡ true → l < lists → Undisturbed v l s cs
     → bound (length (waitingOf s l)) ≤ slots cs → Begins (waitingOf s l) (packetsIn l (frames v s cs))
 
 -- a captured sample leaves whole by the counted slot n, unless its list is stopped or its session ends or is renewed
-abbrev pub SampledBy : ℕ → Slave → Type 0
+abbrev pub SampledBy : ℕ → AnySlave → Type 0
 SampledBy n v =
     (s cal meas : List ℕ) (event clock l : ℕ) (cs : List Call) → consistent s ≡ true → event ≤ 1 → l < lists → samplingIn (sessionOf s) l event ≡ Sampled
     → Undisturbed v l (v .event s cal meas event clock .state) cs → n ≤ slots cs
     → Begins (sampleOf s l clock cal meas) (packetsIn l (frames v (v .event s cal meas event clock .state) cs))
 
-pub record Demand3 (v : Slave) : Type 0 where
+pub record Demand3 (v : AnySlave) : Type 0 where
   -- an answer leaves in the first or second counted slot after its command
   pub answered : AnsweredBy 2 v
   -- so does an answer that waits, of whatever command

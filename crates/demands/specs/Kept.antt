@@ -11,7 +11,7 @@ use Rattle.model.specs.Whole.{isSampled}
 use Rattle.model.specs.View.{sessionOf, viewOf}
 use Rattle.words.specs.declared.Received.{Received}
 use Rattle.words.specs.declared.Received.the-variants.{Nothing, Answered, Silent, BadLength, BadEscape, BadChecksum, Unread, CutOff, NoState}
-use Rattle.demands.specs.Slave.{Slave}
+use Rattle.demands.specs.Slave.{AnySlave}
 use Rattle.demands.specs.Runs.{Call, Byte, Event, SendingSlot, Elsewhere, run, sends, each, frames}
 use Rattle.demands.specs.Heard.{stopsAt}
 use Rattle.demands.specs.Waiting.{waitingAnswer, waitingOf, sampleOf, answersIn, packetsIn}
@@ -28,13 +28,13 @@ answerBy Unread s = []
 answerBy CutOff s = []
 answerBy NoState s = []
 
-abbrev pub accepts : Slave → List ℕ → Call → List (List ℕ)
+abbrev pub accepts : AnySlave → List ℕ → Call → List (List ℕ)
 accepts v s (Byte cal meas b) = answerBy (v .receive s cal meas b .received) (v .receive s cal meas b .state)
 accepts v s (Event cal meas event clock) = []
 accepts v s (SendingSlot out) = []
 accepts v s Elsewhere = []
 
-abbrev pub accepted : Slave → List ℕ → List Call → List (List ℕ)
+abbrev pub accepted : AnySlave → List ℕ → List Call → List (List ℕ)
 accepted v s cs = each (accepts v) v s cs
 
 -- list l gains a sample at an event alone
@@ -44,20 +44,20 @@ gains l s (Event cal meas event clock) = cond (ltb 1 event) [] (cond (isSampled 
 gains l s (SendingSlot out) = []
 gains l s Elsewhere = []
 
-abbrev pub gained : Slave → ℕ → List ℕ → List Call → List (List ℕ)
+abbrev pub gained : AnySlave → ℕ → List ℕ → List Call → List (List ℕ)
 gained v l s cs = each (gains l) v s cs
 
 -- its packets go when a slot sends them, or when it is stopped or its session ends or is renewed, and then all at once
-abbrev pub goes : Slave → ℕ → List ℕ → Call → List (List ℕ)
+abbrev pub goes : AnySlave → ℕ → List ℕ → Call → List (List ℕ)
 goes v l s (Byte cal meas b) = cond (stopsAt l s cal meas b) (waitingOf s l) []
 goes v l s (Event cal meas event clock) = []
 goes v l s (SendingSlot out) = packetsIn l (sends v s (SendingSlot out))
 goes v l s Elsewhere = []
 
-abbrev pub gone : Slave → ℕ → List ℕ → List Call → List (List ℕ)
+abbrev pub gone : AnySlave → ℕ → List ℕ → List Call → List (List ℕ)
 gone v l s cs = each (goes v l) v s cs
 
-pub record NothingLost (v : Slave) : Type 0 where
+pub record NothingLost (v : AnySlave) : Type 0 where
   -- the answers sent and the one that waits are the one that waited and those accepted since
   pub answers : (s : List ℕ) (cs : List Call) → consistent s ≡ true → answersIn (frames v s cs) ++ waitingAnswer (run v s cs) ≡ waitingAnswer s ++ accepted v s cs
   -- of each list the packets gone and those that wait are those that waited and those gained since

@@ -14,7 +14,7 @@ use Rattle.model.specs.Model.{Bytes}
 use Rattle.views.specs.Commands.{Fresh}
 use Rattle.views.specs.Locked.{SettingsKept, endsSession}
 use Rattle.model.specs.View.{sessionOf, viewOf}
-use Rattle.demands.specs.Slave.{Slave}
+use Rattle.demands.specs.Slave.{AnySlave}
 use Rattle.demands.specs.Heard.{packetEnded}
 
 -- a packet, if one ended, with that answer
@@ -26,7 +26,7 @@ endsBy (some p) answer = endsSession p answer
 abbrev pub endsAt : Step → List ℕ → ℕ → Bool
 endsAt o s b = cond (eqb (receivedNumber (o .received)) 1) (endsBy (packetEnded s b) (viewOf (o .state) .answer)) false
 
-pub record ListsLocked (v : Slave) : Type 0 where
+pub record ListsLocked (v : AnySlave) : Type 0 where
   -- a byte, while lists are locked or no session is open
   pub kept : (s cal meas : List ℕ) (b : ℕ) → consistent s ≡ true → Bytes s → b < 256 → (sessionOf s .opened ≡ true → sessionOf s .unlocked Lists ≡ false)
       → endsAt (v .receive s cal meas b) s b ≡ false → SettingsKept (sessionOf s) (sessionOf (v .receive s cal meas b .state))

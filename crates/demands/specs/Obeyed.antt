@@ -9,11 +9,11 @@ use Rattle.words.specs.Number.{receivedNumber}
 use Rattle.model.specs.Model.{Bytes, Session}
 use Rattle.model.specs.Answers.{Done}
 use Rattle.model.specs.View.{sessionOf, shown}
-use Rattle.demands.specs.Slave.{Slave}
+use Rattle.demands.specs.Slave.{AnySlave}
 use Rattle.demands.specs.Heard.{packetEnded}
 
 -- a byte ends packet p and returns 1, in a consistent state of bytes that shows session c, with memories cal and meas lent; what is shown then is o
-pub record Obeyed (v : Slave) (p : List ℕ) (c : Session) (cal meas : List ℕ) (o : Done) : Type 0 where
+pub record Obeyed (v : AnySlave) (p : List ℕ) (c : Session) (cal meas : List ℕ) (o : Done) : Type 0 where
   pub state : List ℕ
   pub last : ℕ
   pub sound : consistent state ≡ true

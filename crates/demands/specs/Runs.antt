@@ -8,7 +8,7 @@ use Rattle.line.specs.Message.{room}
 use Rattle.model.specs.Model.{Bytes}
 use Rattle.words.specs.declared.Slotted.{Slotted}
 use Rattle.words.specs.declared.Slotted.the-variants.{Idle, Sent, NoRoom, NoState}
-use Rattle.demands.specs.Slave.{Slave}
+use Rattle.demands.specs.Slave.{AnySlave}
 
 -- a call: a byte or an event, with the calibration and the measured memory that are lent to it; a slot, with the bytes lent to it; or any
 -- call on another buffer, of the wrong size or without the mark
@@ -18,35 +18,35 @@ pub data Call : Type 0 where
   SendingSlot : (out : List ℕ) → Call
   Elsewhere : Call
 
-abbrev pub afterCall : Slave → List ℕ → Call → List ℕ
+abbrev pub afterCall : AnySlave → List ℕ → Call → List ℕ
 afterCall v s (Byte cal meas b) = v .receive s cal meas b .state
 afterCall v s (Event cal meas event clock) = v .event s cal meas event clock .state
 afterCall v s (SendingSlot out) = v .slot s out .state
 afterCall v s Elsewhere = s
 
-abbrev pub run : Slave → List ℕ → List Call → List ℕ
+abbrev pub run : AnySlave → List ℕ → List Call → List ℕ
 run v s [] = s
 run v s (c ∷ cs) = run v (afterCall v s c) cs
 
 -- the frame that a slot sent: the first bytes of what was lent
-abbrev pub frameIn : Slotted → List ℕ → List (List ℕ)
-frameIn Idle out = []
-frameIn (Sent n) out = take n out ∷ []
-frameIn NoRoom out = []
-frameIn NoState out = []
+abbrev pub frameSent : Slotted → List ℕ → List (List ℕ)
+frameSent Idle out = []
+frameSent (Sent n) out = take n out ∷ []
+frameSent NoRoom out = []
+frameSent NoState out = []
 
-abbrev pub sends : Slave → List ℕ → Call → List (List ℕ)
+abbrev pub sends : AnySlave → List ℕ → Call → List (List ℕ)
 sends v s (Byte cal meas b) = []
 sends v s (Event cal meas event clock) = []
-sends v s (SendingSlot out) = frameIn (v .slot s out .slotted) (v .slot s out .out)
+sends v s (SendingSlot out) = frameSent (v .slot s out .slotted) (v .slot s out .out)
 sends v s Elsewhere = []
 
 -- what each call of a run gives, one after the other
-abbrev pub each : (List ℕ → Call → List (List ℕ)) → Slave → List ℕ → List Call → List (List ℕ)
+abbrev pub each : (List ℕ → Call → List (List ℕ)) → AnySlave → List ℕ → List Call → List (List ℕ)
 each give v s [] = []
 each give v s (c ∷ cs) = give s c ++ each give v (afterCall v s c) cs
 
-abbrev pub frames : Slave → List ℕ → List Call → List (List ℕ)
+abbrev pub frames : AnySlave → List ℕ → List Call → List (List ℕ)
 frames v s cs = each (sends v) v s cs
 
 -- how many slots count: those that are lent the room of the longest frame

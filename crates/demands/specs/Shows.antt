@@ -14,9 +14,9 @@ use Rattle.model.specs.View.{sessionOf, viewOf}
 use Rattle.model.specs.declared.Sampling.the-variants.{Sampled}
 use Rattle.views.specs.Samples.{Samples}
 use Rattle.views.specs.Shown.{byteShown, eventShown, slotShown}
-use Rattle.demands.specs.Slave.{Slave}
+use Rattle.demands.specs.Slave.{AnySlave}
 
-pub record Shows (v : Slave) : Type 0 where
+pub record Shows (v : AnySlave) : Type 0 where
   -- of a byte, in a state of bytes: a generator or an address of more than its bytes would read as another
   pub byte : (s cal meas : List ℕ) (b : ℕ) → consistent s ≡ true → Bytes s → b < 256 → byteShown (v .receive s cal meas b) ≡ receivedIn b (viewOf s) cal meas
   pub event : (s cal meas : List ℕ) (number clock : ℕ) → consistent s ≡ true → eventShown (v .event s cal meas number clock) ≡ eventIn number clock (viewOf s) cal meas

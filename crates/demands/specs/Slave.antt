@@ -6,12 +6,12 @@ use Rattle.lists.specs.Event.{Happened, eventOf}
 use Rattle.lists.specs.Slot.{Slot, slotOf}
 use Rattle.session.specs.PowerUp.{Power, powerUpOf}
 
-pub record Slave : Type 0 where
+pub record AnySlave : Type 0 where
   pub powerUp : List ℕ → ℕ → Power
   pub receive : List ℕ → List ℕ → List ℕ → ℕ → Step
   pub event : List ℕ → List ℕ → List ℕ → ℕ → ℕ → Happened
   pub slot : List ℕ → List ℕ → Slot
 
 -- the slave of the public calls' promises
-abbrev pub ours : Slave
+abbrev pub ours : AnySlave
 ours = record { powerUp = powerUpOf; receive = receiveOf; event = eventOf; slot = slotOf }

@@ -13,7 +13,7 @@ use Rattle.model.specs.Calls.{sampleIn}
 use Rattle.model.specs.View.{sessionOf, viewOf}
 
 -- t is s, but for the bytes from lo up to hi
-pub record AllBut (lo hi : ℕ) (s t : List ℕ) : Type 0 where
+pub record SameOutside (lo hi : ℕ) (s t : List ℕ) : Type 0 where
   pub long : length t ≡ length s
   pub front : take lo t ≡ take lo s
   pub back : drop hi t ≡ drop hi s

@@ -25,7 +25,7 @@ use Rattle.model.specs.Step.{nextEntry}
 use Rattle.session.specs.Perform.{effect, reply, after}
 use Rattle.session.specs.Receive.{Step, heededBy, heeded, meant, readOn, fedOf, receiveOf}
 use Rattle.lists.specs.Event.{stored, capturedOdts, captured, samplingOf, sampledState, tally, Happened, eventOf}
-use Rattle.lists.specs.Slot.{Slot, turnOf, nextCtr, answerSent, packetSent, sentBy, slotOf}
+use Rattle.lists.specs.Slot.{Slot, turnOf, ctrNext, answerSent, packetSent, sentBy, slotOf}
 use Rattle.session.specs.PowerUp.{powered, powerUpOf}
 use Rattle.words.specs.declared.Extension.{Extension}
 use Rattle.words.specs.declared.Seed.{Seed}
@@ -296,19 +296,19 @@ unfolding answerSent
 marked-answerSent s =
     let s₁ : List ℕ = set s answerBytesAt (answerKind s) in
     let s₂ : List ℕ = set s₁ answerAt 0 in
-    let s₃ : List ℕ = set s₂ ctrAt (nextCtr s) in
+    let s₃ : List ℕ = set s₂ ctrAt (ctrNext s) in
     marked-then (marked-set s answerBytesAt (answerKind s) (lit≤ tt))
     (marked-then (marked-set s₁ answerAt 0 (lit≤ tt))
-    (marked-then (marked-set s₂ ctrAt (nextCtr s) (lit≤ tt)) (marked-set s₃ lastAt 1 (lit≤ tt))))
+    (marked-then (marked-set s₂ ctrAt (ctrNext s) (lit≤ tt)) (marked-set s₃ lastAt 1 (lit≤ tt))))
 
 marked-packetSent : (s : List ℕ) (k : ℕ) → Marked s (packetSent s k)
 unfolding packetSent
 marked-packetSent s k =
     let s₁ : List ℕ = set s (sampleAt k) 0 in
-    let s₂ : List ℕ = set s₁ ctrAt (nextCtr s) in
+    let s₂ : List ℕ = set s₁ ctrAt (ctrNext s) in
     let s₃ : List ℕ = set s₂ servedAt (listOf k) in
     marked-then (marked-set s (sampleAt k) 0 (omega arith))
-    (marked-then (marked-set s₁ ctrAt (nextCtr s) (lit≤ tt))
+    (marked-then (marked-set s₁ ctrAt (ctrNext s) (lit≤ tt))
     (marked-then (marked-set s₂ servedAt (listOf k) (lit≤ tt)) (marked-set s₃ lastAt 0 (lit≤ tt))))
 
 marked-sent : (t : Turn) (s out : List ℕ) → Marked s (sentBy t s out .state)

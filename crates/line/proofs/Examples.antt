@@ -5,13 +5,13 @@ use mathlib.Core.List.{[], _∷_, _++_}
 use lib.ListN.{replicate}
 use Rattle.line.specs.Message.{most, longest}
 use Rattle.line.specs.Reader.{takeOf}
-use Rattle.line.specs.Run.{run}
+use Rattle.line.specs.Run.{runOf}
 use Rattle.line.specs.Wire.{unstuff}
 use Rattle.line.specs.declared.Place.the-variants.{Outside, Inside}
 use Rattle.line.specs.declared.Outcome.the-variants.{Nothing, Good, BadLength, BadEscape, BadChecksum, CutOff, ShortBuffer}
 
 -- a good frame with SYNC and ESC in it
-good : run Outside (replicate longest 7) (0x9A ∷ 0x02 ∷ 0x9B ∷ 0x00 ∷ 0xFF ∷ 0x9B ∷ 0x01 ∷ 0x36 ∷ [])
+good : runOf Outside (replicate longest 7) (0x9A ∷ 0x02 ∷ 0x9B ∷ 0x00 ∷ 0xFF ∷ 0x9B ∷ 0x01 ∷ 0x36 ∷ [])
     ≡ record {
       outcomes = replicate 7 Nothing ++ Good 0x9B 2 2 ∷ [];
       place = Outside;
@@ -21,7 +21,7 @@ unfolding takeOf
 good = refl
 
 -- a LEN one too long; an escape that is none; ESC after ESC; a wrong checksum; SYNC after a lone ESC; SYNC after SYNC
-faults : run Outside (replicate longest 7)
+faults : runOf Outside (replicate longest 7)
     (
     0x9A ∷ suc most ∷ 0x02
     ∷ 0x9A ∷ 0x9B ∷ 0x02
@@ -43,7 +43,7 @@ unfolding takeOf
 faults = refl
 
 -- a buffer one byte too short
-short-buffer : run Outside (replicate (longest - 1) 7) (0x9A ∷ 0x01 ∷ []) .outcomes ≡ ShortBuffer ∷ ShortBuffer ∷ []
+short-buffer : runOf Outside (replicate (longest - 1) 7) (0x9A ∷ 0x01 ∷ []) .outcomes ≡ ShortBuffer ∷ ShortBuffer ∷ []
 unfolding takeOf
 short-buffer = refl
 

@@ -5,25 +5,25 @@ use Prim.Native.Nat.{ℕ, zero, suc, _+_, _%_, _/_, _≤_}
 use native.Mathlib.Omega.{arith}
 use lib.ListN.{length, take, set, length-append, List·getD-append}
 use lib.Seq.{take-append-seam, getD-set-other, drop-at, getD-at}
-use Rattle.line.specs.Form.{Form, bytesOf, numberAt, filled}
+use Rattle.line.specs.Form.{Form, inBytes, numberAt, filled}
 use Rattle.line.specs.Message.{byteForm, packetBegins, checksumAt, sizeIn, Serial, headIn, messageIn}
 use Rattle.line.specs.Reader.{lenIn}
 use Rattle.line.specs.Wire.{part}
 
 -- ---- numbers
-pub bytes-length : (w n : ℕ) → length (bytesOf w n) ≡ w
+pub bytes-length : (w n : ℕ) → length (inBytes w n) ≡ w
 bytes-length zero n = refl
 bytes-length (suc zero) n = refl
 bytes-length (suc (suc w)) n = ap suc (bytes-length (suc w) (n / 256))
 
 -- a number's bytes read as the number, wherever they lie
-pub number-at : (w i n : ℕ) (pre post : List ℕ) → 1 ≤ w → length pre ≡ i → numberAt w i (pre ++ (bytesOf w n ++ post)) ≡ n
+pub number-at : (w i n : ℕ) (pre post : List ℕ) → 1 ≤ w → length pre ≡ i → numberAt w i (pre ++ (inBytes w n ++ post)) ≡ n
 number-at zero i n pre post some e = absurd (omega arith)
 number-at (suc zero) i n pre post some e = getD-at pre n post 0 i e
 number-at (suc (suc w)) i n pre post some e =
     let l : length (pre ++ n % 256 ∷ []) ≡ suc i = length-append pre (n % 256 ∷ []) ∙ omega arith in
     let rest = number-at (suc w) (suc i) (n / 256) (pre ++ n % 256 ∷ []) post (omega arith) l in
-    let ys : List ℕ = bytesOf (suc w) (n / 256) ++ post in
+    let ys : List ℕ = inBytes (suc w) (n / 256) ++ post in
     rw (getD-at pre (n % 256) ys 0 i e, rw (append-assoc pre (n % 256 ∷ []) ys) at rest) (omega arith)
 
 -- it is read from its own bytes alone
@@ -56,23 +56,23 @@ message-length-in f ctr packet = simp (length-append, bytes-length, filled-lengt
 
 -- with anything behind it
 module _ (f : Form) (s : Serial f) (ctr : ℕ) (packet rest : List ℕ) where
-  lies : messageIn f ctr packet ++ rest ≡ bytesOf (f .width) (length packet) ++ (bytesOf (f .width) ctr ++ (filled (f .fill (length packet)) packet ++ (bytesOf (f .sumWidth) (f .checksum (headIn f ctr packet)) ++ rest)))
+  lies : messageIn f ctr packet ++ rest ≡ inBytes (f .width) (length packet) ++ (inBytes (f .width) ctr ++ (filled (f .fill (length packet)) packet ++ (inBytes (f .sumWidth) (f .checksum (headIn f ctr packet)) ++ rest)))
   lies = simp append-assoc
 
   pub len-lies : lenIn f (messageIn f ctr packet ++ rest) ≡ length packet
   len-lies = rw lies (number-at (f .width) 0 (length packet) [] _ (s .wide) refl)
 
   pub ctr-lies : numberAt (f .width) (f .width) (messageIn f ctr packet ++ rest) ≡ ctr
-  ctr-lies = rw lies (number-at (f .width) (f .width) ctr (bytesOf (f .width) (length packet)) _ (s .wide) (bytes-length (f .width) (length packet)))
+  ctr-lies = rw lies (number-at (f .width) (f .width) ctr (inBytes (f .width) (length packet)) _ (s .wide) (bytes-length (f .width) (length packet)))
 
   pub check-lies : numberAt (f .sumWidth) (checksumAt f (length packet)) (messageIn f ctr packet ++ rest) ≡ f .checksum (headIn f ctr packet)
   check-lies = rw (append-assoc (headIn f ctr packet)) (number-at (f .sumWidth) (checksumAt f (length packet)) (f .checksum (headIn f ctr packet)) (headIn f ctr packet) rest (s .summed) (head-length f ctr packet))
 
   pub packet-lies : part (packetBegins f) (length packet) (messageIn f ctr packet ++ rest) ≡ packet
   packet-lies =
-      let a : List ℕ = bytesOf (f .width) (length packet) in
-      let b : List ℕ = bytesOf (f .width) ctr in
-      let x : List ℕ = bytesOf (f .sumWidth) (f .checksum (headIn f ctr packet)) ++ rest in
+      let a : List ℕ = inBytes (f .width) (length packet) in
+      let b : List ℕ = inBytes (f .width) ctr in
+      let x : List ℕ = inBytes (f .sumWidth) (f .checksum (headIn f ctr packet)) ++ rest in
       let l : length (a ++ b) ≡ packetBegins f = simp (length-append, bytes-length) in
       ap (part (packetBegins f) (length packet)) (lies ∙ sym (append-assoc a b (filled (f .fill (length packet)) packet ++ x)))
       ∙ rw (drop-at (a ++ b) (filled (f .fill (length packet)) packet ++ x) (packetBegins f) l) (filled-front (f .fill (length packet)) packet x)

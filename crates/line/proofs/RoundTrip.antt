@@ -9,12 +9,12 @@ use lib.Dec.{ltb}
 use lib.ListN.{length, take, drop, set, length-append}
 use lib.Seq.{take-at}
 use Rattle.line.specs.Stuffing.{stuff}
-use Rattle.line.specs.Form.{Form, bytesOf, numberAt}
+use Rattle.line.specs.Form.{Form, inBytes, numberAt}
 use Rattle.line.specs.Message.{packetBegins, checksumAt, sizeIn, longestIn, Serial, headIn, messageIn, frameIn, byteForm, most, longest, frame}
 use Rattle.line.specs.Unstuffing.{on, over, placeBy, cutOf, takeBy}
 use Rattle.line.specs.Reader.{lenIn, begunIn, judgedIn, putIn, messagesIn, takeIn, takeOf}
 use Rattle.line.specs.Writer.{atFront}
-use Rattle.line.specs.Run.{Ran, runBy, runIn, run}
+use Rattle.line.specs.Run.{Ran, runBy, runIn, runOf}
 use Rattle.line.specs.Wire.{part, andThen, heardIn, heard}
 use Rattle.line.specs.declared.Place.{Place}
 use Rattle.line.specs.declared.Place.the-variants.{Outside, Inside}
@@ -92,7 +92,7 @@ module _ (f : Form) (s : Serial f) (m packet : List ℕ) (ctr : ℕ) (fits : lon
   judged =
       let rest : List ℕ = drop (length whole) m in
       let head : List ℕ = headIn f ctr packet in
-      let tail : List ℕ = bytesOf (f .sumWidth) (f .checksum head) in
+      let tail : List ℕ = inBytes (f .sumWidth) (f .checksum head) in
       ap (judgedIn f) there
       ∙ judged-by f (whole ++ rest) (length packet) ctr (f .checksum head) (len-lies f s ctr packet rest) (ctr-lies f s ctr packet rest) (check-lies f s ctr packet rest)
       (ap (λ (l : List ℕ). f .checksum (take (checksumAt f (length packet)) l)) (append-assoc head tail rest)
@@ -131,6 +131,6 @@ after-anything f s p m xs packet ctr fits some few =
     ∙ ap (andThen (runIn f p m xs)) (round-trip-in f s (runIn f p m xs .message) packet ctr (omega (arith, run-length f p m xs)) some few (runIn f p m xs .place))
 
 -- ---- the byte form
-pub round-trip : (p : Place) (m packet : List ℕ) (ctr : ℕ) → longest ≤ length m → 1 ≤ length packet → length packet ≤ most → run p m (frame ctr packet) ≡ heard p m ctr packet
+pub round-trip : (p : Place) (m packet : List ℕ) (ctr : ℕ) → longest ≤ length m → 1 ≤ length packet → length packet ≤ most → runOf p m (frame ctr packet) ≡ heard p m ctr packet
 unfolding takeOf
 round-trip p m packet ctr fits some few = round-trip-in byteForm byte-serial m packet ctr fits some few p

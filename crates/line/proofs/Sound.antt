@@ -10,7 +10,7 @@ use lib.Dec.{eqb}
 use lib.ListN.{length, take, drop, set, length-set, length-drop}
 use lib.Seq.{take-suc-set, take-add, drop-cons, length-take-le}
 use Rattle.line.specs.Stuffing.{SYNC, ESC, stuff, onWire}
-use Rattle.line.specs.Form.{Form, bytesOf}
+use Rattle.line.specs.Form.{Form, inBytes}
 use Rattle.line.specs.Message.{packetBegins, checksumAt, sizeIn, longestIn, Serial, withChecksumIn, byteForm, most, longest, message, frame}
 use Rattle.line.specs.Unstuffing.{Fed, placeBy, cutOf}
 use Rattle.line.specs.Reader.{lenIn, messagesIn, takeIn, messages, takeOf}
@@ -153,16 +153,16 @@ module _ (f : Form) (s : Serial f) (p : Place) (m bs : List ℕ) (b c at n : ℕ
 
 -- where numbers lie exactly, the message in the buffer is that of its LEN, its CTR, and its packet with the fill
 module _ (f : Form) (c at n : ℕ) (m h : List ℕ) (came : Came f c at n m h) (exact : Exact (f .width) m) (exact′ : Exact (f .sumWidth) m) where
-  head-read : take (checksumAt f n) m ≡ bytesOf (f .width) n ++ (bytesOf (f .width) c ++ part at (n + f .fill n) m)
+  head-read : take (checksumAt f n) m ≡ inBytes (f .width) n ++ (inBytes (f .width) c ++ part at (n + f .fill n) m)
   head-read =
-      let len : take (f .width) m ≡ bytesOf (f .width) n = exact 0 (omega (arith, came .whole)) ∙ ap (bytesOf (f .width)) (came .len) in
-      let ctr : part (f .width) (f .width) m ≡ bytesOf (f .width) c = exact (f .width) (omega (arith, came .whole)) ∙ ap (bytesOf (f .width)) (came .ctr) in
-      take-add (packetBegins f) (n + f .fill n) m ∙ rw (take-add (f .width) (f .width) m, len, ctr, came .start) (append-assoc (bytesOf (f .width) n) (bytesOf (f .width) c) (part (packetBegins f) (n + f .fill n) m))
+      let len : take (f .width) m ≡ inBytes (f .width) n = exact 0 (omega (arith, came .whole)) ∙ ap (inBytes (f .width)) (came .len) in
+      let ctr : part (f .width) (f .width) m ≡ inBytes (f .width) c = exact (f .width) (omega (arith, came .whole)) ∙ ap (inBytes (f .width)) (came .ctr) in
+      take-add (packetBegins f) (n + f .fill n) m ∙ rw (take-add (f .width) (f .width) m, len, ctr, came .start) (append-assoc (inBytes (f .width) n) (inBytes (f .width) c) (part (packetBegins f) (n + f .fill n) m))
 
-  pub message-read : take (sizeIn f n) m ≡ withChecksumIn f (bytesOf (f .width) n ++ (bytesOf (f .width) c ++ part at (n + f .fill n) m))
+  pub message-read : take (sizeIn f n) m ≡ withChecksumIn f (inBytes (f .width) n ++ (inBytes (f .width) c ++ part at (n + f .fill n) m))
   message-read =
       take-add (checksumAt f n) (f .sumWidth) m
-      ∙ ap (λ (l : List ℕ). take (checksumAt f n) m ++ l) (exact′ (checksumAt f n) (came .whole) ∙ ap (bytesOf (f .sumWidth)) (came .checksum))
+      ∙ ap (λ (l : List ℕ). take (checksumAt f n) m ++ l) (exact′ (checksumAt f n) (came .whole) ∙ ap (inBytes (f .sumWidth)) (came .checksum))
       ∙ ap (withChecksumIn f) head-read
 
 -- ---- the byte form

@@ -16,10 +16,10 @@ pub record Form : Type 0 where
   pub checksum : List ℕ → ℕ
 
 -- a number in w bytes, the lowest first; the last has what is left
-abbrev pub bytesOf : ℕ → ℕ → List ℕ
-bytesOf zero n = []
-bytesOf (suc zero) n = n ∷ []
-bytesOf (suc (suc w)) n = n % 256 ∷ bytesOf (suc w) (n / 256)
+abbrev pub inBytes : ℕ → ℕ → List ℕ
+inBytes zero n = []
+inBytes (suc zero) n = n ∷ []
+inBytes (suc (suc w)) n = n % 256 ∷ inBytes (suc w) (n / 256)
 
 -- the number in the w bytes of m from place i on
 abbrev pub numberAt : ℕ → ℕ → List ℕ → ℕ

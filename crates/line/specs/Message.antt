@@ -3,7 +3,7 @@
 use Prim.Native.Nat.{ℕ, _+_, _*_, _^_, _%_, _≤_}
 use mathlib.Core.List.{List, [], _∷_, _++_}
 use lib.ListN.{length}
-use Rattle.line.specs.Form.{Form, bytesOf, filled}
+use Rattle.line.specs.Form.{Form, inBytes, filled}
 use Rattle.line.specs.Stuffing.{onWire}
 
 -- ---- in any form
@@ -28,10 +28,10 @@ roomIn f = 1 + 2 * longestIn f
 
 -- LEN, CTR, the packet and its fill
 abbrev pub headIn : Form → ℕ → List ℕ → List ℕ
-headIn f ctr packet = bytesOf (f .width) (length packet) ++ (bytesOf (f .width) ctr ++ filled (f .fill (length packet)) packet)
+headIn f ctr packet = inBytes (f .width) (length packet) ++ (inBytes (f .width) ctr ++ filled (f .fill (length packet)) packet)
 
 abbrev pub withChecksumIn : Form → List ℕ → List ℕ
-withChecksumIn f bs = bs ++ bytesOf (f .sumWidth) (f .checksum bs)
+withChecksumIn f bs = bs ++ inBytes (f .sumWidth) (f .checksum bs)
 
 abbrev pub messageIn : Form → ℕ → List ℕ → List ℕ
 messageIn f ctr packet = withChecksumIn f (headIn f ctr packet)

@@ -24,5 +24,5 @@ runBy take p m (b ∷ bs) = then (take p m b) (runBy take (take p m b .taken .pl
 abbrev pub runIn : Form → Place → List ℕ → List ℕ → Ran
 runIn f = runBy (takeIn f)
 
-abbrev pub run : Place → List ℕ → List ℕ → Ran
-run = runBy takeOf
+abbrev pub runOf : Place → List ℕ → List ℕ → Ran
+runOf = runBy takeOf

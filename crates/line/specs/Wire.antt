@@ -6,12 +6,12 @@ use mathlib.Core.List.{List, [], _∷_, _++_}
 use lib.Dec.{eqb}
 use lib.ListN.{length, take, drop, replicate}
 use Rattle.line.specs.Stuffing.{SYNC, ESC, stuff, onWire}
-use Rattle.line.specs.Form.{Form, bytesOf, numberAt}
+use Rattle.line.specs.Form.{Form, inBytes, numberAt}
 use Rattle.line.specs.Message.{byteForm, packetBegins, checksumAt, sizeIn, messageIn}
 use Rattle.line.specs.Unstuffing.{Fed, placeBy, cutOf}
 use Rattle.line.specs.Reader.{messagesIn, lenIn, takeIn, takeOf}
 use Rattle.line.specs.Writer.{atFront}
-use Rattle.line.specs.Run.{Ran, runIn, run}
+use Rattle.line.specs.Run.{Ran, runIn, runOf}
 use Rattle.line.specs.declared.Place.{Place}
 use Rattle.line.specs.declared.Place.the-variants.{Outside, Inside, Escaped}
 use Rattle.line.specs.declared.Outcome.{Outcome}
@@ -53,7 +53,7 @@ part at n m = take n (drop at m)
 
 -- w bytes anywhere in m are those of the number that is read there: one always is, more are where each is below 256
 abbrev pub Exact : ℕ → List ℕ → Type 0
-Exact w m = (i : ℕ) → i + w ≤ length m → part i w m ≡ bytesOf w (numberAt w i m)
+Exact w m = (i : ℕ) → i + w ≤ length m → part i w m ≡ inBytes w (numberAt w i m)
 
 -- the bytes h that came end in a message on the wire, which lies at the front of m: its CTR is c, its packet the n bytes from `at` on
 pub record Came (f : Form) (c at n : ℕ) (m h : List ℕ) : Type 0 where
@@ -82,7 +82,7 @@ abbrev pub lastIn : Form → Place → List ℕ → List ℕ → ℕ → Fed
 lastIn f p m bs b = takeIn f (runIn f p m bs .place) (runIn f p m bs .message) b
 
 abbrev pub lastOf : Place → List ℕ → List ℕ → ℕ → Fed
-lastOf p m bs b = takeOf (run p m bs .place) (run p m bs .message) b
+lastOf p m bs b = takeOf (runOf p m bs .place) (runOf p m bs .message) b
 
 -- a run, and then another
 abbrev pub andThen : Ran → Ran → Ran

@@ -41,16 +41,16 @@ abbrev pub sentAs : Sent → List ℕ → Slot
 sentAs w s = record { slotted = slottedAs (w .written); state = s; out = w .out }
 
 -- the CTR grows by one per message sent, 255 to 0
-abbrev pub nextCtr : List ℕ → ℕ
-nextCtr s = (ctrOf s + 1) % 256
+abbrev pub ctrNext : List ℕ → ℕ
+ctrNext s = (ctrOf s + 1) % 256
 
 -- the answer no longer waits; the last frame was an answer
 unfoldable pub answerSent : List ℕ → List ℕ
-answerSent s = set (set (set (set s answerBytesAt (answerKind s)) answerAt 0) ctrAt (nextCtr s)) lastAt 1
+answerSent s = set (set (set (set s answerBytesAt (answerKind s)) answerAt 0) ctrAt (ctrNext s)) lastAt 1
 
 -- ODT k's packet no longer waits; its list was served last; the last frame was no answer
 unfoldable pub packetSent : List ℕ → ℕ → List ℕ
-packetSent s k = set (set (set (set s (sampleAt k) 0) ctrAt (nextCtr s)) servedAt (listOf k)) lastAt 0
+packetSent s k = set (set (set (set s (sampleAt k) 0) ctrAt (ctrNext s)) servedAt (listOf k)) lastAt 0
 
 unfoldable pub sentBy : Turn → List ℕ → List ℕ → Slot
 sentBy Nobody s out = record { slotted = Idle; state = s; out = out }

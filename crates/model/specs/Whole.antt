@@ -114,14 +114,14 @@ pub record AfterSlot : Type 0 where
   pub out : List ℕ
 
 -- a packet goes: its frame at the front of the lent bytes, the bytes past it as they were; the call answers its size
-abbrev pub sentAs : List ℕ → ℕ → List ℕ → Slave → AfterSlot
-sentAs p ctr out v = record { slotted = Sent (length (frame ctr p)); slave = v; out = atFront (frame ctr p) out }
+abbrev pub packetGoes : List ℕ → ℕ → List ℕ → Slave → AfterSlot
+packetGoes p ctr out v = record { slotted = Sent (length (frame ctr p)); slave = v; out = atFront (frame ctr p) out }
 
 -- by whose turn it is
 unfoldable pub sentIn : Turn → Slave → List ℕ → AfterSlot
 sentIn Nobody v out = record { slotted = NothingWaits; slave = v; out = out }
-sentIn Answer v out = sentAs (v .answer) (v .ctr) out (answerGone v)
-sentIn (Packet k) v out = sentAs (packetFrom (v .session) k) (v .ctr) out (packetGone k v)
+sentIn Answer v out = packetGoes (v .answer) (v .ctr) out (answerGone v)
+sentIn (Packet k) v out = packetGoes (packetFrom (v .session) k) (v .ctr) out (packetGone k v)
 
 -- fewer lent bytes than the room of the longest frame change nothing
 unfoldable pub slotIn : Slave → List ℕ → AfterSlot

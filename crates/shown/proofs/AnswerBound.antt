@@ -7,7 +7,7 @@ use lib.Dec.{lit≤}
 use lib.ListN.{length, length-append, getD, replicate}
 use Rattle.line.specs.Message.{room, frame}
 use Rattle.model.specs.View.{viewOf}
-use Rattle.demands.specs.Slave.{Slave, ours}
+use Rattle.demands.specs.Slave.{AnySlave, ours}
 use Rattle.demands.specs.Runs.{Call, Byte, Event, SendingSlot, Elsewhere, run, frames, sends}
 use Rattle.demands.specs.Waiting.{answersIn}
 use Rattle.demands.specs.Demand3.{LeavesWithin, AnsweredBy}
@@ -29,7 +29,7 @@ none-before out out′ (c ∷ cs) later e = absurd (omega (arith, ap length e, l
 that-slot : (out out′ : List ℕ) (before later : List Call) → before ≡ [] → SendingSlot out ∷ [] ≡ before ++ SendingSlot out′ ∷ later → out′ ≡ out
 that-slot out out′ before later n e = sym (ap lent (subst (λ cs. SendingSlot out ∷ [] ≡ cs ++ SendingSlot out′ ∷ later) n e))
 
-in-the-first : (n : ℕ) (v : Slave) (s a out : List ℕ) → LeavesWithin n v s a (SendingSlot out ∷ []) → sends v s (SendingSlot out) ≡ frame (viewOf s .ctr) a ∷ []
+in-the-first : (n : ℕ) (v : AnySlave) (s a out : List ℕ) → LeavesWithin n v s a (SendingSlot out ∷ []) → sends v s (SendingSlot out) ≡ frame (viewOf s .ctr) a ∷ []
 in-the-first n v s a out w =
     let e : w .before ≡ [] = none-before out (w .out) (w .before) (w .later) (w .split) in
     subst₂ (λ cs o. sends v (run v s cs) (SendingSlot o) ≡ frame (viewOf (run v s cs) .ctr) a ∷ []) e (that-slot out (w .out) (w .before) (w .later) e (w .split)) (w .sent)

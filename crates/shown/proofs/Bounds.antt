@@ -13,23 +13,23 @@ use Rattle.state.specs.State.{consistent}
 use Rattle.lists.specs.Event.{samplingOf}
 use Rattle.model.specs.declared.Sampling.{Sampling}
 use Rattle.model.specs.declared.Sampling.the-variants.{Sampled}
-use Rattle.demands.specs.Slave.{Slave, ours}
+use Rattle.demands.specs.Slave.{AnySlave, ours}
 use Rattle.demands.specs.Runs.{Call, Byte, Event, SendingSlot, Elsewhere, afterCall, frames, slots}
 use Rattle.demands.specs.Heard.{stopsAt}
 use Rattle.demands.specs.Waiting.{waitingOf, sampleOf, packetsIn}
 use Rattle.demands.specs.Demand3.{Undisturbed, Begins, WholeBy, SampledBy}
-use Rattle.shown.specs.Exchange.{reached, four, sampledAgain, fifteen, sixteen}
+use Rattle.shown.specs.Exchange.{reached, fourLists, sampledAgain, fifteen, sixteen}
 use Rattle.shown.proofs.Computed.{computed}
 
 -- ---- whether a run is undisturbed can be computed
-unfoldable undisturbed : Slave → ℕ → List ℕ → List Call → Bool
+unfoldable undisturbed : AnySlave → ℕ → List ℕ → List Call → Bool
 undisturbed v l s [] = true
 undisturbed v l s (Byte cal meas b ∷ cs) = cond (stopsAt l s cal meas b) false (undisturbed v l (afterCall v s (Byte cal meas b)) cs)
 undisturbed v l s (Event cal meas event clock ∷ cs) = undisturbed v l (afterCall v s (Event cal meas event clock)) cs
 undisturbed v l s (SendingSlot out ∷ cs) = undisturbed v l (afterCall v s (SendingSlot out)) cs
 undisturbed v l s (Elsewhere ∷ cs) = undisturbed v l s cs
 
-told : (v : Slave) (l : ℕ) (s : List ℕ) (cs : List Call) → undisturbed v l s cs ≡ true → Undisturbed v l s cs
+told : (v : AnySlave) (l : ℕ) (s : List ℕ) (cs : List Call) → undisturbed v l s cs ≡ true → Undisturbed v l s cs
 unfolding undisturbed
 told v l s [] e = tt
 told v l s (Byte cal meas b ∷ cs) e =
@@ -86,7 +86,7 @@ expected =
       late = first ∷ second ∷ [];
     }
 
-computes : known (reached ours four) ≡ expected
+computes : known (reached ours fourLists) ≡ expected
 unfolding computed undisturbed known expected
 computes = refl
 
@@ -114,10 +114,10 @@ not-whole s k d =
 
 -- fifteen slots are not enough for a sample, nor for what waits of a list
 pub fifteen-are-not-enough : SampledBy 15 ours → ⊥
-fifteen-are-not-enough = not-sampled (reached ours four) computes
+fifteen-are-not-enough = not-sampled (reached ours fourLists) computes
 
 pub one-fewer-is-not-enough : WholeBy (λ p. 2 * (lists * p) - 1) ours → ⊥
-one-fewer-is-not-enough = not-whole (reached ours four) computes
+one-fewer-is-not-enough = not-whole (reached ours fourLists) computes
 
 -- sixteen are: all that is asked of such a run holds of this one, and it sends the whole sample
 sixteen-known : (s : List ℕ) → known s ≡ expected
@@ -132,7 +132,7 @@ sixteen-known s k = (
   ap (λ x. x .late) k ∙ sym (ap (λ x. x .sample) k),
 )
 
-pub sixteen-are : (consistent (reached ours four) ≡ true) × (samplingOf (reached ours four) 3 0 ≡ Sampled)
-    × Undisturbed ours 3 (sampledAgain (reached ours four)) sixteen × (slots sixteen ≡ 16)
-    × (packetsIn 3 (frames ours (sampledAgain (reached ours four)) sixteen) ≡ sampleOf (reached ours four) 3 1 [] (6 ∷ []))
-sixteen-are = sixteen-known (reached ours four) computes
+pub sixteen-are : (consistent (reached ours fourLists) ≡ true) × (samplingOf (reached ours fourLists) 3 0 ≡ Sampled)
+    × Undisturbed ours 3 (sampledAgain (reached ours fourLists)) sixteen × (slots sixteen ≡ 16)
+    × (packetsIn 3 (frames ours (sampledAgain (reached ours fourLists)) sixteen) ≡ sampleOf (reached ours fourLists) 3 1 [] (6 ∷ []))
+sixteen-are = sixteen-known (reached ours fourLists) computes

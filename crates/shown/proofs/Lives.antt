@@ -6,10 +6,10 @@ use lib.ListN.{replicate}
 use Rattle.line.specs.Message.{room, frame}
 use Rattle.state.specs.Layout.{size}
 use Rattle.demands.specs.Slave.{ours}
-use Rattle.demands.specs.Life.{Device, Moment, PowerOn, Hears, Serves, sentIn}
+use Rattle.demands.specs.Life.{Device, Moment, PowerOn, Hears, Serves, sentInLife}
 use Rattle.demands.specs.Waiting.{packetRead}
 use Rattle.shown.specs.Exchange.{connect, seedOfCalibration, keyOfCalibration, mtaTo, downloadOne, upload}
-use Rattle.shown.specs.Table.{lastIn}
+use Rattle.shown.specs.Table.{lastFrame}
 use Rattle.shown.proofs.Computed.{computed}
 
 -- a state of zeros and a memory of one byte, 0
@@ -28,13 +28,13 @@ powered-on ps = PowerOn 1 ∷ answering ps
 abbrev connected : List ℕ
 connected = frame 0 (0xFF ∷ 0x05 ∷ 0x00 ∷ 0x08 ∷ 0x08 ∷ 0x00 ∷ 0x01 ∷ 0x01 ∷ [])
 
-pub numbered-again : sentIn ours device (powered-on (connect ∷ []) ++ powered-on (connect ∷ [])) ≡ connected ∷ connected ∷ []
+pub numbered-again : sentInLife ours device (powered-on (connect ∷ []) ++ powered-on (connect ∷ [])) ≡ connected ∷ connected ∷ []
 unfolding computed
 numbered-again = refl
 
 -- DOWNLOAD of 7 before, and UPLOAD of it after
 pub lasts-over-power-up :
-    packetRead (lastIn (sentIn ours device (powered-on (connect ∷ seedOfCalibration ∷ keyOfCalibration ∷ mtaTo 0 0 ∷ downloadOne 7 ∷ []) ++ powered-on (connect ∷ mtaTo 0 0 ∷ upload 1 ∷ []))))
+    packetRead (lastFrame (sentInLife ours device (powered-on (connect ∷ seedOfCalibration ∷ keyOfCalibration ∷ mtaTo 0 0 ∷ downloadOne 7 ∷ []) ++ powered-on (connect ∷ mtaTo 0 0 ∷ upload 1 ∷ []))))
     ≡ 0xFF ∷ 7 ∷ []
 unfolding computed
 lasts-over-power-up = refl

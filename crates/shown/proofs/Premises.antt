@@ -1,6 +1,6 @@
 -- Runs of ours that meet premises which no other run here meets: a good message while an answer waits; a wrong key, and DISCONNECT in its place.
 -- Assumes nothing.
-use Rattle.demands.specs.Waiting.{AllBut}
+use Rattle.demands.specs.Waiting.{SameOutside}
 use Prim.Native.Nat.{ℕ}
 use mathlib.Core.Path.{_≡_, refl}
 use mathlib.Core.Bool.{true}
@@ -35,6 +35,6 @@ unfolding computed
 wrong-key-met = (refl, record { ends = refl; opened = refl; free = refl }, refl, refl)
 
 pub disconnect-met : (consistent (seeded disconnect) ≡ true) × Commands (seeded disconnect) (lastByte disconnect) disconnect × (byte disconnect 0 ≡ 0xFE)
-    × AllBut placeAt sessionAt (seeded keyOfLists) (seeded disconnect)
+    × SameOutside placeAt sessionAt (seeded keyOfLists) (seeded disconnect)
 unfolding computed
 disconnect-met = (refl, record { ends = refl; opened = refl; free = refl }, refl, record { long = refl; front = refl; back = refl })

@@ -24,13 +24,13 @@ use Rattle.words.specs.declared.Mta.the-variants.{At}
 use Rattle.model.specs.Calls.{turnIn, packetFor}
 use Rattle.model.specs.Model.{hasAnswer}
 use Rattle.model.specs.View.{sessionOf, viewOf}
-use Rattle.demands.specs.Slave.{Slave}
+use Rattle.demands.specs.Slave.{AnySlave}
 use Rattle.demands.specs.Runs.{Byte, Event, SendingSlot}
 use Rattle.demands.specs.Heard.{packetEnded}
 use Rattle.demands.specs.Demand1.{Demand1}
 use Rattle.demands.specs.Demand2.{Demand2, ReadsBack}
 use Rattle.demands.specs.Demand3.{Demand3}
-use Rattle.shown.specs.Wrong.{refusesAlways, silent, onlyConnects, alwaysFF, storesNothing, obeysDamaged, readsEscaped, allAtOnce, upTo, sumsEscaped, neverSamples, inventsCounts, inventsMissed, movesAfterRefusal, readsLate, opensBoth}
+use Rattle.shown.specs.Wrong.{refusesAlways, silent, onlyConnects, alwaysFF, storesNothing, obeysDamaged, readsEscaped, allAtOnce, slotsUpTo, sumsEscaped, neverSamples, inventsCounts, inventsMissed, movesAfterRefusal, readsLate, opensBoth}
 use Rattle.shown.specs.Exchange.{slot, says, asks, askAll, begun, lastByte, reached, connect, synch, seedOfCalibration, keyOfCalibration, upload, uploadFirst, downloadOne, downloading, uploading, measuring}
 use Rattle.shown.proofs.Computed.{computed}
 
@@ -94,7 +94,7 @@ standing : List ℕ → ℕ → Standing
 standing s b = record { sound = consistent s; ended = packetEnded s b; opened = sessionOf s .opened; waiting = hasAnswer (viewOf s); place = sessionOf s .mta }
 
 -- DOWNLOAD of 7 to the first place of a memory that holds 0, and UPLOAD of it
-exchanged : Slave → List ℕ → List ℕ → Exchanged
+exchanged : AnySlave → List ℕ → List ℕ → Exchanged
 exchanged v s t =
     record {
       before = standing s (lastByte (downloadOne 7));
@@ -110,7 +110,7 @@ ready p = record { sound = true; ended = some p; opened = true; waiting = false;
 answers : List ℕ → Exchanged
 answers a = record { before = ready (downloadOne 7); first = 0xFF ∷ []; between = ready (upload 1); second = a }
 
-given-back : (v : Slave) (s t a : List ℕ) → Demand2 v → exchanged v s t ≡ answers a → a ≡ 0xFF ∷ 7 ∷ []
+given-back : (v : AnySlave) (s t a : List ℕ) → Demand2 v → exchanged v s t ≡ answers a → a ≡ 0xFF ∷ 7 ∷ []
 unfolding standing exchanged ready answers
 given-back v s t a d e =
     sym (ap (λ x. x .second) e)
@@ -135,13 +135,13 @@ storesNothing-fails d =
 -- ---- slots
 -- an answer and a sample wait, and one slot sends all three frames
 pub allAtOnce-fails : Demand2 allAtOnce → ⊥
-unfolding computed upTo
+unfolding computed slotsUpTo
 allAtOnce-fails d =
     let e : _≡_ {A = ℕ} 19 7 = ap (λ fs. length (getD fs 0 [])) (d .numbers (reached allAtOnce (measuring (5 ∷ []))) (Event [] (5 ∷ []) 0 0 ∷ SendingSlot (replicate 46 0) ∷ []) refl (lit< tt)) in omega arith
 
 -- a frame that reads back carries the packet whose turn it was
-read-back : (f s p : List ℕ) → packetFor (turnIn (viewOf s)) (viewOf s) ≡ p ∷ [] → ReadsBack (f ∷ []) s → line.run Outside (replicate longest 0) f ≡ heard Outside (replicate longest 0) (viewOf s .ctr) p
-read-back f s p e r = subst (λ q. line.run Outside (replicate longest 0) f ≡ heard Outside (replicate longest 0) (viewOf s .ctr) q) (ap (λ ps. getD ps 0 []) (sym (r .2) ∙ e)) (r .3 Outside (replicate longest 0) (lit≤ tt))
+read-back : (f s p : List ℕ) → packetFor (turnIn (viewOf s)) (viewOf s) ≡ p ∷ [] → ReadsBack (f ∷ []) s → line.runOf Outside (replicate longest 0) f ≡ heard Outside (replicate longest 0) (viewOf s .ctr) p
+read-back f s p e r = subst (λ q. line.runOf Outside (replicate longest 0) f ≡ heard Outside (replicate longest 0) (viewOf s .ctr) q) (ap (λ ps. getD ps 0 []) (sym (r .2) ∙ e)) (r .3 Outside (replicate longest 0) (lit≤ tt))
 
 -- the frame of FF 9A reads as one with a wrong checksum
 pub sumsEscaped-fails : Demand2 sumsEscaped → ⊥

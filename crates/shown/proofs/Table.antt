@@ -15,7 +15,7 @@ use Rattle.model.specs.View.{sessionOf, viewOf}
 use Rattle.model.specs.declared.Deed.{Deed}
 use Rattle.model.specs.declared.Deed.the-variants.{Refuse, Download}
 use Rattle.words.specs.declared.Reason.the-variants.{NotInside}
-use Rattle.demands.specs.Slave.{Slave}
+use Rattle.demands.specs.Slave.{AnySlave}
 use Rattle.demands.specs.Heard.{packetEnded, readBy}
 use Rattle.demands.specs.Demand2.{Demand2}
 use Rattle.shown.specs.Exchange.{lastByte}
@@ -111,7 +111,7 @@ ready : Standing
 ready = record { sound = true; ended = some (download 6); waiting = false; opened = true }
 
 -- the deed follows from the memory's length
-six : (v : Slave) (s cal meas : List ℕ) (b : ℕ) (d : Deed) → Demand2 v → standing s b ≡ ready → length cal ≡ addressable → ((nm : ℕ) → judgeIn (download 6) (sessionOf s) addressable nm ≡ d)
+six : (v : AnySlave) (s cal meas : List ℕ) (b : ℕ) (d : Deed) → Demand2 v → standing s b ≡ ready → length cal ≡ addressable → ((nm : ℕ) → judgeIn (download 6) (sessionOf s) addressable nm ≡ d)
     → v .receive s cal meas b ≡ obeyed d (download 6) (readBy s b) cal meas
 unfolding standing ready
 six v s cal meas b d meets e long j =
@@ -121,7 +121,7 @@ six v s cal meas b d meets e long j =
     ∙ ap (λ x. obeyed x (download 6) (readBy s b) cal meas) (subst (λ n. judgeIn (download 6) (sessionOf s) n (length meas) ≡ d) (sym long) (j (length meas)))
 
 -- at 4,090 the answer is FF, and the six bytes are written
-pub six-at-4090 : (v : Slave) (cal meas : List ℕ) → Demand2 v → length cal ≡ addressable
+pub six-at-4090 : (v : AnySlave) (cal meas : List ℕ) → Demand2 v → length cal ≡ addressable
     → (viewOf (v .receive (sixBegunAt 0xFA 0x0F) cal meas (lastByte (download 6)) .state) .answer ≡ 0xFF ∷ [])
     × (v .receive (sixBegunAt 0xFA 0x0F) cal meas (lastByte (download 6)) .cal ≡ sets cal 4090 (1 ∷ 2 ∷ 3 ∷ 4 ∷ 5 ∷ 6 ∷ []))
 unfolding computed standing ready
@@ -131,7 +131,7 @@ six-at-4090 v cal meas meets long =
     (ap (λ o. viewOf (o .state) .answer) e, ap (λ o. o .cal) e)
 
 -- at 4,091 the answer is FE 24, and no byte changes
-pub six-at-4091 : (v : Slave) (cal meas : List ℕ) → Demand2 v → length cal ≡ addressable
+pub six-at-4091 : (v : AnySlave) (cal meas : List ℕ) → Demand2 v → length cal ≡ addressable
     → (viewOf (v .receive (sixBegunAt 0xFB 0x0F) cal meas (lastByte (download 6)) .state) .answer ≡ 0xFE ∷ 0x24 ∷ [])
     × (v .receive (sixBegunAt 0xFB 0x0F) cal meas (lastByte (download 6)) .cal ≡ cal)
 unfolding computed standing ready

@@ -4,7 +4,7 @@ use mathlib.Core.List.{List, [], _∷_, _++_, map}
 use lib.ListN.{length, getD, take, replicate}
 use Rattle.line.specs.Message.{room, frame}
 use Rattle.session.specs.PowerUp.{powered}
-use Rattle.demands.specs.Slave.{Slave, ours}
+use Rattle.demands.specs.Slave.{AnySlave, ours}
 use Rattle.demands.specs.Runs.{Call, Byte, Event, SendingSlot, run}
 
 -- a slot with just the room
@@ -35,7 +35,7 @@ abbrev pub lastByte : List ℕ → ℕ
 lastByte p = getD (frame 0 p) (length (frame 0 p) - 1) 0
 
 -- the state after calls from power-up
-abbrev pub reached : Slave → List Call → List ℕ
+abbrev pub reached : AnySlave → List Call → List ℕ
 reached v cs = run v (powered 1) cs
 
 -- ---- commands
@@ -93,8 +93,8 @@ uploading cal n = askAll cal [] (connect ∷ mtaTo 0 0 ∷ []) ++ begun cal [] (
 abbrev pub pointTo : ℕ → ℕ → ℕ → List ℕ
 pointTo l odt e = 0xE2 ∷ 0 ∷ l ∷ 0 ∷ odt ∷ e ∷ []
 
-abbrev pub entryOf : ℕ → List ℕ
-entryOf n = 0xE1 ∷ 0xFF ∷ n ∷ 1 ∷ 0 ∷ 0 ∷ 0 ∷ 0 ∷ []
+abbrev pub entryCommand : ℕ → List ℕ
+entryCommand n = 0xE1 ∷ 0xFF ∷ n ∷ 1 ∷ 0 ∷ 0 ∷ 0 ∷ 0 ∷ []
 
 abbrev pub onEvent0 : ℕ → List ℕ
 onEvent0 l = 0xE0 ∷ 0x10 ∷ l ∷ 0 ∷ 0 ∷ 0 ∷ 1 ∷ 0 ∷ []
@@ -104,15 +104,15 @@ start l = 0xDE ∷ 1 ∷ l ∷ 0 ∷ []
 
 -- list 0 has one byte, in its second ODT, and runs on event 0; the answer to its start waits
 abbrev pub measuring : List ℕ → List Call
-measuring meas = listable ++ (askAll [] meas (pointTo 0 1 0 ∷ entryOf 1 ∷ onEvent0 0 ∷ []) ++ says [] meas (start 0))
+measuring meas = listable ++ (askAll [] meas (pointTo 0 1 0 ∷ entryCommand 1 ∷ onEvent0 0 ∷ []) ++ says [] meas (start 0))
 
 -- so has list l; the answer has gone
 abbrev pub listed : ℕ → List Call
-listed l = askAll [] (5 ∷ []) (pointTo l 1 0 ∷ entryOf 1 ∷ onEvent0 l ∷ start l ∷ [])
+listed l = askAll [] (5 ∷ []) (pointTo l 1 0 ∷ entryCommand 1 ∷ onEvent0 l ∷ start l ∷ [])
 
 -- four lists run, each with one byte in its second ODT; a sample of each has gone, that of list 3 last
-abbrev pub four : List Call
-four = listable ++ (listed 0 ++ (listed 1 ++ (listed 2 ++ (listed 3 ++ Event [] (5 ∷ []) 0 0 ∷ replicate 8 slot))))
+abbrev pub fourLists : List Call
+fourLists = listable ++ (listed 0 ++ (listed 1 ++ (listed 2 ++ (listed 3 ++ Event [] (5 ∷ []) 0 0 ∷ replicate 8 slot))))
 
 -- a command and two slots, n times
 abbrev pub turns : ℕ → List Call

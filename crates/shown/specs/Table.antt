@@ -15,7 +15,7 @@ use Rattle.words.specs.declared.Resource.the-variants.{Calibration, Lists}
 use Rattle.demands.specs.Slave.{ours}
 use Rattle.demands.specs.Runs.{Call, Event, run, frames}
 use Rattle.demands.specs.Waiting.{packetRead}
-use Rattle.shown.specs.Exchange.{slot, bytes, asks, askAll, begun, reached, connect, synch, seedOfCalibration, seedOfLists, keyOfCalibration, keyOfLists, mtaTo, uploadFirst, writable, listable, pointTo, entryOf, onEvent0, start}
+use Rattle.shown.specs.Exchange.{slot, bytes, asks, askAll, begun, reached, connect, synch, seedOfCalibration, seedOfLists, keyOfCalibration, keyOfLists, mtaTo, uploadFirst, writable, listable, pointTo, entryCommand, onEvent0, start}
 
 pub record Row : Type 0 where
   pub number : ℕ
@@ -26,13 +26,13 @@ abbrev pub row : ℕ → List ℕ → List ℕ → Row
 row n got told = record { number = n; comesTo = got; sheet = told }
 
 -- the last frame that ours sends in a run from state s; the answer in it
-abbrev pub lastIn : List (List ℕ) → List ℕ
-lastIn [] = []
-lastIn (f ∷ []) = f
-lastIn (f ∷ g ∷ fs) = lastIn (g ∷ fs)
+abbrev pub lastFrame : List (List ℕ) → List ℕ
+lastFrame [] = []
+lastFrame (f ∷ []) = f
+lastFrame (f ∷ g ∷ fs) = lastFrame (g ∷ fs)
 
 abbrev pub sentFrom : List ℕ → List Call → List ℕ
-sentFrom s cs = lastIn (frames ours s cs)
+sentFrom s cs = lastFrame (frames ours s cs)
 
 abbrev pub sent : List Call → List ℕ
 sent cs = sentFrom (powered 1) cs
@@ -58,11 +58,11 @@ sixAt a b = replyIn (judgeIn (download 6) (sessionOf (writableAt a b)) addressab
 
 -- the start of list 0, whose ODT 0 has an entry of 4 bytes and one of n
 abbrev pub startWith : ℕ → List Call
-startWith n = listable ++ askAll [] (replicate 4 0) (pointTo 0 0 0 ∷ entryOf 4 ∷ entryOf n ∷ onEvent0 0 ∷ start 0 ∷ [])
+startWith n = listable ++ askAll [] (replicate 4 0) (pointTo 0 0 0 ∷ entryCommand 4 ∷ entryCommand n ∷ onEvent0 0 ∷ start 0 ∷ [])
 
 -- list 1 with two bytes runs, and nine frames have gone
 abbrev pub weighing : List Call
-weighing = listable ++ askAll [] (0x64 ∷ 0x00 ∷ []) (pointTo 1 0 0 ∷ entryOf 2 ∷ onEvent0 1 ∷ start 1 ∷ synch ∷ synch ∷ [])
+weighing = listable ++ askAll [] (0x64 ∷ 0x00 ∷ []) (pointTo 1 0 0 ∷ entryCommand 2 ∷ onEvent0 1 ∷ start 1 ∷ synch ∷ synch ∷ [])
 
 -- CONNECT and its answer
 abbrev pub connectFrame : ℕ → Row

@@ -29,18 +29,18 @@ use Rattle.words.specs.declared.Evented.{Evented}
 use Rattle.words.specs.declared.Evented.the-variants.{Done, BadEvent, NoState as EventNoState}
 use Rattle.words.specs.declared.Slotted.{Slotted}
 use Rattle.words.specs.declared.Slotted.the-variants.{Idle, Sent, NoRoom, NoState as SlotNoState}
-use Rattle.demands.specs.Slave.{Slave}
+use Rattle.demands.specs.Slave.{AnySlave}
 use Rattle.demands.specs.Heard.{packetEnded, readBy}
 use Rattle.demands.specs.Waiting.{packetInside}
 
 -- ---- ours, but for one call
-abbrev pub receiving : (List ℕ → List ℕ → List ℕ → ℕ → Step) → Slave
+abbrev pub receiving : (List ℕ → List ℕ → List ℕ → ℕ → Step) → AnySlave
 receiving receive = record { powerUp = powerUpOf; receive = receive; event = eventOf; slot = slotOf }
 
-abbrev pub happening : (List ℕ → List ℕ → List ℕ → ℕ → ℕ → Happened) → Slave
+abbrev pub happening : (List ℕ → List ℕ → List ℕ → ℕ → ℕ → Happened) → AnySlave
 happening event = record { powerUp = powerUpOf; receive = receiveOf; event = event; slot = slotOf }
 
-abbrev pub sending : (List ℕ → List ℕ → Slot) → Slave
+abbrev pub sending : (List ℕ → List ℕ → Slot) → AnySlave
 sending slot = record { powerUp = powerUpOf; receive = receiveOf; event = eventOf; slot = slot }
 
 -- ---- ours, but for what a good message with packet p leads to once it is read, with no answer waiting
@@ -51,33 +51,33 @@ abbrev pub heardBy : Heed → Option (List ℕ) → List ℕ → List ℕ → Li
 heardBy heed none s cal meas b = receiveOf s cal meas b
 heardBy heed (some p) s cal meas b = cond (waits s) (receiveOf s cal meas b) (heed p (readBy s b) cal meas)
 
-abbrev pub heeding : Heed → Slave
+abbrev pub heeding : Heed → AnySlave
 heeding heed = receiving (λ s cal meas b. cond (consistent s) (heardBy heed (packetEnded s b) s cal meas b) (receiveOf s cal meas b))
 
 -- every command is refused, CONNECT too
-abbrev pub refusesAlways : Slave
+abbrev pub refusesAlways : AnySlave
 refusesAlways = heeding (λ p s cal meas. obeyed (Refuse Unknown) p s cal meas)
 
 -- CONNECT is ours, and no other command is answered: it changes the reader's place alone
-abbrev pub silent : Slave
+abbrev pub silent : AnySlave
 silent = heeding (λ p s cal meas. cond (goodConnect p) (heeded p s cal meas) (only Silent s cal))
 
 -- CONNECT is ours, and in a session every other command is refused
-abbrev pub onlyConnects : Slave
+abbrev pub onlyConnects : AnySlave
 onlyConnects = heeding (λ p s cal meas. cond (goodConnect p) (heeded p s cal meas) (cond (openOf s) (obeyed (Refuse Unknown) p s cal meas) (only Silent s cal)))
 
 -- what is done is ours, and each answer is FF alone
 abbrev pub withFF : Step → Step
 withFF o = record { received = o .received; state = cond (waits (o .state)) (answered (o .state) (0xFF ∷ [])) (o .state); cal = o .cal }
 
-abbrev pub alwaysFF : Slave
+abbrev pub alwaysFF : AnySlave
 alwaysFF = heeding (λ p s cal meas. withFF (heeded p s cal meas))
 
 -- answers are ours, and the calibration memory stays
 abbrev pub unstored : Step → List ℕ → Step
 unstored o cal = record { received = o .received; state = o .state; cal = cal }
 
-abbrev pub storesNothing : Slave
+abbrev pub storesNothing : AnySlave
 storesNothing = heeding (λ p s cal meas. unstored (heeded p s cal meas) cal)
 
 -- the packet of a message that has just ended, with a right checksum or not
@@ -85,20 +85,20 @@ abbrev pub packetAnyway : List ℕ → ℕ → Option (List ℕ)
 packetAnyway s b = cond (eqb (outcomeNumber (fedOf s b .taken .outcome)) 5) (some (packetInside (fedOf s b .message))) (packetEnded s b)
 
 -- a message whose checksum is wrong is obeyed too
-abbrev pub obeysDamaged : Slave
+abbrev pub obeysDamaged : AnySlave
 obeysDamaged = receiving (λ s cal meas b. cond (consistent s) (heardBy heeded (packetAnyway s b) s cal meas b) (receiveOf s cal meas b))
 
 -- a message ends as its checksum byte comes, which is number 1 of the line, or 5; what stands before that byte in the message
-abbrev pub endsAt : List ℕ → ℕ → Bool
-endsAt s b = cond (eqb (outcomeNumber (fedOf s b .taken .outcome)) 5) true (eqb (outcomeNumber (fedOf s b .taken .outcome)) 1)
+abbrev pub messageEndsAt : List ℕ → ℕ → Bool
+messageEndsAt s b = cond (eqb (outcomeNumber (fedOf s b .taken .outcome)) 5) true (eqb (outcomeNumber (fedOf s b .taken .outcome)) 1)
 
 abbrev pub summedIn : List ℕ → List ℕ
 summedIn m = take (getD m 0 0 + 2) m
 
 -- the reader sums escaped bytes: by that sum alone a message is heeded, or is number 5
-abbrev pub readsEscaped : Slave
+abbrev pub readsEscaped : AnySlave
 readsEscaped =
-    receiving (λ s cal meas b. cond (consistent s) (cond (endsAt s b)
+    receiving (λ s cal meas b. cond (consistent s) (cond (messageEndsAt s b)
     (cond (eqb b (sum (stuff (summedIn (fedOf s b .message))) % 256)) (heeded (packetInside (fedOf s b .message)) (readBy s b) cal meas) (only BadChecksum (readBy s b) cal))
     (receiveOf s cal meas b)) (receiveOf s cal meas b))
 
@@ -115,13 +115,13 @@ followed (Sent n) o rest =
 followed NoRoom o rest = o
 followed SlotNoState o rest = o
 
-unfoldable pub upTo : ℕ → List ℕ → List ℕ → Slot
-upTo zero s out = slotOf s out
-upTo (suc n) s out = followed (slotOf s out .slotted) (slotOf s out) (upTo n)
+unfoldable pub slotsUpTo : ℕ → List ℕ → List ℕ → Slot
+slotsUpTo zero s out = slotOf s out
+slotsUpTo (suc n) s out = followed (slotOf s out .slotted) (slotOf s out) (slotsUpTo n)
 
 -- a slot sends all that waits, an answer and two packets of each list, as far as there is room
-abbrev pub allAtOnce : Slave
-allAtOnce = sending (upTo 8)
+abbrev pub allAtOnce : AnySlave
+allAtOnce = sending (slotsUpTo 8)
 
 -- a checksum taken over escaped bytes
 abbrev pub escapedSum : List ℕ → List ℕ
@@ -138,12 +138,12 @@ inFrames (Sent n) (p ∷ ps) o ctr out = record { slotted = Sent (length (summed
 inFrames NoRoom ps o ctr out = o
 inFrames SlotNoState ps o ctr out = o
 
-abbrev pub sumsEscaped : Slave
+abbrev pub sumsEscaped : AnySlave
 sumsEscaped = sending (λ s out. inFrames (slotOf s out .slotted) (packetFor (turnOf s) (viewOf s)) (slotOf s out) (ctrOf s) out)
 
 -- ---- events
 -- counts are ours, and nothing is sampled
-abbrev pub neverSamples : Slave
+abbrev pub neverSamples : AnySlave
 neverSamples = happening (λ s cal meas event clock. record { evented = eventOf s cal meas event clock .evented; state = s })
 
 -- samples are ours; a done event counts one sampled list more
@@ -152,7 +152,7 @@ oneSampledMore (Done sampled missed) = Done (suc sampled) missed
 oneSampledMore BadEvent = BadEvent
 oneSampledMore EventNoState = EventNoState
 
-abbrev pub inventsCounts : Slave
+abbrev pub inventsCounts : AnySlave
 inventsCounts = happening (λ s cal meas event clock. record { evented = oneSampledMore (eventOf s cal meas event clock .evented); state = eventOf s cal meas event clock .state })
 
 -- and one that counts one missed list more
@@ -161,7 +161,7 @@ oneMissedMore (Done sampled missed) = Done sampled (suc missed)
 oneMissedMore BadEvent = BadEvent
 oneMissedMore EventNoState = EventNoState
 
-abbrev pub inventsMissed : Slave
+abbrev pub inventsMissed : AnySlave
 inventsMissed = happening (λ s cal meas event clock. record { evented = oneMissedMore (eventOf s cal meas event clock .evented); state = eventOf s cal meas event clock .state })
 
 -- ---- slips
@@ -174,7 +174,7 @@ abbrev pub moved : Step → Mta → ℕ → Step
 moved o mta n = record { received = o .received; state = movedOn mta n (o .state); cal = o .cal }
 
 -- the MTA moves after UPLOAD, refused or not
-abbrev pub movesAfterRefusal : Slave
+abbrev pub movesAfterRefusal : AnySlave
 movesAfterRefusal = heeding (λ p s cal meas. cond (eqb (getD p 0 0) 0xF5) (moved (heeded p s cal meas) (mtaOf s) (getD p 1 0)) (heeded p s cal meas))
 
 -- where a packet of ODT 1 waits, its bytes are taken from the memories lent now
@@ -182,7 +182,7 @@ abbrev pub reread : List ℕ → ℕ → List ℕ → List ℕ → List ℕ
 reread s k cal meas = cond (ltb 0 (storedLength s k)) (stored s k (blocksIn (odtOf s k) cal meas (entryCount k))) s
 
 -- the second ODT of list 0 is read again at each byte until it is sent
-abbrev pub readsLate : Slave
+abbrev pub readsLate : AnySlave
 readsLate = receiving (λ s cal meas b. cond (consistent s) (receiveOf (reread s (firstOdt 0 + 1) cal meas) cal meas b) (receiveOf s cal meas b))
 
 -- once a lock has opened, both are open
@@ -190,5 +190,5 @@ abbrev pub bothOpen : List ℕ → Step → Step
 bothOpen s o = record { received = o .received; state = cond (ltb (maskOf (o .state)) (maskOf s)) (set (set (o .state) calibrationAt 1) listsAt 1) (o .state); cal = o .cal }
 
 -- a key opens both locks
-abbrev pub opensBoth : Slave
+abbrev pub opensBoth : AnySlave
 opensBoth = heeding (λ p s cal meas. bothOpen s (heeded p s cal meas))

@@ -8,20 +8,20 @@ use Rattle.lists.specs.Event.{Happened}
 use Rattle.lists.specs.Slot.{Slot}
 use Rattle.session.specs.PowerUp.{Power}
 
-pub record PowersUp (p : Power) (r : ℕ) (s : List ℕ) : Type 0 where
+pub record PowersUpC (p : Power) (r : ℕ) (s : List ℕ) : Type 0 where
   pub result : r ≡ poweredUpC (p .poweredUp)
   pub state : s ≡ p .state
 
-pub record Receives (o : Step) (r : ℕ) (s cal : List ℕ) : Type 0 where
+pub record ReceivesC (o : Step) (r : ℕ) (s cal : List ℕ) : Type 0 where
   pub result : r ≡ receivedC (o .received)
   pub state : s ≡ o .state
   pub memory : cal ≡ o .cal
 
-pub record Happens (h : Happened) (r : ℕ) (s : List ℕ) : Type 0 where
+pub record HappensC (h : Happened) (r : ℕ) (s : List ℕ) : Type 0 where
   pub result : r ≡ eventedC (h .evented)
   pub state : s ≡ h .state
 
-pub record Sends (o : Slot) (r : ℕ) (s out : List ℕ) : Type 0 where
+pub record SendsC (o : Slot) (r : ℕ) (s out : List ℕ) : Type 0 where
   pub result : r ≡ slottedC (o .slotted)
   pub state : s ≡ o .state
   pub bytes : out ≡ o .out

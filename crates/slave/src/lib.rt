@@ -8,7 +8,7 @@ ghost use Rattle.lists.specs.Slot.{slotOf};
 ghost use Rattle.session.specs.PowerUp.{powerUpOf};
 ghost use Rattle.lists.specs.Slot.{Small};
 ghost use Rattle.words.specs.Number.{receivedC, eventedC, slottedC, poweredUpC};
-ghost use Rattle.slave.specs.Returns.{PowersUp, Receives, Happens, Sends};
+ghost use Rattle.slave.specs.Returns.{PowersUpC, ReceivesC, HappensC, SendsC};
 use words::Evented;
 use words::PoweredUp;
 use words::Received;
@@ -63,14 +63,14 @@ fn powered_up(r: PoweredUp) -> u32
 
 #[no_mangle]
 pub extern "C" fn xcp_power_up(state: &mut [u8], start: u32) -> u32
-    ensures { λ r. ⌜ PowersUp (powerUpOf (now (state .entry)) start) r (now (state .exit)) ⌝ }
+    ensures { λ r. ⌜ PowersUpC (powerUpOf (now (state .entry)) start) r (now (state .exit)) ⌝ }
 {
     powered_up(session::power_up(state, start))
 }
 
 #[no_mangle]
 pub extern "C" fn xcp_receive_byte(state: &mut [u8], cal: &mut [u8], meas: &[u8], byte: u8) -> u32
-    ensures { λ r. ⌜ Receives (receiveOf (now (state .entry)) (now (cal .entry)) (now (meas .entry)) byte) r (now (state .exit)) (now (cal .exit)) ⌝ }
+    ensures { λ r. ⌜ ReceivesC (receiveOf (now (state .entry)) (now (cal .entry)) (now (meas .entry)) byte) r (now (state .exit)) (now (cal .exit)) ⌝ }
 {
     received(session::receive_byte(state, cal, meas, byte))
 }
@@ -83,14 +83,14 @@ pub extern "C" fn xcp_event(
     event: u32,
     clock: u16,
 ) -> u32
-    ensures { λ r. ⌜ Happens (eventOf (now (state .entry)) (now (cal .entry)) (now (meas .entry)) event clock) r (now (state .exit)) ⌝ }
+    ensures { λ r. ⌜ HappensC (eventOf (now (state .entry)) (now (cal .entry)) (now (meas .entry)) event clock) r (now (state .exit)) ⌝ }
 {
     evented(session::event(state, cal, meas, event, clock))
 }
 
 #[no_mangle]
 pub extern "C" fn xcp_slot(state: &mut [u8], out: &mut [u8]) -> u32
-    ensures { λ r. ⌜ Sends (slotOf (now (state .entry)) (now (out .entry))) r (now (state .exit)) (now (out .exit)) ⌝ }
+    ensures { λ r. ⌜ SendsC (slotOf (now (state .entry)) (now (out .entry))) r (now (state .exit)) (now (out .exit)) ⌝ }
 {
     slotted(session::slot(state, out))
 }

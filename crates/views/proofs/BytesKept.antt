@@ -49,7 +49,7 @@ use Rattle.model.proofs.Shown.{packet-by}
 use Rattle.judge.specs.Doable.{Doable}
 use Rattle.lists.specs.Lists.{entryCleared, entrySet}
 use Rattle.lists.specs.Event.{samplingOf, contentsOf, stored, capturedOdts, sampledState, tally, Happened, eventOf}
-use Rattle.lists.specs.Slot.{turnOf, Slot, nextCtr, answerSent, packetSent, sentBy, slotOf}
+use Rattle.lists.specs.Slot.{turnOf, Slot, ctrNext, answerSent, packetSent, sentBy, slotOf}
 use Rattle.lists.proofs.Fitting.{Fitting, sampling-fits, fit-each}
 use Rattle.lists.proofs.Gathered.{contents-most}
 use Rattle.lists.proofs.Sending.{Within, turn-within}
@@ -295,13 +295,13 @@ unfolding answerSent
 bytes-answerSent s w =
     let s₁ : List ℕ = set s answerBytesAt (answerKind s) in
     let s₂ : List ℕ = set s₁ answerAt 0 in
-    bytes-set (set s₂ ctrAt (nextCtr s)) lastAt 1 (bytes-modulo s₂ ctrAt (ctrOf s + 1) (bytes-set s₁ answerAt 0 (bytes-kind s w) (lit< tt))) (lit< tt)
+    bytes-set (set s₂ ctrAt (ctrNext s)) lastAt 1 (bytes-modulo s₂ ctrAt (ctrOf s + 1) (bytes-set s₁ answerAt 0 (bytes-kind s w) (lit< tt))) (lit< tt)
 
 bytes-packetSent : (s : List ℕ) (k : ℕ) → k < allOdts → Bytes s → Bytes (packetSent s k)
 unfolding packetSent
 bytes-packetSent s k h w =
     let s₁ : List ℕ = set s (sampleAt k) 0 in
-    let s₂ : List ℕ = set s₁ ctrAt (nextCtr s) in
+    let s₂ : List ℕ = set s₁ ctrAt (ctrNext s) in
     bytes-set (set s₂ servedAt (listOf k)) lastAt 0
     (bytes-set s₂ servedAt (listOf k) (bytes-modulo s₁ ctrAt (ctrOf s + 1) (bytes-set s (sampleAt k) 0 w (lit< tt))) (omega arith)) (lit< tt)
 

@@ -21,7 +21,7 @@ use Rattle.state.specs.Generator.{startOf}
 use Rattle.state.specs.State.{flagOf, generatorOf, setGenerator, placeOf, messageOf, setMessage, answerLength, answerKind, answerOf, answered}
 use Rattle.state.specs.Lists.{leastOf, storedLength}
 use Rattle.lists.specs.Event.{contentsOf, stored, capturedOdts, captured}
-use Rattle.lists.specs.Slot.{nextCtr, answerSent, packetSent}
+use Rattle.lists.specs.Slot.{ctrNext, answerSent, packetSent}
 use Rattle.lists.proofs.Fitting.{fit-each}
 use Rattle.lists.proofs.Gathered.{contents-most}
 use Rattle.session.specs.Receive.{readOn}
@@ -81,17 +81,17 @@ unfolding viewOf answerSent
 view-answerSent s h =
     let s₁ : List ℕ = set s answerBytesAt (answerKind s) in
     let s₂ : List ℕ = set s₁ answerAt 0 in
-    let s₃ : List ℕ = set s₂ ctrAt (nextCtr s) in
+    let s₃ : List ℕ = set s₂ ctrAt (ctrNext s) in
     let h₁ : length s₁ ≡ size = length-set s answerBytesAt (answerKind s) ∙ h in
     let h₂ : length s₂ ≡ size = length-set s₁ answerAt 0 ∙ h₁ in
-    let h₃ : length s₃ ≡ size = length-set s₂ ctrAt (nextCtr s) ∙ h₂ in
+    let h₃ : length s₃ ≡ size = length-set s₂ ctrAt (ctrNext s) ∙ h₂ in
     λ i. record {
       session = session-reads (same-part (lit≤ tt) (lit≤ tt) (answerSent-front s)) (answerSent-session s) i;
       place = place-reads (same-part (lit≤ tt) (lit≤ tt) (answerSent-reader s)) i;
       message = message-reads (same-part (lit≤ tt) (lit≤ tt) (answerSent-reader s)) i;
-      answer = no-answer (answerSent s) (getD-set-other s₃ lastAt answerAt 1 0 (omega arith) ∙ getD-set-other s₂ ctrAt answerAt (nextCtr s) 0 (omega arith) ∙ getD-set-same s₁ answerAt 0 0 (omega arith)) i;
-      ctr = (getD-set-other s₃ lastAt ctrAt 1 0 (omega arith) ∙ getD-set-same s₂ ctrAt (nextCtr s) 0 (omega arith)) i;
-      served = (getD-set-other s₃ lastAt servedAt 1 0 (omega arith) ∙ getD-set-other s₂ ctrAt servedAt (nextCtr s) 0 (omega arith)
+      answer = no-answer (answerSent s) (getD-set-other s₃ lastAt answerAt 1 0 (omega arith) ∙ getD-set-other s₂ ctrAt answerAt (ctrNext s) 0 (omega arith) ∙ getD-set-same s₁ answerAt 0 0 (omega arith)) i;
+      ctr = (getD-set-other s₃ lastAt ctrAt 1 0 (omega arith) ∙ getD-set-same s₂ ctrAt (ctrNext s) 0 (omega arith)) i;
+      served = (getD-set-other s₃ lastAt servedAt 1 0 (omega arith) ∙ getD-set-other s₂ ctrAt servedAt (ctrNext s) 0 (omega arith)
           ∙ getD-set-other s₁ answerAt servedAt 0 0 (omega arith) ∙ getD-set-other s answerBytesAt servedAt (answerKind s) 0 (omega arith)) i;
       lastAnswer = flag-on (answerSent s) lastAt (getD-set-same s₃ lastAt 1 0 (omega arith)) i;
     }
@@ -118,21 +118,21 @@ module _ (s : List ℕ) (k : ℕ) (h : length s ≡ size) (k8 : k < allOdts) whe
   unfolding viewOf packetSent sessionOf
   view-packetSent =
       let s₁ : List ℕ = set s (sampleAt k) 0 in
-      let s₂ : List ℕ = set s₁ ctrAt (nextCtr s) in
+      let s₂ : List ℕ = set s₁ ctrAt (ctrNext s) in
       let s₃ : List ℕ = set s₂ servedAt (listOf k) in
       let t : List ℕ = set s₃ lastAt 0 in
       let h₁ : length s₁ ≡ size = length-set s (sampleAt k) 0 ∙ h in
-      let h₂ : length s₂ ≡ size = length-set s₁ ctrAt (nextCtr s) ∙ h₁ in
+      let h₂ : length s₂ ≡ size = length-set s₁ ctrAt (ctrNext s) ∙ h₁ in
       let h₃ : length s₃ ≡ size = length-set s₂ servedAt (listOf k) ∙ h₂ in
       let w : Only (sampleAt k) (sampleAt k + 1) s s₁ = only-set s (sampleAt k) 0 (omega arith) (omega arith) in
-      let v : Only ctrAt placeAt s₁ t = only-then (only-set s₁ ctrAt (nextCtr s) (lit≤ tt) (lit< tt)) (only-then (only-set s₂ servedAt (listOf k) (lit≤ tt) (lit< tt)) (only-set s₃ lastAt 0 (lit≤ tt) (lit< tt))) in
+      let v : Only ctrAt placeAt s₁ t = only-then (only-set s₁ ctrAt (ctrNext s) (lit≤ tt) (lit< tt)) (only-then (only-set s₂ servedAt (listOf k) (lit≤ tt) (lit< tt)) (only-set s₃ lastAt 0 (lit≤ tt) (lit< tt))) in
       let x : Only (modeAt 0) size s s₁ = only-set s (sampleAt k) 0 (omega arith) (omega arith) in
       λ i. record {
         session = (session-reads (apart tt v) (apart tt v) ∙ in-lists x ∙ ap (withLists (sessionOf s)) taken) i;
         place = place-reads (both w v (omega arith)) i;
         message = message-reads (both w v (omega arith)) i;
         answer = answer-reads (both w v (omega arith)) i;
-        ctr = (getD-set-other s₃ lastAt ctrAt 0 0 (omega arith) ∙ getD-set-other s₂ servedAt ctrAt (listOf k) 0 (omega arith) ∙ getD-set-same s₁ ctrAt (nextCtr s) 0 (omega arith)) i;
+        ctr = (getD-set-other s₃ lastAt ctrAt 0 0 (omega arith) ∙ getD-set-other s₂ servedAt ctrAt (listOf k) 0 (omega arith) ∙ getD-set-same s₁ ctrAt (ctrNext s) 0 (omega arith)) i;
         served = (getD-set-other s₃ lastAt servedAt 0 0 (omega arith) ∙ getD-set-same s₂ servedAt (listOf k) 0 (omega arith)) i;
         lastAnswer = flag-zero t lastAt (getD-set-same s₃ lastAt 0 0 (omega arith)) i;
       }

@@ -28,7 +28,7 @@ use Rattle.model.specs.Model.{DaqList, Slave, runsIn, hasPacket}
 use Rattle.model.specs.Calls.{firstPacket, packetIn, turnIn, poweredUp}
 use Rattle.model.specs.View.{viewOf}
 use Rattle.model.proofs.Shown.{stored-most, stored-long, packet-by, answer-most, answer-long}
-use Rattle.model.specs.Whole.{sentAs, sentIn, slotIn}
+use Rattle.model.specs.Whole.{packetGoes, sentIn, slotIn}
 use Rattle.views.specs.Shown.{slotShown}
 use Rattle.views.proofs.Calls.{view-answerSent, view-packetSent, view-powered}
 
@@ -63,10 +63,10 @@ module _ (s out : List ℕ) (h : length s ≡ size) (fits : room ≤ length out)
   unfolding sentBy sentIn viewOf
   view-sent Nobody y w = refl
   view-sent Answer y w =
-      rw (written (answerOf s) (ctrOf s) out y (omega (arith, answer-long s h, answer-most s)) fits) (ap (sentAs (answerOf s) (ctrOf s) out) (view-answerSent s h))
+      rw (written (answerOf s) (ctrOf s) out y (omega (arith, answer-long s h, answer-most s)) fits) (ap (packetGoes (answerOf s) (ctrOf s) out) (view-answerSent s h))
   view-sent (Packet k) y w =
       let n : length (packetOf s k) ≡ suc (storedLength s k) = ap length (packet-by s k w) ∙ ap suc (stored-long s k h w) in
-      rw (written (packetOf s k) (ctrOf s) out (omega arith) (omega (arith, n, stored-most s k)) fits) (ap (sentAs (packetOf s k) (ctrOf s) out) (view-packetSent s k h w))
+      rw (written (packetOf s k) (ctrOf s) out (omega arith) (omega (arith, n, stored-most s k)) fits) (ap (packetGoes (packetOf s k) (ctrOf s) out) (view-packetSent s k h w))
 
 pub view-slot : (s out : List ℕ) → consistent s ≡ true → slotShown (slotOf s out) ≡ slotIn (viewOf s) out
 unfolding slotOf slotIn

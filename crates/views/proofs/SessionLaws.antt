@@ -28,7 +28,7 @@ use Rattle.model.specs.Answers.{replyIn, doneBy, writes}
 use Rattle.model.specs.Model.{byte, Session, blank, runsIn, someRuns}
 use Rattle.model.specs.Step.{unlock, withGenerator, withLock, withSeed, stepIn}
 use Rattle.model.specs.Calls.{poweredUp}
-use Rattle.views.specs.PoweredUp.{PoweredUp}
+use Rattle.views.specs.PoweredUp.{PowerUpLeaves}
 use Rattle.views.specs.Commands.{resourceNumber, maskFor, TheGenerator, Whether-open, TheLocks, TheSeed, TheMta, ThePointer, TheLists, AllButBoth, Fresh, CONNECT, DISCONNECT, GET-STATUS, SYNCH, Seeds, GET-SEED, UNLOCK, GET-DAQ-PROCESSOR-INFO, GET-DAQ-RESOLUTION-INFO}
 use Rattle.model.proofs.Bounded.{either}
 use Rattle.views.proofs.Taken.{four-is, fe-ff, Taken, unless, provided, branch, judged, Leads}
@@ -52,7 +52,7 @@ blank-fresh c o = record {
 
 -- ---- FD GET_STATUS
 -- ---- power-up
-pub powered-up : (start : ℕ) → PoweredUp start (poweredUp start)
+pub powered-up : (start : ℕ) → PowerUpLeaves start (poweredUp start)
 unfolding startOf
 powered-up start = record {
   closed = refl;
