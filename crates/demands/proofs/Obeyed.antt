@@ -107,7 +107,7 @@ module _ (s : List ℕ) (b : ℕ) (c : consistent s ≡ true) (w : Bytes s) (low
 
 as-model : AsModel (Obeyed ours)
 as-model p c cal meas o r =
-    r .after ∙ taken-shown (r .state) (r .last) (r .sound) (r .bytes) (r .low) p cal meas (r .ends) (r .taken) ∙ ap (λ (x : Session). commandIn p x cal meas) (sym (r .before))
+    r .leaves ∙ taken-shown (r .state) (r .last) (r .sound) (r .bytes) (r .low) p cal meas (r .ends) (r .taken) ∙ ap (λ (x : Session). commandIn p x cal meas) (sym (r .before))
 
 -- every command, of the received byte itself
 pub ours-obeys : Obeys (Obeyed ours)
@@ -125,5 +125,5 @@ heard-obeyed s cal meas b p c w low heard = record {
   ends = heard .ends;
   taken = ap (λ (o : Step). receivedNumber (o .received)) (commanded s cal meas b p c heard);
   before = refl;
-  after = refl;
+  leaves = refl;
 }

@@ -22,4 +22,4 @@ pub record Obeyed (v : AnySlave) (p : List ℕ) (c : Session) (cal meas : List �
   pub ends : packetEnded state last ≡ some p
   pub taken : receivedNumber (v .receive state cal meas last .received) ≡ 1
   pub before : c ≡ sessionOf state
-  pub after : o ≡ shown (v .receive state cal meas last .state) (v .receive state cal meas last .cal)
+  pub leaves : o ≡ shown (v .receive state cal meas last .state) (v .receive state cal meas last .cal)

@@ -89,19 +89,19 @@ module _ (s : List ℕ) (event clock : ℕ) (cal meas : List ℕ) (h : length s 
   abbrev state : ℕ → List ℕ
   state n = tally s event clock cal meas n .state
 
-  abbrev Reached : ℕ → Type 0
-  Reached n = viewOf (state n) ≡ withSession (viewOf s) (withLists now (first turned (now .list) n))
+  abbrev SoFar : ℕ → Type 0
+  SoFar n = viewOf (state n) ≡ withSession (viewOf s) (withLists now (first turned (now .list) n))
 
-  turn-by : (n : ℕ) → Reached n → samplingOf (state n) n event ≡ sampling n
+  turn-by : (n : ℕ) → SoFar n → samplingOf (state n) n event ≡ sampling n
   unfolding viewOf
   turn-by n e =
       sampling-own (sessionOf (state n)) now n event (ap (λ (v : Slave). v .session .opened) e) (ap (λ (v : Slave). v .session .list n) e ∙ first-at turned (now .list) n)
 
-  reached : (n : ℕ) → n ≤ lists → Reached n
+  so-far : (n : ℕ) → n ≤ lists → SoFar n
   unfolding tally viewOf
-  reached zero p = ap (λ (g : ℕ → DaqList). withSession (viewOf s) (withLists now g)) (sym (first-none turned (now .list)))
-  reached (suc n) p =
-      let e : Reached n = reached n (omega arith) in
+  so-far zero p = ap (λ (g : ℕ → DaqList). withSession (viewOf s) (withLists now g)) (sym (first-none turned (now .list)))
+  so-far (suc n) p =
+      let e : SoFar n = so-far n (omega arith) in
       let x : Sampling = samplingOf (state n) n event in
       view-turn (state n) n clock cal meas (only-tally s event clock cal meas n (omega arith) .long ∙ h) (omega arith) x (sampling-fits (state n) n event)
       ∙ ap (λ (v : Slave). withSession v (at n (sampledAs x n clock cal meas) (v .session))) e
@@ -109,7 +109,7 @@ module _ (s : List ℕ) (event clock : ℕ) (cal meas : List ℕ) (h : length s 
       ∙ ap (λ (g : ℕ → DaqList). withSession (viewOf s) (withLists now g)) (first-next turned (now .list) n)
 
   pub event-turn : (n : ℕ) → n ≤ lists → samplingOf (state n) n event ≡ sampling n
-  event-turn n p = turn-by n (reached n p)
+  event-turn n p = turn-by n (so-far n p)
 
   count-sampled : (n : ℕ) → n ≤ lists → tally s event clock cal meas n .sampled ≡ howMany (λ l. isSampled (sampling l)) n
   unfolding tally
@@ -129,7 +129,7 @@ module _ (s : List ℕ) (event clock : ℕ) (cal meas : List ℕ) (h : length s 
   view-tally : viewOf (state lists) ≡ withSession (viewOf s) (sampledIn now event clock cal meas)
   unfolding sampledAs
   view-tally =
-      reached lists (lit≤ tt)
+      so-far lists (lit≤ tt)
       ∙ ap (λ (g : ℕ → DaqList). withSession (viewOf s) (withLists now g)) (first-all turned (now .list) lists (λ l p. rw (unlisted l p)))
 
 pub view-event : (s cal meas : List ℕ) (event clock : ℕ) → consistent s ≡ true → eventShown (eventOf s cal meas event clock) ≡ eventIn event clock (viewOf s) cal meas

@@ -114,16 +114,16 @@ packet-waits k [] = refl
 packet-waits k (b ∷ bs) = rw (lt-ltb 0 (length (b ∷ bs)) (omega arith))
 
 module _ (l clock : ℕ) (cal meas : List ℕ) (x : DaqList) where
-  abbrev after : DaqList
-  after = sampled l clock cal meas x
+  abbrev withSample : DaqList
+  withSample = sampled l clock cal meas x
 
-  same-entry : (o : ℕ) → after .odt o .entry ≡ x .odt o .entry
+  same-entry : (o : ℕ) → withSample .odt o .entry ≡ x .odt o .entry
   same-entry o = either (ltb o (odtCount l)) (λ b. rw b) (λ b. rw b)
 
-  captured-store : (o : ℕ) → o < odtCount l → after .odt o .store ≡ contentsIn (firstOdt l + o) clock cal meas (x .odt o)
+  captured-store : (o : ℕ) → o < odtCount l → withSample .odt o .store ≡ contentsIn (firstOdt l + o) clock cal meas (x .odt o)
   captured-store o h = rw (lt-ltb o (odtCount l) h)
 
-  captured-in : (o n : ℕ) → o + n ≤ odtCount l → inStores l after o n ≡ sampleFrom l x clock cal meas o n
+  captured-in : (o n : ℕ) → o + n ≤ odtCount l → inStores l withSample o n ≡ sampleFrom l x clock cal meas o n
   unfolding inStores sampleFrom
   captured-in o zero h = refl
   captured-in o (suc n) h =
