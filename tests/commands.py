@@ -279,7 +279,7 @@ def sections(c, page, slave, situations):
             situation, _, tried = row["Shown by"].partition(" ")
             for commands in quoted(tried):
                 sent = commands.split("; ")
-                c.same(f"{heading}, {row['Check']}: the last command", sent[-1][:2] in (heading[:2], "F4", "FD", "DE"), True)
+                c.same(f"{heading}, {row['Check']}: the last command", sent[-1][:2] in (heading[:2], "F5", "F4", "FD", "DE"), True)
                 answers = slave.asked(situations[situation] + sent)
                 c.same(f"{heading}, {row['Check']}: `{commands}`", row["Answer"], (answers[-1] or b"").hex(" ").upper())
             if "session ends" in row["Check"]:

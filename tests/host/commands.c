@@ -188,6 +188,8 @@ static const struct row rows[] = {
     {__LINE__, reading, "F4 01 00 02 FF FF FF FF", "FE 22"},
     {__LINE__, reading, "F4 01 00 00 FF FF FF FF", "FE 24"},
     {__LINE__, reading, "F4 01 00 01 00 10 00 00", "FE 24"},
+    {__LINE__, connected, "F4 01 00 01 00 10 00 00", "FE 24"},
+    {__LINE__, reading_outside, "F4 07 00 00 FA 0F 00 00", "FE 24"},
     {__LINE__, busy, "F4 07 00 01 FA 0F 00 00", "FE 24"},
     /* BUILD_CHECKSUM: short, MTA unset, size, not inside */
     {__LINE__, connected, "F3", "FE 21"},
@@ -472,9 +474,9 @@ static void ignored_bytes(void)
     memcpy(r.cal + 0x100, "\x41\x42\x43\x44", 4);
     ASK(&r, "FF 00 00 00 00 00", "FD AA BB CC DD EE FF 01");
     ASK(&r, "FF 00", "F8 00 01 AA BB CC DD EE");
+    ASK(&r, "FF 43 44", "F4 02 AA 00 02 01 00 00");
     ASK(&r, "FF", "F6 AA BB 00 00 01 00 00");
     ASK(&r, "FF 41", "F5 01 AA BB CC DD EE FF");
-    ASK(&r, "FF 43 44", "F4 02 AA 00 02 01 00 00");
     ASK(&r, "FF 02 00 00 85 00 00 00", "F3 AA BB CC 02 00 00 00");
     ASK(&r, "FF", "F0 01 54 AA BB CC DD EE");
     BYTES("one byte written", (const uint8_t *)"\x41\x42\x43\x54", 4, r.cal + 0x100, 4);

@@ -17,7 +17,7 @@ static const char *const session[] = {
     "F6 00 00 00 9A 00 00 00", /* SET_MTA to 0x9A, which is sent as a pair */
     "F0 06 01 02 9A 9B 05 06", /* DOWNLOAD of bytes that are sent as pairs */
     "F0 03 9B 00 9A",
-    "F4 07 00 00 9A 00 00 00",
+    "F4 07 9A 00 9C 00 00 00", /* SHORT_UPLOAD up to where DOWNLOAD left the MTA */
     "F8 00 04",                /* lists: seed, key */
     "F7 04 04 01 E0 08",
     "E2 00 01 00 00 00",
@@ -128,10 +128,11 @@ static void acknowledge(struct witness *w, const uint8_t *answer, size_t len)
     if (c[0] == 0xFF) {
         w->open = 1;
         w->mta_set = 0;
-    } else if (c[0] == 0xF6) {
+    } else if (c[0] == 0xF6 || c[0] == 0xF4) {
         w->mta_set = 1;
         w->mta_ext = c[3];
         w->mta = c[4] | (uint32_t)c[5] << 8 | (uint32_t)c[6] << 16 | (uint32_t)c[7] << 24;
+        w->mta += (uint32_t)len - 1; /* SET_MTA's answer has no byte */
     } else if (c[0] == 0xF5) {
         w->mta += (uint32_t)len - 1;
     } else if (c[0] == 0xF3) {

@@ -26,6 +26,7 @@ static void read_to_the_end(struct rig *r, unsigned ext, const uint8_t *memory, 
         if (count <= end) {
             const char *data = answer_of(memory + end - count, count);
             ASK(r, data, "F4 %02X 00 %02X %02X %02X %02X %02X", count, ext, LE32(end - count));
+            ASK(r, "FE 24", "F5 01"); /* the MTA is at the end now */
             ASK(r, "FF", "F6 00 00 %02X %02X %02X %02X %02X", ext, LE32(end - count));
             ASK(r, data, "F5 %02X", count);
             ASK(r, "FE 24", "F5 01"); /* the MTA is at the end now */
@@ -121,7 +122,7 @@ static void every_length(void)
     }
 }
 
-/* MTA: moved by UPLOAD, DOWNLOAD and BUILD_CHECKSUM when done, and by nothing else. */
+/* MTA: moved by UPLOAD, SHORT_UPLOAD, DOWNLOAD and BUILD_CHECKSUM when done, and by nothing else. */
 static void mta_moves(void)
 {
     struct rig r;
@@ -129,8 +130,12 @@ static void mta_moves(void)
     ASK(&r, "FF", "F6 00 00 01 20 00 00 00");
     ASK(&r, answer_of(r.meas + 0x20, 3), "F5 03");
     REFUSED(&r, "FE 22", "F5 08");
-    ASK(&r, answer_of(r.meas + 0x10, 7), "F4 07 00 01 10 00 00 00");
+    REFUSED(&r, "FE 22", "F4 08 00 01 10 00 00 00");
+    REFUSED(&r, "FE 24", "F4 07 00 01 FA 0F 00 00");
     ASK(&r, answer_of(r.meas + 0x23, 7), "F5 07");
+    ASK(&r, answer_of(r.cal + 0x10, 7), "F4 07 00 00 10 00 00 00");
+    ASK(&r, answer_of(r.cal + 0x17, 2), "F5 02");
+    ASK(&r, answer_of(r.meas + 0x29, 1), "F4 01 00 01 29 00 00 00");
     REFUSED(&r, "FE 24", "F3 00 00 00 00 10 00 00");
     NUMBER("taken", 1, give(&r, "F3 00 00 00 02 00 00 00"));
     SENDS(&r, "FF 02 00 00 %02X %02X 00 00", LE16((unsigned)r.meas[0x2A] + r.meas[0x2B]));
@@ -144,6 +149,34 @@ static void mta_moves(void)
     ASK(&r, "FF", "F6 00 00 00 00 00 00 00");
     ASK(&r, "FF 05 00 08 08 00 01 01", "FF 00");
     ASK(&r, "FE 29", "F5 01"); /* a new session has it unset */
+    rig_end(&r);
+}
+
+/* A long block by SHORT_UPLOAD and then UPLOAD, up to the last byte, for every pair of counts; before it
+ * the MTA is unset, or in the other memory. */
+static void upload_goes_on(void)
+{
+    struct rig r;
+    connected(&r);
+    for (unsigned ext = 0; ext <= 1; ext++)
+        for (uint32_t first = 1; first <= 7; first++)
+            for (uint32_t second = 1; second <= 7; second++) {
+                const uint8_t *memory = ext == 0 ? r.cal : r.meas;
+                uint32_t from = 4096 - first - second;
+                check_note("extension %u, %u and %u bytes", ext, (unsigned)first, (unsigned)second);
+                ASK(&r, "FF 05 00 08 08 00 01 01", "FF 00");
+                REFUSED(&r, "FE 24", "F4 %02X 00 %02X %02X %02X %02X %02X", first, ext,
+                        LE32(4097 - first));
+                REFUSED(&r, "FE 29", "F5 %02X", second); /* still unset */
+                if (first > second)
+                    ASK(&r, "FF", "F6 00 00 %02X 40 00 00 00", 1 - ext);
+                ASK(&r, answer_of(memory + from, first), "F4 %02X 00 %02X %02X %02X %02X %02X",
+                    first, ext, LE32(from));
+                NUMBER("nothing to sample", 0, event(&r, 0, 7));
+                ASK(&r, answer_of(memory + from + first, second), "F5 %02X", second);
+                REFUSED(&r, "FE 24", "F5 01"); /* the MTA is at the end now */
+            }
+    check_note("%s", "");
     rig_end(&r);
 }
 
@@ -201,6 +234,7 @@ void test_memory(void)
 {
     every_length();
     mta_moves();
+    upload_goes_on();
     longest_sum();
     other_lengths();
     locked_writes();

@@ -33,7 +33,7 @@ use Rattle.model.specs.declared.Sampling.the-variants.{Idle, Sampled, Missed}
 use Rattle.words.specs.declared.Received.{Received}
 use Rattle.words.specs.declared.Received.the-variants.{Nothing, Silent, BadLength, BadEscape, BadChecksum, Unread, CutOff, NoState}
 use Rattle.model.specs.declared.Deed.{Deed}
-use Rattle.model.specs.declared.Deed.the-variants.{Refuse, RefuseSize, WrongKey, Connect, Disconnect, Status, Synch, NoSeed, GiveSeed, Unlock, SetMta, Upload, ShortUpload, Checksum, Download, ClearList, SetPointer, ClearEntry, WriteEntry, SetMode, Stop, Start, KeepRunning, Select, StopAll, StartSelected, StopSelected, ProcessorInfo, ResolutionInfo}
+use Rattle.model.specs.declared.Deed.the-variants.{Refuse, RefuseSize, WrongKey, Connect, Disconnect, Status, Synch, NoSeed, GiveSeed, Unlock, SetMta, Upload, Checksum, Download, ClearList, SetPointer, ClearEntry, WriteEntry, SetMode, Stop, Start, KeepRunning, Select, StopAll, StartSelected, StopSelected, ProcessorInfo, ResolutionInfo}
 use Rattle.state.proofs.Inside.{inside-le}
 use Rattle.session.proofs.Data.{block-block}
 use Rattle.look.proofs.Looked.{judged-doable}
@@ -130,7 +130,6 @@ reply-cut (GiveSeed r) long s cal meas o = refl
 reply-cut (Unlock r) long s cal meas o = refl
 reply-cut (SetMta e a) long s cal meas o = refl
 reply-cut (Upload e a n) long s cal meas o = rw (inside-cut e cal meas uploadMost a n o)
-reply-cut (ShortUpload e a n) long s cal meas o = rw (inside-cut e cal meas uploadMost a n o)
 reply-cut (Checksum e a n) long s cal meas o = rw (inside-cut e cal meas addressable a n o)
 reply-cut (Download a n) long s cal meas o = refl
 reply-cut (ClearList l) long s cal meas o = refl

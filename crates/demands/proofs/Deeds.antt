@@ -13,7 +13,7 @@ use Rattle.state.specs.Layout.{listOf}
 use Rattle.model.specs.Model.{noEntry, DaqList, noList, Session, fits, runs, runsIn, waiting, waitingIn}
 use Rattle.model.specs.Step.{at, stopIt, clear, setMode, setEntry, odtIn, switch, select, startIfSelected, stopIfSelected, stepIn}
 use Rattle.model.specs.declared.Deed.{Deed}
-use Rattle.model.specs.declared.Deed.the-variants.{Refuse, RefuseSize, WrongKey, Connect, Disconnect, Status, Synch, NoSeed, GiveSeed, Unlock, SetMta, Upload, ShortUpload, Checksum, Download, ClearList, SetPointer, ClearEntry, WriteEntry, SetMode, Stop, Start, KeepRunning, Select, StopAll, StartSelected, StopSelected, ProcessorInfo, ResolutionInfo}
+use Rattle.model.specs.declared.Deed.the-variants.{Refuse, RefuseSize, WrongKey, Connect, Disconnect, Status, Synch, NoSeed, GiveSeed, Unlock, SetMta, Upload, Checksum, Download, ClearList, SetPointer, ClearEntry, WriteEntry, SetMode, Stop, Start, KeepRunning, Select, StopAll, StartSelected, StopSelected, ProcessorInfo, ResolutionInfo}
 use Rattle.model.proofs.Fits.{runs-same}
 use Rattle.views.proofs.Parts.{put-by}
 use Rattle.views.proofs.Waits.{waits-alike, rests, none-waits}
@@ -93,7 +93,6 @@ step-waiting (GiveSeed r) p c l found e = refl
 step-waiting (Unlock r) p c l found e = refl
 step-waiting (SetMta x a) p c l found e = refl
 step-waiting (Upload x a m) p c l found e = refl
-step-waiting (ShortUpload x a m) p c l found e = refl
 step-waiting (Checksum x a m) p c l found e = refl
 step-waiting (Download a m) p c l found e = refl
 step-waiting (ClearList j) p c l found e = resting c j l clear found refl
@@ -126,7 +125,6 @@ step-stops (GiveSeed r) c l e = absurd (false-true e)
 step-stops (Unlock r) c l e = absurd (false-true e)
 step-stops (SetMta x a) c l e = absurd (false-true e)
 step-stops (Upload x a m) c l e = absurd (false-true e)
-step-stops (ShortUpload x a m) c l e = absurd (false-true e)
 step-stops (Checksum x a m) c l e = absurd (false-true e)
 step-stops (Download a m) c l e = absurd (false-true e)
 step-stops (ClearList j) c l e = absurd (false-true e)

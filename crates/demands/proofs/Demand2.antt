@@ -9,6 +9,7 @@ use Rattle.demands.proofs.Keys.{seed-opens}
 use Rattle.demands.proofs.Opening.{opens-by-key, life-keyless}
 use Rattle.demands.proofs.Cut.{cut, cutEvent}
 use Rattle.demands.proofs.Downloads.{gives-back}
+use Rattle.demands.proofs.ReadsOn.{sets-mta, goes-on}
 use Rattle.demands.proofs.Life.{life-locked, gives-back-later, life-numbered}
 use Rattle.demands.proofs.Events.{counts, samples, stores, others, storesOnly}
 
@@ -30,6 +31,8 @@ demand2 =
       cutEvent = cutEvent;
       givesBack = gives-back;
       givesBackLater = gives-back-later;
+      setsMta = sets-mta;
+      goesOn = goes-on;
       unlocks = unlocks-own;
       opensByKey = opens-by-key;
       seedOpens = seed-opens;

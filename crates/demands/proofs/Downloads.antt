@@ -17,12 +17,13 @@ use Rattle.model.specs.View.{sessionOf, viewOf}
 use Rattle.state.specs.Layout.{uploadMost, downloadMost}
 use Rattle.line.proofs.Laws.{cond-ind}
 use Rattle.state.specs.Bytes.{block, u16At}
-use Rattle.state.specs.Memory.{insideOf}
+use Rattle.state.specs.Memory.{pick, insideOf}
 use Rattle.state.specs.State.{consistent}
 use Rattle.words.specs.Command.{commandOf, needsOf}
 use Rattle.model.specs.Seen.{numbersOf}
 use Rattle.session.specs.Receive.{Step, receiveOf}
 use Rattle.words.specs.declared.Command.the-variants as command
+use Rattle.words.specs.declared.Extension.{Extension}
 use Rattle.words.specs.declared.Extension.the-variants.{Calibration}
 use Rattle.words.specs.declared.Mta.{Mta}
 use Rattle.words.specs.declared.Mta.the-variants.{At}
@@ -96,9 +97,9 @@ unfolding judgeIn judge judgeBy judgeThe commandOf uploadDeed
 upload-judged q c a n nc nm code there count z few inside =
     simp (code, le-ltb (length q) 2 (there-is q n count z), there, count, ne-eqb n 0 z, le-ltb uploadMost n few, inside)
 
-upload-says : (a n : ℕ) (c : Session) (cal meas : List ℕ) → replyIn (Upload Calibration a n) c cal meas ≡ 0xFF ∷ block cal a n
+pub upload-says : (x : Extension) (a n : ℕ) (c : Session) (cal meas : List ℕ) → replyIn (Upload x a n) c cal meas ≡ 0xFF ∷ block (pick x cal meas) a n
 unfolding replyIn
-upload-says a n c cal meas = refl
+upload-says x a n c cal meas = refl
 
 download-writes : (a n : ℕ) (p cal : List ℕ) → written (Download a n) p cal ≡ sets cal a (block p 2 n)
 unfolding writes
@@ -110,7 +111,7 @@ pub uploaded : (t mem meas : List ℕ) (c : ℕ) (q : List ℕ) (a n : ℕ) → 
 uploaded t mem meas c q a n v up z few inside =
     let judged : deedIn q (sessionOf t) mem meas ≡ Upload Calibration a n =
     upload-judged q (sessionOf t) a n (length mem) (length meas) (up .code) (up .place) (up .count) z (omega arith) inside in
-    command-answer t mem meas c q v (up .command) ∙ ap (λ (d : Deed). replyIn d (sessionOf t) mem meas) judged ∙ upload-says a n (sessionOf t) mem meas
+    command-answer t mem meas c q v (up .command) ∙ ap (λ (d : Deed). replyIn d (sessionOf t) mem meas) judged ∙ upload-says Calibration a n (sessionOf t) mem meas
 
 -- ---- one after the other
 -- what DOWNLOAD that is answered FF leaves

@@ -16,7 +16,6 @@ use Rattle.words.specs.declared.Command.{Command}
 use Rattle.words.specs.declared.Command.the-variants as command
 use Rattle.words.specs.declared.Resource.{Resource}
 use Rattle.words.specs.declared.Resource.the-variants.{Calibration}
-use Rattle.words.specs.declared.Extension.{Extension}
 use Rattle.words.specs.declared.Extension.the-variants.{Calibration as CalibrationMemory}
 use Rattle.words.specs.declared.Seed.{Seed}
 use Rattle.words.specs.declared.Seed.the-variants.{For}
@@ -24,7 +23,7 @@ use Rattle.words.specs.declared.Mta.the-variants.{At}
 use Rattle.words.specs.declared.Pointer.{Pointer}
 use Rattle.model.specs.declared.Deed.{Deed}
 use Rattle.model.specs.Seen.{numbersOf, Seen}
-use Rattle.model.specs.declared.Deed.the-variants.{Refuse, RefuseSize, WrongKey, Connect, Disconnect, Status, Synch, NoSeed, GiveSeed, Unlock, SetMta, Upload, ShortUpload, Checksum, Download, ClearList, SetPointer, ClearEntry, WriteEntry, SetMode, Stop, Start, KeepRunning, Select, StopAll, StartSelected, StopSelected, ProcessorInfo, ResolutionInfo}
+use Rattle.model.specs.declared.Deed.the-variants.{Refuse, RefuseSize, WrongKey, Connect, Disconnect, Status, Synch, NoSeed, GiveSeed, Unlock, SetMta, Upload, Checksum, Download, ClearList, SetPointer, ClearEntry, WriteEntry, SetMode, Stop, Start, KeepRunning, Select, StopAll, StartSelected, StopSelected, ProcessorInfo, ResolutionInfo}
 use Rattle.views.proofs.Fit.{entry-low}
 use Rattle.views.proofs.Stepped.{Entered}
 use Rattle.demands.specs.Heard.{bringsKey, keyMatches, wrongKeyBy, wrongKey}
@@ -42,12 +41,6 @@ pub record Downloading (a n : ℕ) (p : List ℕ) (c : Session) : Type 0 where
   pub unlocked : c .unlocked Calibration ≡ true
   pub place : c .mta ≡ At CalibrationMemory a
   pub code : byte p 0 ≡ 0xF0
-  pub count : byte p 1 ≡ n
-
--- UPLOAD of n bytes from where the MTA is
-pub record Uploading (e : Extension) (a n : ℕ) (p : List ℕ) (c : Session) : Type 0 where
-  pub place : c .mta ≡ At e a
-  pub code : byte p 0 ≡ 0xF5
   pub count : byte p 1 ≡ n
 
 -- WRITE_DAQ to an entry of a list that does not run; it fits in the bytes that it is stored in
@@ -69,8 +62,7 @@ Found NoSeed p c = Unit
 Found (GiveSeed r) p c = Unit
 Found (Unlock r) p c = RightKey r p c
 Found (SetMta e a) p c = Unit
-Found (Upload e a n) p c = Uploading e a n p c
-Found (ShortUpload e a n) p c = Unit
+Found (Upload e a n) p c = Unit
 Found (Checksum e a n) p c = Unit
 Found (Download a n) p c = Downloading a n p c
 Found (ClearList l) p c = runsIn c l ≡ false
@@ -117,7 +109,7 @@ module _ (p : List ℕ) (c : Session) (nc nm : ℕ) where
   by-verdict _ _ code (unlocks r w right) = record { seed = w .seed; key = key-found p seen r code w; right = right }
   by-verdict _ _ code (wrong r w off) = wrong-found (c .seed) r p c (w .seed) (key-found p seen r code w) off
   by-verdict _ _ code sets = tt
-  by-verdict _ _ code (uploads x a there inside) = record { place = there; code = code; count = refl }
+  by-verdict _ _ code (uploads x a there inside) = tt
   by-verdict _ _ code (shorts inside) = tt
   by-verdict _ _ code no-size = tt
   by-verdict _ _ code (sums x a there inside) = tt

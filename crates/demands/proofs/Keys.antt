@@ -54,16 +54,24 @@ pub record Alike (c d : Session) : Type 0 where
   pub opened : d .opened ≡ c .opened
   pub seed : d .seed ≡ c .seed
   pub unlocked : d .unlocked ≡ c .unlocked
+  pub mta : d .mta ≡ c .mta
 
 alike-self : {c : Session} → Alike c c
-alike-self = record { generator = refl; opened = refl; seed = refl; unlocked = refl }
+alike-self = record { generator = refl; opened = refl; seed = refl; unlocked = refl; mta = refl }
 
 alike-then : {c d e : Session} → Alike c d → Alike d e → Alike c e
-alike-then p q = record { generator = q .generator ∙ p .generator; opened = q .opened ∙ p .opened; seed = q .seed ∙ p .seed; unlocked = q .unlocked ∙ p .unlocked }
+alike-then p q = record { generator = q .generator ∙ p .generator; opened = q .opened ∙ p .opened; seed = q .seed ∙ p .seed; unlocked = q .unlocked ∙ p .unlocked; mta = q .mta ∙ p .mta }
 
 -- a change of the lists alone, or none
 alike-lists : {c d : Session} (f : ℕ → DaqList) → d ≡ withLists c f → Alike c d
-alike-lists f e = record { generator = ap (λ (x : Session). x .generator) e; opened = ap (λ (x : Session). x .opened) e; seed = ap (λ (x : Session). x .seed) e; unlocked = ap (λ (x : Session). x .unlocked) e }
+alike-lists f e =
+    record {
+      generator = ap (λ (x : Session). x .generator) e;
+      opened = ap (λ (x : Session). x .opened) e;
+      seed = ap (λ (x : Session). x .seed) e;
+      unlocked = ap (λ (x : Session). x .unlocked) e;
+      mta = ap (λ (x : Session). x .mta) e;
+    }
 
 turn-alike : (t : Turn) (s u : List ℕ) → viewOf u ≡ turned t (viewOf s) → Alike (sessionOf s) (sessionOf u)
 unfolding viewOf
@@ -82,7 +90,7 @@ slot-alike s out c = elim (decLe room (length out)) [ yes r ↦ with-room r | no
 pub event-alike : (s cal meas : List ℕ) (event clock : ℕ) → Alike (sessionOf s) (sessionOf (eventOf s cal meas event clock .state))
 event-alike s cal meas event clock = alike-lists _ (event-lists s cal meas event clock)
 
-run-alike : (cs : List Call) (s : List ℕ) → consistent s ≡ true → Uncommanded ours s cs → Alike (sessionOf s) (sessionOf (run ours s cs)) × (consistent (run ours s cs) ≡ true)
+pub run-alike : (cs : List Call) (s : List ℕ) → consistent s ≡ true → Uncommanded ours s cs → Alike (sessionOf s) (sessionOf (run ours s cs)) × (consistent (run ours s cs) ≡ true)
 run-alike [] s c u = (alike-self, c)
 run-alike (Byte cal meas b ∷ cs) s c u =
     let t : List ℕ = receiveOf s cal meas b .state in

@@ -21,6 +21,7 @@ pub mod Locks
 pub mod Keys
 pub mod Opening
 pub mod Downloads
+pub mod ReadsOn
 pub mod Life
 pub mod CutJudge
 pub mod Cut

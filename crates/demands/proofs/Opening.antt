@@ -26,7 +26,7 @@ use Rattle.lists.specs.Slot.{slotOf}
 use Rattle.words.specs.declared.Resource.{Resource}
 use Rattle.words.specs.declared.Resource.the-variants.{Calibration, Lists}
 use Rattle.model.specs.declared.Deed.{Deed}
-use Rattle.model.specs.declared.Deed.the-variants.{Refuse, RefuseSize, WrongKey, Connect, Disconnect, Status, Synch, NoSeed, GiveSeed, Unlock, SetMta, Upload, ShortUpload, Checksum, Download, ClearList, SetPointer, ClearEntry, WriteEntry, SetMode, Stop, Start, KeepRunning, Select, StopAll, StartSelected, StopSelected, ProcessorInfo, ResolutionInfo}
+use Rattle.model.specs.declared.Deed.the-variants.{Refuse, RefuseSize, WrongKey, Connect, Disconnect, Status, Synch, NoSeed, GiveSeed, Unlock, SetMta, Upload, Checksum, Download, ClearList, SetPointer, ClearEntry, WriteEntry, SetMode, Stop, Start, KeepRunning, Select, StopAll, StartSelected, StopSelected, ProcessorInfo, ResolutionInfo}
 use Rattle.state.proofs.Consistent.{consistent-size}
 use Rattle.fields.proofs.Stores.{put32-out}
 use Rattle.demands.specs.Heard.{readBy}
@@ -72,7 +72,6 @@ opens (GiveSeed x) p c r f e = inr e
 opens (Unlock x) p c r f e = unlock-opens x r p c f e
 opens (SetMta x a) p c r f e = inr e
 opens (Upload x a m) p c r f e = inr e
-opens (ShortUpload x a m) p c r f e = inr e
 opens (Checksum x a m) p c r f e = inr e
 opens (Download a m) p c r f e = inr e
 opens (ClearList l) p c r f e = inr e

@@ -19,7 +19,7 @@ use Rattle.words.specs.declared.Resource.{Resource}
 use Rattle.words.specs.declared.Seed.{Seed}
 use Rattle.words.specs.declared.Seed.the-variants.{None, For}
 use Rattle.model.specs.declared.Deed.{Deed}
-use Rattle.model.specs.declared.Deed.the-variants.{Refuse, RefuseSize, WrongKey, Connect, Disconnect, Status, Synch, NoSeed, GiveSeed, Unlock, SetMta, Upload, ShortUpload, Checksum, Download, ClearList, SetPointer, ClearEntry, WriteEntry, SetMode, Stop, Start, KeepRunning, Select, StopAll, StartSelected, StopSelected, ProcessorInfo, ResolutionInfo}
+use Rattle.model.specs.declared.Deed.the-variants.{Refuse, RefuseSize, WrongKey, Connect, Disconnect, Status, Synch, NoSeed, GiveSeed, Unlock, SetMta, Upload, Checksum, Download, ClearList, SetPointer, ClearEntry, WriteEntry, SetMode, Stop, Start, KeepRunning, Select, StopAll, StartSelected, StopSelected, ProcessorInfo, ResolutionInfo}
 use Rattle.demands.specs.Heard.{bringsKey, keyMatches, wrongKeyBy, wrongKey}
 
 -- ---- what is answered FE
@@ -46,7 +46,6 @@ refusal (GiveSeed r) p c s cal meas n e = absurd (ff-fe e)
 refusal (Unlock r) p c s cal meas n e = absurd (ff-fe e)
 refusal (SetMta x a) p c s cal meas n e = absurd (ff-fe e)
 refusal (Upload x a m) p c s cal meas n e = absurd (ff-fe e)
-refusal (ShortUpload x a m) p c s cal meas n e = record { state = refl; memory = refl }
 refusal (Checksum x a m) p c s cal meas n e = absurd (ff-fe e)
 refusal (Download a m) p c s cal meas n e = absurd (ff-fe e)
 refusal (ClearList l) p c s cal meas n e = absurd (ff-fe e)

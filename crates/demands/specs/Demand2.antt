@@ -14,6 +14,7 @@ use Rattle.line.specs.Wire.{heard}
 use Rattle.line.specs.declared.Place.{Place}
 use Rattle.state.specs.Layout.{lists, odts, addressable, sampleSize, sampleAt, firstOdt, size}
 use Rattle.state.specs.Bytes.{block, bytes32, u32At}
+use Rattle.state.specs.Memory.{pick}
 use Rattle.state.specs.State.{consistent, bitOf}
 use Rattle.session.specs.Receive.{Step, fedOf, receivedBy}
 use Rattle.lists.specs.Event.{captured}
@@ -27,6 +28,7 @@ use Rattle.words.specs.declared.Mta.the-variants.{At}
 use Rattle.words.specs.declared.Seed.the-variants.{For}
 use Rattle.model.specs.declared.Deed.the-variants.{Download}
 use Rattle.model.specs.declared.Sampling.the-variants.{Sampled}
+use Rattle.model.specs.Judge.{extensionFrom}
 use Rattle.model.specs.Model.{byte, Session}
 use Rattle.model.specs.Calls.{turnIn, packetFor, samplingIn}
 use Rattle.model.specs.Whole.{countedIn}
@@ -80,6 +82,12 @@ pub record Uploads (s : List ℕ) (b : ℕ) (p : List ℕ) (a n : ℕ) : Type 0 
   pub code : byte p 0 ≡ 0xF5
   pub count : byte p 1 ≡ n
   pub place : sessionOf s .mta ≡ At CalibrationMemory a
+
+-- byte b ends a command with that code, which is answered FF and these bytes
+pub record Brings (v : AnySlave) (number : ℕ) (s cal meas : List ℕ) (b : ℕ) (p bs : List ℕ) : Type 0 where
+  pub command : Commands s b p
+  pub code : byte p 0 ≡ number
+  pub answer : viewOf (v .receive s cal meas b .state) .answer ≡ 0xFF ∷ bs
 
 -- ---- over a life
 -- the frames that are to go, of which i have gone since the power came on: the CTR is i, modulo 256
@@ -184,6 +192,14 @@ pub record Demand2 (v : AnySlave) : Type 0 where
       → Downloads (h .state) b p a n → viewOf (passed v h (Hears meas b) .state) .answer ≡ 0xFF ∷ [] → OfBytes (Spares a n) v (passed v h (Hears meas b)) between
       → Uploads (lived v (passed v h (Hears meas b)) between .state) c q a n
       → viewOf (passed v (lived v (passed v h (Hears meas b)) between) (Hears meas′ c) .state) .answer ≡ 0xFF ∷ block p 2 n
+  -- SHORT_UPLOAD that is done sets the MTA behind its block, wherever it was, or unset
+  pub setsMta : (s cal meas : List ℕ) (b : ℕ) (p bs : List ℕ) → consistent s ≡ true → Brings v 0xF4 s cal meas b p bs
+      → sessionOf (v .receive s cal meas b .state) .mta ≡ At (extensionFrom (byte p 3)) (u32At p 4 + byte p 1)
+  -- so UPLOAD, the next command whenever it comes, goes on there: both done and lent the same memories, their bytes together are the block of both lengths
+  pub goesOn : (s cal meas : List ℕ) (b : ℕ) (p first : List ℕ) (between : List Call) (c : ℕ) (q second : List ℕ) → consistent s ≡ true
+      → Brings v 0xF4 s cal meas b p first → Uncommanded v (v .receive s cal meas b .state) between
+      → Brings v 0xF5 (run v (v .receive s cal meas b .state) between) cal meas c q second
+      → first ++ second ≡ block (pick (extensionFrom (byte p 3)) cal meas) (u32At p 4) (byte p 1 + byte q 1)
   -- a right key unlocks its own resource alone
   pub unlocks : (s cal meas : List ℕ) (b : ℕ) (p : List ℕ) (r : Resource) → consistent s ≡ true
       → Commands s b p → sessionOf s .seed ≡ For r → bringsKey p ≡ true → keyMatches p r (sessionOf s) ≡ true

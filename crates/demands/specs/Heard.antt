@@ -21,7 +21,7 @@ use Rattle.words.specs.declared.Resource.{Resource}
 use Rattle.words.specs.declared.Seed.{Seed}
 use Rattle.words.specs.declared.Seed.the-variants.{None, For}
 use Rattle.model.specs.declared.Deed.{Deed}
-use Rattle.model.specs.declared.Deed.the-variants.{Refuse, RefuseSize, WrongKey, Connect, Disconnect, Status, Synch, NoSeed, GiveSeed, Unlock, SetMta, Upload, ShortUpload, Checksum, Download, ClearList, SetPointer, ClearEntry, WriteEntry, SetMode, Stop, Start, KeepRunning, Select, StopAll, StartSelected, StopSelected, ProcessorInfo, ResolutionInfo}
+use Rattle.model.specs.declared.Deed.the-variants.{Refuse, RefuseSize, WrongKey, Connect, Disconnect, Status, Synch, NoSeed, GiveSeed, Unlock, SetMta, Upload, Checksum, Download, ClearList, SetPointer, ClearEntry, WriteEntry, SetMode, Stop, Start, KeepRunning, Select, StopAll, StartSelected, StopSelected, ProcessorInfo, ResolutionInfo}
 
 -- the packet of a good message that has just ended
 abbrev pub packetBy : Outcome → List ℕ → Option (List ℕ)
@@ -102,7 +102,6 @@ stops l (GiveSeed r) c = false
 stops l (Unlock r) c = false
 stops l (SetMta e a) c = false
 stops l (Upload e a n) c = false
-stops l (ShortUpload e a n) c = false
 stops l (Checksum e a n) c = false
 stops l (Download a n) c = false
 stops l (ClearList j) c = false

@@ -23,7 +23,7 @@ use Rattle.words.specs.declared.Seed.the-variants.{None, For}
 use Rattle.words.specs.declared.Mta.{Mta}
 use Rattle.words.specs.declared.Pointer.{Pointer}
 use Rattle.model.specs.declared.Deed.{Deed}
-use Rattle.model.specs.declared.Deed.the-variants.{Refuse, RefuseSize, WrongKey, Connect, Disconnect, Status, Synch, NoSeed, GiveSeed, Unlock, SetMta, Upload, ShortUpload, Checksum, Download, ClearList, SetPointer, ClearEntry, WriteEntry, SetMode, Stop, Start, KeepRunning, Select, StopAll, StartSelected, StopSelected, ProcessorInfo, ResolutionInfo}
+use Rattle.model.specs.declared.Deed.the-variants.{Refuse, RefuseSize, WrongKey, Connect, Disconnect, Status, Synch, NoSeed, GiveSeed, Unlock, SetMta, Upload, Checksum, Download, ClearList, SetPointer, ClearEntry, WriteEntry, SetMode, Stop, Start, KeepRunning, Select, StopAll, StartSelected, StopSelected, ProcessorInfo, ResolutionInfo}
 use Rattle.fields.proofs.Fields.{kindly, Answering, answer-same, waits-answered}
 use Rattle.fields.proofs.Frames.{Only, only-none, only-then, only-wider, only-set, only-put16, only-cleared, only-generator, only-lock, only-seed, only-mta, only-pointer, only-closed, only-fresh}
 use Rattle.fields.proofs.Readers.{Same, apart, same-then, same-part, place-reads, message-reads}
@@ -135,7 +135,6 @@ effected (Unlock r) s n nc nm h =
     within (only-then (only-wider (lit≤ tt) (lit≤ tt) (only-lock s r 1)) (only-wider (lit≤ tt) (lit≤ tt) (only-seed (set s (lockAt r) 1) None)))
 effected (SetMta e a) s n nc nm h = mta s _
 effected (Upload e a m) s n nc nm h = mta s _
-effected (ShortUpload e a m) s n nc nm h = none
 effected (Checksum e a m) s n nc nm h = mta s _
 effected (Download a m) s n nc nm h = mta s _
 effected (ClearList l) s n nc nm h = listed (only-wider (lit≤ tt) (lit≤ tt) (only-listCleared s l h))
@@ -187,7 +186,6 @@ answering (GiveSeed r) s cal meas n h = short tt tt tt
 answering (Unlock r) s cal meas n h = short tt tt tt
 answering (SetMta e a) s cal meas n h = short tt tt tt
 answering (Upload e a m) s cal meas n h = uploaded (pick e cal meas) a m (h .0)
-answering (ShortUpload e a m) s cal meas n h = uploaded (pick e cal meas) a m (h .0)
 answering (Checksum e a m) s cal meas n h = short tt tt tt
 answering (Download a m) s cal meas n h = short tt tt tt
 answering (ClearList l) s cal meas n h = short tt tt tt

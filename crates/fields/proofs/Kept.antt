@@ -37,7 +37,7 @@ use Rattle.model.specs.declared.Sampling.the-variants.{Idle, Sampled, Missed}
 use Rattle.model.specs.declared.Turn.{Turn}
 use Rattle.model.specs.declared.Turn.the-variants.{Nobody, Answer, Packet}
 use Rattle.model.specs.declared.Deed.{Deed}
-use Rattle.model.specs.declared.Deed.the-variants.{Refuse, RefuseSize, WrongKey, Connect, Disconnect, Status, Synch, NoSeed, GiveSeed, Unlock, SetMta, Upload, ShortUpload, Checksum, Download, ClearList, SetPointer, ClearEntry, WriteEntry, SetMode, Stop, Start, KeepRunning, Select, StopAll, StartSelected, StopSelected, ProcessorInfo, ResolutionInfo}
+use Rattle.model.specs.declared.Deed.the-variants.{Refuse, RefuseSize, WrongKey, Connect, Disconnect, Status, Synch, NoSeed, GiveSeed, Unlock, SetMta, Upload, Checksum, Download, ClearList, SetPointer, ClearEntry, WriteEntry, SetMode, Stop, Start, KeepRunning, Select, StopAll, StartSelected, StopSelected, ProcessorInfo, ResolutionInfo}
 use Rattle.state.proofs.Sets.{block-length}
 use Rattle.state.proofs.Consistent.{consistent-size}
 use Rattle.fields.proofs.Stores.{take-sets}
@@ -191,7 +191,6 @@ marked-effect (GiveSeed r) s =
 marked-effect (Unlock r) s = marked-then (marked-only (lit≤ tt) (only-lock s r 1)) (marked-seed (set s (lockAt r) 1) None)
 marked-effect (SetMta e a) s = marked-mta s _
 marked-effect (Upload e a n) s = marked-mta s _
-marked-effect (ShortUpload e a n) s = marked-none
 marked-effect (Checksum e a n) s = marked-mta s _
 marked-effect (Download a n) s = marked-mta s _
 marked-effect (ClearList l) s = marked-listCleared s l

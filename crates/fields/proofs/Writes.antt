@@ -3,7 +3,7 @@ use Prim.Native.Nat.{ℕ}
 use mathlib.Core.Path.{_≡_, refl}
 use mathlib.Core.Option.{none}
 use Rattle.model.specs.declared.Deed.{Deed}
-use Rattle.model.specs.declared.Deed.the-variants.{Refuse, RefuseSize, WrongKey, Connect, Disconnect, Status, Synch, NoSeed, GiveSeed, Unlock, SetMta, Upload, ShortUpload, Checksum, Download, ClearList, SetPointer, ClearEntry, WriteEntry, SetMode, Stop, Start, KeepRunning, Select, StopAll, StartSelected, StopSelected, ProcessorInfo, ResolutionInfo}
+use Rattle.model.specs.declared.Deed.the-variants.{Refuse, RefuseSize, WrongKey, Connect, Disconnect, Status, Synch, NoSeed, GiveSeed, Unlock, SetMta, Upload, Checksum, Download, ClearList, SetPointer, ClearEntry, WriteEntry, SetMode, Stop, Start, KeepRunning, Select, StopAll, StartSelected, StopSelected, ProcessorInfo, ResolutionInfo}
 use Rattle.model.specs.Answers.{writes}
 
 module _ (P : Deed → Type 0) (nothing : (d : Deed) → writes d ≡ none → P d) (download : (a n : ℕ) → P (Download a n)) where
@@ -21,7 +21,6 @@ module _ (P : Deed → Type 0) (nothing : (d : Deed) → writes d ≡ none → P
   by-write (Unlock r) = nothing (Unlock r) refl
   by-write (SetMta e a) = nothing (SetMta e a) refl
   by-write (Upload e a n) = nothing (Upload e a n) refl
-  by-write (ShortUpload e a n) = nothing (ShortUpload e a n) refl
   by-write (Checksum e a n) = nothing (Checksum e a n) refl
   by-write (Download a n) = download a n
   by-write (ClearList l) = nothing (ClearList l) refl

@@ -5,7 +5,7 @@ use mathlib.Core.Bool.{true}
 use Rattle.state.specs.Layout.{lists, entryCount, allOdts, events, uploadMost, downloadMost, addressable}
 use Rattle.state.specs.Memory.{pick, insideOf}
 use Rattle.model.specs.declared.Deed.{Deed}
-use Rattle.model.specs.declared.Deed.the-variants.{Refuse, RefuseSize, WrongKey, Connect, Disconnect, Status, Synch, NoSeed, GiveSeed, Unlock, SetMta, Upload, ShortUpload, Checksum, Download, ClearList, SetPointer, ClearEntry, WriteEntry, SetMode, Stop, Start, KeepRunning, Select, StopAll, StartSelected, StopSelected, ProcessorInfo, ResolutionInfo}
+use Rattle.model.specs.declared.Deed.the-variants.{Refuse, RefuseSize, WrongKey, Connect, Disconnect, Status, Synch, NoSeed, GiveSeed, Unlock, SetMta, Upload, Checksum, Download, ClearList, SetPointer, ClearEntry, WriteEntry, SetMode, Stop, Start, KeepRunning, Select, StopAll, StartSelected, StopSelected, ProcessorInfo, ResolutionInfo}
 
 -- m bytes from a, at most `most` of them, lie inside a memory of that length
 abbrev pub Inside : ℕ → ℕ → ℕ → ℕ → Type 0
@@ -24,7 +24,6 @@ Doable (GiveSeed r) n nc nm = Unit
 Doable (Unlock r) n nc nm = Unit
 Doable (SetMta e a) n nc nm = Unit
 Doable (Upload e a m) n nc nm = Inside uploadMost a m (pick e nc nm)
-Doable (ShortUpload e a m) n nc nm = Inside uploadMost a m (pick e nc nm)
 Doable (Checksum e a m) n nc nm = Inside addressable a m (pick e nc nm)
 Doable (Download a m) n nc nm = (m + 2 ≤ n) × Inside downloadMost a m nc
 Doable (ClearList l) n nc nm = l < lists

@@ -127,7 +127,7 @@ pub fn short_upload(n: u8, extension: u8, address: u32, nc: usize, nm: usize) ->
     }
     let from = extension_from(extension);
     if inside(address, n as u32, length_of(from, nc, nm)) {
-        Deed::ShortUpload(from, address, n)
+        Deed::Upload(from, address, n)
     } else {
         Deed::Refuse(Reason::NotInside)
     }

@@ -14,7 +14,7 @@ use Rattle.words.specs.Command.{codeOf}
 use Rattle.words.specs.declared.Reason.the-variants as reason
 use Rattle.model.specs.Judge.{judgeIn}
 use Rattle.model.specs.declared.Deed.{Deed}
-use Rattle.model.specs.declared.Deed.the-variants.{Refuse, RefuseSize, WrongKey, Connect, Disconnect, Status, Synch, NoSeed, GiveSeed, Unlock, SetMta, Upload, ShortUpload, Checksum, Download, ClearList, SetPointer, ClearEntry, WriteEntry, SetMode, Stop, Start, KeepRunning, Select, StopAll, StartSelected, StopSelected, ProcessorInfo, ResolutionInfo}
+use Rattle.model.specs.declared.Deed.the-variants.{Refuse, RefuseSize, WrongKey, Connect, Disconnect, Status, Synch, NoSeed, GiveSeed, Unlock, SetMta, Upload, Checksum, Download, ClearList, SetPointer, ClearEntry, WriteEntry, SetMode, Stop, Start, KeepRunning, Select, StopAll, StartSelected, StopSelected, ProcessorInfo, ResolutionInfo}
 use Rattle.model.specs.Model.{Session, someRuns}
 use Rattle.model.specs.Step.{unlock, stepIn}
 
@@ -32,7 +32,6 @@ replyIn (GiveSeed r) c cal meas = 0xFF ∷ 0x04 ∷ bytes32 (nextOf (c .generato
 replyIn (Unlock r) c cal meas = 0xFF ∷ maskBy (unlock r (c .unlocked)) ∷ []
 replyIn (SetMta e a) c cal meas = 0xFF ∷ []
 replyIn (Upload e a n) c cal meas = 0xFF ∷ block (pick e cal meas) a n
-replyIn (ShortUpload e a n) c cal meas = 0xFF ∷ block (pick e cal meas) a n
 replyIn (Checksum e a n) c cal meas = 0xFF ∷ 0x02 ∷ 0x00 ∷ 0x00 ∷ bytes32 (blockSum (pick e cal meas) a n)
 replyIn (Download a n) c cal meas = 0xFF ∷ []
 replyIn (ClearList l) c cal meas = 0xFF ∷ []
@@ -68,7 +67,6 @@ writes (GiveSeed r) = none
 writes (Unlock r) = none
 writes (SetMta e a) = none
 writes (Upload e a n) = none
-writes (ShortUpload e a n) = none
 writes (Checksum e a n) = none
 writes (Download a n) = some (record { address = a; count = n })
 writes (ClearList l) = none

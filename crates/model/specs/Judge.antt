@@ -71,13 +71,13 @@ uploadDeed (At e a) n nc nm =
     (cond (insideOf a n (pick e nc nm)) (deed.Upload e a n)
     (deed.Refuse NotInside)))
 
--- SHORT_UPLOAD
+-- SHORT_UPLOAD: UPLOAD from its own extension and address
 unfoldable pub shortUploadDeed : ℕ → ℕ → ℕ → ℕ → ℕ → Deed
 shortUploadDeed n ext a nc nm =
     cond (eqb n 0) (deed.Refuse OutOfRange)
     (cond (ltb uploadMost n) (deed.Refuse OutOfRange)
     (cond (ltb 1 ext) (deed.Refuse OutOfRange)
-    (cond (insideOf a n (pick (extensionFrom ext) nc nm)) (deed.ShortUpload (extensionFrom ext) a n)
+    (cond (insideOf a n (pick (extensionFrom ext) nc nm)) (deed.Upload (extensionFrom ext) a n)
     (deed.Refuse NotInside))))
 
 -- BUILD_CHECKSUM

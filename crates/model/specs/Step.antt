@@ -15,7 +15,7 @@ use Rattle.words.specs.declared.Mta.the-variants.{At}
 use Rattle.words.specs.declared.Pointer.{Pointer}
 use Rattle.words.specs.declared.Pointer.the-variants.{Unset as NoEntry, At as Points}
 use Rattle.model.specs.declared.Deed.{Deed}
-use Rattle.model.specs.declared.Deed.the-variants.{Refuse, RefuseSize, WrongKey, Connect, Disconnect, Status, Synch, NoSeed, GiveSeed, Unlock, SetMta, Upload, ShortUpload, Checksum, Download, ClearList, SetPointer, ClearEntry, WriteEntry, SetMode, Stop, Start, KeepRunning, Select, StopAll, StartSelected, StopSelected, ProcessorInfo, ResolutionInfo}
+use Rattle.model.specs.declared.Deed.the-variants.{Refuse, RefuseSize, WrongKey, Connect, Disconnect, Status, Synch, NoSeed, GiveSeed, Unlock, SetMta, Upload, Checksum, Download, ClearList, SetPointer, ClearEntry, WriteEntry, SetMode, Stop, Start, KeepRunning, Select, StopAll, StartSelected, StopSelected, ProcessorInfo, ResolutionInfo}
 use Rattle.model.specs.Model.{put, Entry, noEntry, Odt, DaqList, Session, Slave, blank, runs}
 
 -- ---- one part changed
@@ -113,7 +113,6 @@ stepIn (GiveSeed r) c = withSeed (withGenerator c (nextOf (c .generator))) (For 
 stepIn (Unlock r) c = withSeed (withLock c r) None
 stepIn (SetMta e a) c = withMta c (At e a)
 stepIn (Upload e a n) c = withMta c (At e (a + n))
-stepIn (ShortUpload e a n) c = c
 stepIn (Checksum e a n) c = withMta c (At e (a + n))
 stepIn (Download a n) c = withMta c (At CalibrationMemory (a + n))
 stepIn (ClearList l) c = at l clear c

@@ -13,7 +13,7 @@ use Rattle.words.specs.declared.Mta.the-variants.{At}
 use Rattle.words.specs.declared.Pointer.the-variants.{At as Entry}
 use Rattle.words.specs.declared.Reason.the-variants as reason
 use Rattle.model.specs.declared.Deed.{Deed}
-use Rattle.model.specs.declared.Deed.the-variants.{Refuse, RefuseSize, WrongKey, Connect, Disconnect, Status, Synch, NoSeed, GiveSeed, Unlock, SetMta, Upload, ShortUpload, Checksum, Download, ClearList, SetPointer, ClearEntry, WriteEntry, SetMode, Stop, Start, KeepRunning, Select, StopAll, StartSelected, StopSelected, ProcessorInfo, ResolutionInfo}
+use Rattle.model.specs.declared.Deed.the-variants.{Refuse, RefuseSize, WrongKey, Connect, Disconnect, Status, Synch, NoSeed, GiveSeed, Unlock, SetMta, Upload, Checksum, Download, ClearList, SetPointer, ClearEntry, WriteEntry, SetMode, Stop, Start, KeepRunning, Select, StopAll, StartSelected, StopSelected, ProcessorInfo, ResolutionInfo}
 use Rattle.model.specs.Step.{nextEntry}
 use Rattle.model.specs.Answers.{replyIn, written}
 use Rattle.model.specs.View.{sessionOf}
@@ -32,7 +32,6 @@ effect (GiveSeed r) s = setSeed (setGenerator s (nextOf (generatorOf s))) (For r
 effect (Unlock r) s = setSeed (set s (lockAt r) 1) None
 effect (SetMta e a) s = setMta s (At e a)
 effect (Upload e a n) s = setMta s (At e (a + n))
-effect (ShortUpload e a n) s = s
 effect (Checksum e a n) s = setMta s (At e (a + n))
 effect (Download a n) s = setMta s (At Calibration (a + n))
 effect (ClearList l) s = listCleared s l

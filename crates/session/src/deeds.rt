@@ -112,8 +112,8 @@ pub fn set_mta(s: &mut [u8], extension: Extension, address: u32)
     answer::ok(s);
 }
 
-// FF and a block of the memory that the extension stands for. MTA stays.
-pub fn read(s: &mut [u8], cal: &[u8], meas: &[u8], extension: Extension, address: u32, n: u8)
+// FF and a block of the memory that the extension stands for.
+fn read(s: &mut [u8], cal: &[u8], meas: &[u8], extension: Extension, address: u32, n: u8)
     requires { ⌜ (length (now s) ≡ size) × Inside uploadMost address n (pick extension (length (now cal)) (length (now meas))) ⌝ }
     ensures { λ _. ⌜ now (s .exit) ≡ answered (now (s .entry)) (0xFF ∷ block (pick extension (now (cal .entry)) (now (meas .entry))) address n) ⌝ }
 {
@@ -127,11 +127,13 @@ pub fn read(s: &mut [u8], cal: &[u8], meas: &[u8], extension: Extension, address
     }
 }
 
+// UPLOAD and SHORT_UPLOAD: the MTA lies behind the block, also where it was unset.
 pub fn upload(s: &mut [u8], cal: &[u8], meas: &[u8], extension: Extension, address: u32, n: u8)
     requires { ⌜ (length (now s) ≡ size) × Inside uploadMost address n (pick extension (length (now cal)) (length (now meas))) ⌝ }
     ensures { λ _. ⌜ now (s .exit) ≡ after (Deed.Upload extension address n) (now (s .entry)) (now (cal .entry)) (now (meas .entry)) ⌝ }
 {
-    fields::set_mta(s, Mta::At(extension, address + n as u32));
+    let behind = address + n as u32;
+    fields::set_mta(s, Mta::At(extension, behind));
     read(s, cal, meas, extension, address, n);
 }
 

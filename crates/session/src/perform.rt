@@ -30,7 +30,6 @@ pub fn perform(deed: Deed, s: &mut [u8], cal: &mut [u8], meas: &[u8], len: u8)
         Deed::Unlock(resource) => deeds::unlock(s, resource),
         Deed::SetMta(e, a) => deeds::set_mta(s, e, a),
         Deed::Upload(e, a, n) => deeds::upload(s, cal, meas, e, a, n),
-        Deed::ShortUpload(e, a, n) => deeds::read(s, cal, meas, e, a, n),
         Deed::Checksum(e, a, n) => deeds::checksum(s, cal, meas, e, a, n),
         Deed::Download(a, n) => deeds::download(s, cal, a, n, len),
         Deed::ClearList(l) => list_deeds::clear_list(s, l),

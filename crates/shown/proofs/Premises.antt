@@ -1,5 +1,5 @@
--- Runs of ours that meet premises which no other run here meets: a good message while an answer waits; a wrong key, and DISCONNECT in its place.
--- Assumes nothing.
+-- Runs of ours that meet premises which no other run here meets: a good message while an answer waits; a wrong key, and DISCONNECT in its place;
+-- UPLOAD behind SHORT_UPLOAD. Assumes nothing.
 use Rattle.demands.specs.Waiting.{SameOutside}
 use Prim.Native.Nat.{ℕ}
 use mathlib.Core.Path.{_≡_, refl}
@@ -12,8 +12,10 @@ use Rattle.model.specs.Model.{byte, hasAnswer}
 use Rattle.model.specs.View.{sessionOf, viewOf}
 use Rattle.words.specs.declared.Received.the-variants.{Unread}
 use Rattle.demands.specs.Slave.{ours}
+use Rattle.demands.specs.Runs.{run}
 use Rattle.demands.specs.Heard.{packetEnded, Commands, wrongKey}
-use Rattle.shown.specs.Exchange.{says, askAll, begun, lastByte, reached, connect, disconnect, synch, seedOfCalibration, keyOfLists}
+use Rattle.demands.specs.Demand2.{Uncommanded, Brings}
+use Rattle.shown.specs.Exchange.{says, asks, askAll, begun, lastByte, reached, connect, disconnect, synch, seedOfCalibration, keyOfLists, upload, uploadFirst, pair, readingOn}
 use Rattle.shown.proofs.Computed.{computed}
 
 -- ---- CONNECT's answer waits, and SYNCH comes whole: number 6
@@ -38,3 +40,20 @@ pub disconnect-met : (consistent (seeded disconnect) ≡ true) × Commands (seed
     × SameOutside placeAt sessionAt (seeded keyOfLists) (seeded disconnect)
 unfolding computed
 disconnect-met = (refl, record { ends = refl; opened = refl; free = refl }, refl, record { long = refl; front = refl; back = refl })
+
+-- ---- SHORT_UPLOAD in a fresh session, a slot for its answer, and UPLOAD: each is answered FF and its byte
+abbrev shortBegun : List ℕ
+shortBegun = reached ours (asks pair [] connect ++ begun pair [] uploadFirst)
+
+abbrev shortDone : List ℕ
+shortDone = ours .receive shortBegun pair [] (lastByte uploadFirst) .state
+
+pub goes-on-met : (consistent shortBegun ≡ true) × Brings ours 0xF4 shortBegun pair [] (lastByte uploadFirst) uploadFirst (5 ∷ []) × Uncommanded ours shortDone readingOn
+    × Brings ours 0xF5 (run ours shortDone readingOn) pair [] (lastByte (upload 1)) (upload 1) (6 ∷ [])
+unfolding computed
+goes-on-met = (
+  refl,
+  record { command = record { ends = refl; opened = refl; free = refl }; code = refl; answer = refl },
+  (refl, (refl, (refl, (refl, (refl, tt))))),
+  record { command = record { ends = refl; opened = refl; free = refl }; code = refl; answer = refl },
+)

@@ -20,7 +20,7 @@ use Rattle.session.specs.PowerUp.{powered}
 use Rattle.words.specs.declared.Resource.the-variants.{Calibration}
 use Rattle.words.specs.declared.Extension.the-variants.{Calibration as CalibrationMemory}
 use Rattle.words.specs.declared.Mta.{Mta}
-use Rattle.words.specs.declared.Mta.the-variants.{At}
+use Rattle.words.specs.declared.Mta.the-variants.{Unset, At}
 use Rattle.model.specs.Calls.{turnIn, packetFor}
 use Rattle.model.specs.Model.{hasAnswer}
 use Rattle.model.specs.View.{sessionOf, viewOf}
@@ -30,8 +30,8 @@ use Rattle.demands.specs.Heard.{packetEnded}
 use Rattle.demands.specs.Demand1.{Demand1}
 use Rattle.demands.specs.Demand2.{Demand2, ReadsBack}
 use Rattle.demands.specs.Demand3.{Demand3}
-use Rattle.shown.specs.Wrong.{refusesAlways, silent, onlyConnects, alwaysFF, storesNothing, obeysDamaged, readsEscaped, allAtOnce, slotsUpTo, sumsEscaped, neverSamples, inventsCounts, inventsMissed, movesAfterRefusal, readsLate, opensBoth}
-use Rattle.shown.specs.Exchange.{slot, says, asks, askAll, begun, lastByte, reached, connect, synch, seedOfCalibration, keyOfCalibration, upload, uploadFirst, downloadOne, downloading, uploading, measuring}
+use Rattle.shown.specs.Wrong.{refusesAlways, silent, onlyConnects, alwaysFF, storesNothing, obeysDamaged, readsEscaped, allAtOnce, slotsUpTo, sumsEscaped, neverSamples, inventsCounts, inventsMissed, movesAfterRefusal, leavesMta, readsLate, opensBoth}
+use Rattle.shown.specs.Exchange.{slot, says, asks, askAll, begun, lastByte, reached, connect, synch, seedOfCalibration, keyOfCalibration, mtaTo, upload, uploadFirst, downloadOne, downloading, uploading, pair, readingOn, measuring}
 use Rattle.shown.proofs.Computed.{computed}
 
 -- CONNECT is answered FE
@@ -173,6 +173,30 @@ pub movesAfterRefusal-fails : Demand1 movesAfterRefusal → ⊥
 unfolding computed
 movesAfterRefusal-fails d =
     let e : _≡_ {A = ℕ} 1 0 = ap (λ s. getD s (addressAt - sessionAt) 0) (d .refused (reached movesAfterRefusal (uploading [] 1)) [] [] (lastByte (upload 1)) refl (record { answered = refl; begins = refl }) refl .state .back)
+    in omega arith
+
+-- of two bytes SHORT_UPLOAD reads the first, and UPLOAD of one more the first again
+pub leavesMta-fails : Demand2 leavesMta → ⊥
+unfolding computed
+leavesMta-fails d =
+    let s : List ℕ = reached leavesMta (askAll pair [] (connect ∷ mtaTo 0 0 ∷ []) ++ begun pair [] uploadFirst) in
+    let e : _≡_ {A = ℕ} 5 6 = ap (λ l. getD l 1 0)
+    (d .goesOn s pair [] (lastByte uploadFirst) uploadFirst (5 ∷ []) readingOn (lastByte (upload 1)) (upload 1) (5 ∷ []) refl
+    (record { command = record { ends = refl; opened = refl; free = refl }; code = refl; answer = refl })
+    (refl, (refl, (refl, (refl, (refl, tt)))))
+    (record { command = record { ends = refl; opened = refl; free = refl }; code = refl; answer = refl }))
+    in omega arith
+
+-- and in a fresh session the MTA stays unset
+whether-set : Mta → ℕ
+whether-set Unset = 0
+whether-set (At e a) = 1
+
+pub leavesMta-unset : Demand2 leavesMta → ⊥
+unfolding computed whether-set
+leavesMta-unset d =
+    let s : List ℕ = reached leavesMta (asks pair [] connect ++ begun pair [] uploadFirst) in
+    let e : _≡_ {A = ℕ} 0 1 = ap whether-set (d .setsMta s pair [] (lastByte uploadFirst) uploadFirst (5 ∷ []) refl (record { command = record { ends = refl; opened = refl; free = refl }; code = refl; answer = refl }))
     in omega arith
 
 -- a byte of 5 is sampled, another comes while it is 6, and 6 is sent

@@ -89,6 +89,13 @@ downloading b cal = writable ++ (asks cal [] (mtaTo 0 0) ++ begun cal [] (downlo
 abbrev pub uploading : List ℕ → ℕ → List Call
 uploading cal n = askAll cal [] (connect ∷ mtaTo 0 0 ∷ []) ++ begun cal [] (upload n)
 
+-- two calibration bytes; after SHORT_UPLOAD of the first a slot for its answer, and UPLOAD of the second but for its last byte
+abbrev pub pair : List ℕ
+pair = 5 ∷ 6 ∷ []
+
+abbrev pub readingOn : List Call
+readingOn = slot ∷ begun pair [] (upload 1)
+
 -- ---- lists: the pointer; an entry of n bytes, the first of the measured values; event 0; a start
 abbrev pub pointTo : ℕ → ℕ → ℕ → List ℕ
 pointTo l odt e = 0xE2 ∷ 0 ∷ l ∷ 0 ∷ odt ∷ e ∷ []

@@ -177,6 +177,13 @@ moved o mta n = record { received = o .received; state = movedOn mta n (o .state
 abbrev pub movesAfterRefusal : AnySlave
 movesAfterRefusal = heeding (λ p s cal meas. cond (eqb (getD p 0 0) 0xF5) (moved (heeded p s cal meas) (mtaOf s) (getD p 1 0)) (heeded p s cal meas))
 
+-- the MTA is after SHORT_UPLOAD what it was before, set or unset
+abbrev pub unmoved : Step → Mta → Step
+unmoved o mta = record { received = o .received; state = setMta (o .state) mta; cal = o .cal }
+
+abbrev pub leavesMta : AnySlave
+leavesMta = heeding (λ p s cal meas. cond (eqb (getD p 0 0) 0xF4) (unmoved (heeded p s cal meas) (mtaOf s)) (heeded p s cal meas))
+
 -- where a packet of ODT 1 waits, its bytes are taken from the memories lent now
 abbrev pub reread : List ℕ → ℕ → List ℕ → List ℕ → List ℕ
 reread s k cal meas = cond (ltb 0 (storedLength s k)) (stored s k (blocksIn (odtOf s k) cal meas (entryCount k))) s

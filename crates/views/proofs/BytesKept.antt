@@ -34,7 +34,7 @@ use Rattle.words.specs.declared.Pointer.the-variants.{At as Points}
 use Rattle.words.specs.declared.Reason.{Reason}
 use Rattle.words.specs.declared.Reason.the-variants as reason
 use Rattle.model.specs.declared.Deed.{Deed}
-use Rattle.model.specs.declared.Deed.the-variants.{Refuse, RefuseSize, WrongKey, Connect, Disconnect, Status, Synch, NoSeed, GiveSeed, Unlock, SetMta, Upload, ShortUpload, Checksum, Download, ClearList, SetPointer, ClearEntry, WriteEntry, SetMode, Stop, Start, KeepRunning, Select, StopAll, StartSelected, StopSelected, ProcessorInfo, ResolutionInfo}
+use Rattle.model.specs.declared.Deed.the-variants.{Refuse, RefuseSize, WrongKey, Connect, Disconnect, Status, Synch, NoSeed, GiveSeed, Unlock, SetMta, Upload, Checksum, Download, ClearList, SetPointer, ClearEntry, WriteEntry, SetMode, Stop, Start, KeepRunning, Select, StopAll, StartSelected, StopSelected, ProcessorInfo, ResolutionInfo}
 use Rattle.model.specs.declared.Sampling.{Sampling}
 use Rattle.model.specs.declared.Sampling.the-variants.{Idle, Sampled, Missed}
 use Rattle.model.specs.declared.Turn.{Turn}
@@ -78,8 +78,7 @@ bytes-effect NoSeed s n nc nm g h f w = w
 bytes-effect (GiveSeed r) s n nc nm g h f w = bytes-seed (setGenerator s (nextOf (generatorOf s))) (For r) (bytes-generator s (nextOf (generatorOf s)) w)
 bytes-effect (Unlock r) s n nc nm g h f w = bytes-seed (set s (lockAt r) 1) None (bytes-set s (lockAt r) 1 w (lit< tt))
 bytes-effect (SetMta e a) s n nc nm g h f w = bytes-mta s (At e a) w
-bytes-effect (Upload e a m) s n nc nm g h f w = bytes-mta s (At e (a + m)) w
-bytes-effect (ShortUpload e a m) s n nc nm g h f w = w
+bytes-effect (Upload e a m) s n nc nm g h f w = bytes-mta s _ w
 bytes-effect (Checksum e a m) s n nc nm g h f w = bytes-mta s (At e (a + m)) w
 bytes-effect (Download a m) s n nc nm g h f w = bytes-mta s (At CalibrationMemory (a + m)) w
 bytes-effect (ClearList l) s n nc nm g h f w = bytes-listCleared s l w
@@ -164,7 +163,6 @@ module _ (cal meas : List ℕ) (wc : Bytes cal) (wm : Bytes meas) where
   bytes-reply (Unlock r) c n nc nm h = good (maskBy (unlock r (c .unlocked)) ∷ []) (one-byte (maskBy (unlock r (c .unlocked))) (mask-low (unlock r (c .unlocked))))
   bytes-reply (SetMta e a) c n nc nm h = ok
   bytes-reply (Upload e a m) c n nc nm h = bytes-upload e a m
-  bytes-reply (ShortUpload e a m) c n nc nm h = bytes-upload e a m
   bytes-reply (Checksum e a m) c n nc nm h =
       let front : List ℕ = 0xFF ∷ 0x02 ∷ 0x00 ∷ 0x00 ∷ [] in
       let total : ℕ = blockSum (pick e cal meas) a m in

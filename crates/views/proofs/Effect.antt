@@ -20,7 +20,7 @@ use Rattle.model.specs.Step.{nextEntry, withSession, withSeed, withPointer, wit
 use Rattle.session.specs.Perform.{effect}
 use Rattle.words.specs.declared.Seed.the-variants.{None, For}
 use Rattle.model.specs.declared.Deed.{Deed}
-use Rattle.model.specs.declared.Deed.the-variants.{Refuse, RefuseSize, WrongKey, Connect, Disconnect, Status, Synch, NoSeed, GiveSeed, Unlock, SetMta, Upload, ShortUpload, Checksum, Download, ClearList, SetPointer, ClearEntry, WriteEntry, SetMode, Stop, Start, KeepRunning, Select, StopAll, StartSelected, StopSelected, ProcessorInfo, ResolutionInfo}
+use Rattle.model.specs.declared.Deed.the-variants.{Refuse, RefuseSize, WrongKey, Connect, Disconnect, Status, Synch, NoSeed, GiveSeed, Unlock, SetMta, Upload, Checksum, Download, ClearList, SetPointer, ClearEntry, WriteEntry, SetMode, Stop, Start, KeepRunning, Select, StopAll, StartSelected, StopSelected, ProcessorInfo, ResolutionInfo}
 use Rattle.state.proofs.Inside.{inside-le}
 use Rattle.fields.proofs.Frames.{Only, only-none, only-set, only-wider, only-generator, only-lock}
 use Rattle.fields.proofs.Readers.{apart, open-reads}
@@ -179,7 +179,6 @@ session-effect (Unlock r) s n nc nm h can fit =
     shows-seed (set s (lockAt r) 1) (only-lock s r 1 .long ∙ h) None ∙ ap (λ (c : Session). withSeed c None) (shows-lock s h r)
 session-effect (SetMta e a) s n nc nm h can fit = shows-mta s h _ fit
 session-effect (Upload e a m) s n nc nm h can fit = shows-mta s h _ (low a m (pick e nc nm) (can .1))
-session-effect (ShortUpload e a m) s n nc nm h can fit = refl
 session-effect (Checksum e a m) s n nc nm h can fit = shows-mta s h _ (low a m (pick e nc nm) (can .1))
 session-effect (Download a m) s n nc nm h can fit = shows-mta s h _ (low a m nc (can .1 .1))
 session-effect (ClearList l) s n nc nm h can fit = shows-lists (only-wider (lit≤ tt) (lit≤ tt) (only-listCleared s l can)) (changes-cleared s l h can)

@@ -22,7 +22,7 @@ use Rattle.words.specs.declared.Command.{Command}
 use Rattle.words.specs.declared.Command.the-variants as command
 use Rattle.model.specs.Seen.{Packet, Seen, numbersOf}
 use Rattle.model.specs.declared.Deed.{Deed}
-use Rattle.model.specs.declared.Deed.the-variants.{Refuse, RefuseSize, WrongKey, Connect, Disconnect, Status, Synch, NoSeed, GiveSeed, Unlock, SetMta, Upload, ShortUpload, Checksum, Download, ClearList, SetPointer, ClearEntry, WriteEntry, SetMode, Stop, Start, KeepRunning, Select, StopAll, StartSelected, StopSelected, ProcessorInfo, ResolutionInfo}
+use Rattle.model.specs.declared.Deed.the-variants.{Refuse, RefuseSize, WrongKey, Connect, Disconnect, Status, Synch, NoSeed, GiveSeed, Unlock, SetMta, Upload, Checksum, Download, ClearList, SetPointer, ClearEntry, WriteEntry, SetMode, Stop, Start, KeepRunning, Select, StopAll, StartSelected, StopSelected, ProcessorInfo, ResolutionInfo}
 use Rattle.look.specs.Look.{judgeOf}
 use Rattle.model.specs.Model.{Bytes}
 use Rattle.views.proofs.Verdict.{Verdict, refused, connects, disconnects, tells, synchs, no-seed, gives, unlocks, wrong, sets, uploads, shorts, no-size, sums, downloads, clears, points, zeroes, writes, modes, stops, starts, goes-on, selects, stops-all, starts-all, stops-some, processor, resolution, found}
@@ -41,7 +41,6 @@ Fit (GiveSeed r) g = (nextOf g ≢ 0) × (nextOf g < 2 ^ 32)
 Fit (Unlock r) g = Unit
 Fit (SetMta e a) g = a < 2 ^ 32
 Fit (Upload e a n) g = Unit
-Fit (ShortUpload e a n) g = Unit
 Fit (Checksum e a n) g = Unit
 Fit (Download a n) g = Unit
 Fit (ClearList l) g = Unit

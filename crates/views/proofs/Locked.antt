@@ -69,7 +69,7 @@ module _ (p : List ℕ) (c : Session) (cal meas : List ℕ) where
     by-verdict _ _ o (wrong r w k) = other 0xF7 f7 o
     by-verdict _ _ o sets = other-parts
     by-verdict _ _ o (uploads x a there inside) = other-parts
-    by-verdict _ _ o (shorts inside) = as-was
+    by-verdict _ _ o (shorts inside) = other-parts
     by-verdict _ _ o no-size = as-was
     by-verdict _ _ o (sums x a there inside) = other-parts
     by-verdict _ _ o (downloads a free there long inside) = other-parts

@@ -26,13 +26,13 @@ use Rattle.words.specs.declared.Mta.the-variants.{Unset, At}
 use Rattle.words.specs.declared.Reason.the-variants.{OutOfRange, DataMissing, NotInside}
 use Rattle.model.specs.Judge.{extensionFrom, setMtaDeed, uploadDeed, shortUploadDeed, checksumDeed, downloadTo, downloadDeed, judgeThe, judgeIn}
 use Rattle.model.specs.declared.Deed.{Deed}
-use Rattle.model.specs.declared.Deed.the-variants.{Upload, ShortUpload, Checksum, Download}
-use Rattle.model.specs.Answers.{replyIn, Done, doneBy, writes}
+use Rattle.model.specs.declared.Deed.the-variants.{Upload, Checksum, Download}
+use Rattle.model.specs.Answers.{replyIn, doneBy, writes}
 use Rattle.fields.proofs.Stores.{sets-in, put32-same}
 use Rattle.fields.proofs.Frames.{only-sets}
 use Rattle.model.specs.Model.{byte, Session}
 use Rattle.model.specs.Step.{withMta, stepIn}
-use Rattle.views.specs.Commands.{four, memoryOf, sumFrom, TheGenerator, Whether-open, TheLocks, TheSeed, TheMta, ThePointer, TheLists, AllBut, SET-MTA, Carries, UPLOAD, SHORT-UPLOAD, BUILD-CHECKSUM, DOWNLOAD}
+use Rattle.views.specs.Commands.{four, extensionNumber, memoryOf, sumFrom, TheGenerator, Whether-open, TheLocks, TheSeed, TheMta, ThePointer, TheLists, AllBut, SET-MTA, Carries, UPLOAD, SHORT-UPLOAD, BUILD-CHECKSUM, DOWNLOAD}
 use Rattle.model.proofs.Bounded.{either}
 use Rattle.views.proofs.Parts.{aside}
 use Rattle.views.proofs.Bytes.{bytes-cons, bytes-four}
@@ -75,42 +75,37 @@ module _ (p : List ℕ) (c : Session) (cal meas : List ℕ) where
       record { extension = x; named = named-by (byte p 3) few; mta = ap (At x) (four-is p 4); rest = but-mta c (At x (u32At p 4)); memory = refl; answer = refl }))
 
   -- ---- F5 UPLOAD, F4 SHORT_UPLOAD
-  carried : (x : Extension) (a n : ℕ) (o : Done) → o .answer ≡ 0xFF ∷ block (pick x cal meas) a n → o .memory ≡ cal → insideOf a n (pick x (length cal) (length meas)) ≡ true → Carries x a n cal meas o
-  carried x a n o said same inside =
-      let mem : List ℕ = pick x cal meas in
-      record {
-        long = ap length said ∙ ap suc (block-length mem a n (inside-memory x a n cal meas inside)) ∙ sym (add-one n);
-        bytes = λ i h.
-            ap (λ (bs : List ℕ). byte bs (i + 1)) said ∙ ap (byte (0xFF ∷ block mem a n)) (add-one i) ∙ block-byte mem a n i h ∙ ap (λ (m : List ℕ). byte m (a + i)) (memory-is x cal meas);
-        memory = same;
-      }
+  -- a deed that reads as many bytes as byte 1 says, all inside, from where `From` holds
+  pub record Reading (From : Extension → ℕ → Type 0) (d : Deed) : Type 0 where
+    pub extension : Extension
+    pub address : ℕ
+    pub from : From extension address
+    pub deed : d ≡ Upload extension address (byte p 1)
+    pub inside : insideOf address (byte p 1) (pick extension (length cal) (length meas)) ≡ true
 
-  upload-at : (m : Mta) → c .mta ≡ m → Taken p c cal meas (uploadDeed m (byte p 1) (length cal) (length meas)) → Leads UPLOAD p c cal meas (uploadDeed m (byte p 1) (length cal) (length meas))
-  unfolding uploadDeed stepIn writes replyIn
+  upload-at : (m : Mta) → c .mta ≡ m → Taken p c cal meas (uploadDeed m (byte p 1) (length cal) (length meas)) → Reading (λ x a. c .mta ≡ At x a) (uploadDeed m (byte p 1) (length cal) (length meas))
+  unfolding uploadDeed replyIn
   upload-at Unset e = λ t. absurd (fe-ff t)
   upload-at (At x a) e =
-      let P : Deed → Type 0 = Leads UPLOAD p c cal meas in
+      let P : Deed → Type 0 = Reading (λ y b. c .mta ≡ At y b) in
       let n : ℕ = byte p 1 in
       unless p c cal meas P (eqb n 0) OutOfRange (λ _.
       unless p c cal meas P (ltb uploadMost n) OutOfRange (λ _.
-      provided p c cal meas P (insideOf a n (pick x (length cal) (length meas))) NotInside (λ inside _.
-      record {
-        extension = x;
-        address = a;
-        from = e;
-        carries = carried x a n (doneBy (Upload x a n) p c cal meas) refl refl inside;
-        mta = refl;
-        rest = but-mta c (At x (a + n));
-      })))
+      provided p c cal meas P (insideOf a n (pick x (length cal) (length meas))) NotInside (λ inside _. record { extension = x; address = a; from = e; deed = refl; inside = inside })))
 
-  pub upload : byte p 0 ≡ 0xF5 → Taken p c cal meas (judgeIn p c (length cal) (length meas)) → Leads UPLOAD p c cal meas (judgeIn p c (length cal) (length meas))
+  -- UPLOAD reads from the MTA
+  pub upload-reads : byte p 0 ≡ 0xF5 → Taken p c cal meas (judgeIn p c (length cal) (length meas)) → Reading (λ x a. c .mta ≡ At x a) (judgeIn p c (length cal) (length meas))
   unfolding judgeThe commandOf
-  upload code = judged p c cal meas (Leads UPLOAD p c cal meas) 0xF5 command.Upload refl code (upload-at (c .mta) refl)
+  upload-reads code = judged p c cal meas (Reading (λ x a. c .mta ≡ At x a)) 0xF5 command.Upload refl code (upload-at (c .mta) refl)
 
-  pub short-upload : byte p 0 ≡ 0xF4 → Taken p c cal meas (judgeIn p c (length cal) (length meas)) → Leads SHORT-UPLOAD p c cal meas (judgeIn p c (length cal) (length meas))
-  unfolding judgeThe commandOf shortUploadDeed stepIn writes replyIn
-  short-upload code =
-      let P : Deed → Type 0 = Leads SHORT-UPLOAD p c cal meas in
+  -- SHORT_UPLOAD from its own extension and address
+  abbrev pub Own : Extension → ℕ → Type 0
+  Own x a = (x ≡ extensionFrom (byte p 3)) × (byte p 3 ≡ extensionNumber x) × (a ≡ u32At p 4)
+
+  pub short-reads : byte p 0 ≡ 0xF4 → Taken p c cal meas (judgeIn p c (length cal) (length meas)) → Reading Own (judgeIn p c (length cal) (length meas))
+  unfolding judgeThe commandOf shortUploadDeed
+  short-reads code =
+      let P : Deed → Type 0 = Reading Own in
       let n : ℕ = byte p 1 in
       let x : Extension = extensionFrom (byte p 3) in
       let a : ℕ = u32At p 4 in
@@ -119,12 +114,35 @@ module _ (p : List ℕ) (c : Session) (cal meas : List ℕ) where
       unless p c cal meas P (ltb uploadMost n) OutOfRange (λ _.
       unless p c cal meas P (ltb 1 (byte p 3)) OutOfRange (λ few.
       provided p c cal meas P (insideOf a n (pick x (length cal) (length meas))) NotInside (λ inside _.
+      record { extension = x; address = a; from = (refl, named-by (byte p 3) few, refl); deed = refl; inside = inside })))))
+
+  -- what such a deed comes to
+  carried : {From : Extension → ℕ → Type 0} {d : Deed} (r : Reading From d) → Carries (r .extension) (r .address) (byte p 1) c cal meas (doneBy d p c cal meas)
+  unfolding stepIn writes replyIn
+  carried {From} {d} r = subst (λ (y : Deed). Carries (r .extension) (r .address) (byte p 1) c cal meas (doneBy y p c cal meas)) (sym (r .deed)) (read (r .extension) (r .address) (r .inside)) where
+    read : (x : Extension) (a : ℕ) → insideOf a (byte p 1) (pick x (length cal) (length meas)) ≡ true → Carries x a (byte p 1) c cal meas (doneBy (Upload x a (byte p 1)) p c cal meas)
+    read x a inside =
+        let n : ℕ = byte p 1 in
+        let mem : List ℕ = pick x cal meas in
+        record {
+          long = ap suc (block-length mem a n (inside-memory x a n cal meas inside)) ∙ sym (add-one n);
+          bytes = λ i h. ap (byte (0xFF ∷ block mem a n)) (add-one i) ∙ block-byte mem a n i h ∙ ap (λ (m : List ℕ). byte m (a + i)) (memory-is x cal meas);
+          mta = refl;
+          rest = but-mta c (At x (a + n));
+          memory = refl;
+        }
+
+  pub upload : byte p 0 ≡ 0xF5 → Taken p c cal meas (judgeIn p c (length cal) (length meas)) → Leads UPLOAD p c cal meas (judgeIn p c (length cal) (length meas))
+  upload code t = let r = upload-reads code t in record { extension = r .extension; address = r .address; from = r .from; carries = carried r }
+
+  pub short-upload : byte p 0 ≡ 0xF4 → Taken p c cal meas (judgeIn p c (length cal) (length meas)) → Leads SHORT-UPLOAD p c cal meas (judgeIn p c (length cal) (length meas))
+  short-upload code t =
+      let r = short-reads code t in
       record {
-        extension = x;
-        named = named-by (byte p 3) few;
-        carries = subst (λ (j : ℕ). Carries x j n cal meas (doneBy (ShortUpload x a n) p c cal meas)) (four-is p 4) (carried x a n (doneBy (ShortUpload x a n) p c cal meas) refl refl inside);
-        session = refl;
-      })))))
+        extension = r .extension;
+        named = r .from .1;
+        carries = subst (λ (a : ℕ). Carries (r .extension) a (byte p 1) c cal meas (doneBy (judgeIn p c (length cal) (length meas)) p c cal meas)) (r .from .2 ∙ four-is p 4) (carried r);
+      }
 
 -- ---- F3 BUILD_CHECKSUM
 -- a number in four bytes, lowest first

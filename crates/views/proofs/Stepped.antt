@@ -13,7 +13,7 @@ use Rattle.model.specs.Model.{Session}
 use Rattle.model.specs.Step.{withGenerator, withSeed, withMta, stepIn}
 use Rattle.model.specs.View.{sessionOf}
 use Rattle.model.specs.declared.Deed.{Deed}
-use Rattle.model.specs.declared.Deed.the-variants.{Refuse, RefuseSize, WrongKey, Connect, Disconnect, Status, Synch, NoSeed, GiveSeed, Unlock, SetMta, Upload, ShortUpload, Checksum, Download, ClearList, SetPointer, ClearEntry, WriteEntry, SetMode, Stop, Start, KeepRunning, Select, StopAll, StartSelected, StopSelected, ProcessorInfo, ResolutionInfo}
+use Rattle.model.specs.declared.Deed.the-variants.{Refuse, RefuseSize, WrongKey, Connect, Disconnect, Status, Synch, NoSeed, GiveSeed, Unlock, SetMta, Upload, Checksum, Download, ClearList, SetPointer, ClearEntry, WriteEntry, SetMode, Stop, Start, KeepRunning, Select, StopAll, StartSelected, StopSelected, ProcessorInfo, ResolutionInfo}
 use Rattle.words.specs.declared.Resource.{Resource}
 use Rattle.words.specs.declared.Extension.{Extension}
 use Rattle.words.specs.declared.Seed.the-variants.{For}
@@ -64,7 +64,6 @@ stepped (GiveSeed r) s n nc nm h can enter = given r s
 stepped (Unlock r) s n nc nm h can enter = steps (session-effect (Unlock r) s n nc nm h can tt)
 stepped (SetMta x a) s n nc nm h can enter = moved x a s
 stepped (Upload x a m) s n nc nm h can enter = steps (session-effect (Upload x a m) s n nc nm h can tt)
-stepped (ShortUpload x a m) s n nc nm h can enter = steps (session-effect (ShortUpload x a m) s n nc nm h can tt)
 stepped (Checksum x a m) s n nc nm h can enter = steps (session-effect (Checksum x a m) s n nc nm h can tt)
 stepped (Download a m) s n nc nm h can enter = steps (session-effect (Download a m) s n nc nm h can tt)
 stepped (ClearList l) s n nc nm h can enter = steps (session-effect (ClearList l) s n nc nm h can tt)

@@ -53,7 +53,7 @@ pub data Verdict (p : Packet) (v : Seen) (nc nm : ℕ) : Command → Deed → Ty
   wrong : (r : Resource) → Keyed p v r → eqb (p .d2) (keyOf r (v .generator)) ≡ false → Verdict p v nc nm Unlock deed.WrongKey
   sets : Verdict p v nc nm SetMta (deed.SetMta (extensionFrom (p .b3)) (p .d4))
   uploads : (x : Extension) (a : ℕ) → v .mta ≡ At x a → Inside uploadMost a (p .b1) (pick x nc nm) → Verdict p v nc nm Upload (deed.Upload x a (p .b1))
-  shorts : Inside uploadMost (p .d4) (p .b1) (pick (extensionFrom (p .b3)) nc nm) → Verdict p v nc nm ShortUpload (deed.ShortUpload (extensionFrom (p .b3)) (p .d4) (p .b1))
+  shorts : Inside uploadMost (p .d4) (p .b1) (pick (extensionFrom (p .b3)) nc nm) → Verdict p v nc nm ShortUpload (deed.Upload (extensionFrom (p .b3)) (p .d4) (p .b1))
   no-size : Verdict p v nc nm BuildChecksum deed.RefuseSize
   sums : (x : Extension) (a : ℕ) → v .mta ≡ At x a → Inside addressable a (p .d4) (pick x nc nm) → Verdict p v nc nm BuildChecksum (deed.Checksum x a (p .d4))
   downloads : (a : ℕ) → v .calibration ≡ true → v .mta ≡ At CalibrationMemory a → p .b1 + 2 ≤ p .n → Inside downloadMost a (p .b1) nc → Verdict p v nc nm Download (deed.Download a (p .b1))

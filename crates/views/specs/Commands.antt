@@ -158,25 +158,25 @@ pub record SET-MTA (p : List ℕ) (c : Session) (cal meas : List ℕ) (o : Done)
   pub memory : o .memory ≡ cal
   pub answer : o .answer ≡ 0xFF ∷ []
 
--- ---- F5 UPLOAD, F4 SHORT_UPLOAD: FF and n bytes from address a of that memory
-pub record Carries (extension : Extension) (a n : ℕ) (cal meas : List ℕ) (o : Done) : Type 0 where
+-- ---- F5 UPLOAD, F4 SHORT_UPLOAD: FF and n bytes from address a of that memory; the MTA then lies behind them
+pub record Carries (extension : Extension) (a n : ℕ) (c : Session) (cal meas : List ℕ) (o : Done) : Type 0 where
   pub long : length (o .answer) ≡ n + 1
   pub bytes : (i : ℕ) → i < n → byte (o .answer) (i + 1) ≡ byte (memoryOf extension cal meas) (a + i)
+  pub mta : o .session .mta ≡ At extension (a + n)
+  pub rest : AllBut TheMta c (o .session)
   pub memory : o .memory ≡ cal
 
 pub record UPLOAD (p : List ℕ) (c : Session) (cal meas : List ℕ) (o : Done) : Type 0 where
   pub extension : Extension
   pub address : ℕ
   pub from : c .mta ≡ At extension address
-  pub carries : Carries extension address (byte p 1) cal meas o
-  pub mta : o .session .mta ≡ At extension (address + byte p 1)
-  pub rest : AllBut TheMta c (o .session)
+  pub carries : Carries extension address (byte p 1) c cal meas o
 
+-- from its own extension and address, wherever the MTA was, or unset
 pub record SHORT-UPLOAD (p : List ℕ) (c : Session) (cal meas : List ℕ) (o : Done) : Type 0 where
   pub extension : Extension
   pub named : byte p 3 ≡ extensionNumber extension
-  pub carries : Carries extension (four p 4) (byte p 1) cal meas o
-  pub session : o .session ≡ c
+  pub carries : Carries extension (four p 4) (byte p 1) c cal meas o
 
 -- ---- F3 BUILD_CHECKSUM of the bytes from the MTA on, as many as bytes 4 to 7 say
 pub record BUILD-CHECKSUM (p : List ℕ) (c : Session) (cal meas : List ℕ) (o : Done) : Type 0 where

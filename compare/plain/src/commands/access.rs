@@ -28,16 +28,24 @@ impl Session {
         at_least(packet, 2)?;
         let (extension, address) = self.mta_set()?;
         let count = upload_count(packet)?;
-        let answer = read(extension.of(cal, meas), address, count)?;
-        self.mta = Mta::At(extension, address + count);
-        Ok(answer)
+        self.read(extension, extension.of(cal, meas), address, count)
     }
 
-    pub(super) fn short_upload(&self, packet: &[u8], cal: &[u8], meas: &[u8]) -> Answer {
+    pub(super) fn short_upload(&mut self, packet: &[u8], cal: &[u8], meas: &[u8]) -> Answer {
         at_least(packet, 8)?;
         let count = upload_count(packet)?;
         let extension = Extension::from_byte(packet[3]).ok_or_else(|| refusal(RANGE))?;
-        read(extension.of(cal, meas), number32(packet, 4), count)
+        let address = number32(packet, 4);
+        self.read(extension, extension.of(cal, meas), address, count)
+    }
+
+    /// The bytes of a block that is inside; the address is behind it then.
+    fn read(&mut self, extension: Extension, memory: &[u8], address: u32, count: u32) -> Answer {
+        let bytes = block(memory, address, count).ok_or_else(|| refusal(NOT_INSIDE))?;
+        let mut answer = Packet::new(&[0xFF]);
+        answer.extend(bytes);
+        self.mta = Mta::At(extension, address + count);
+        Ok(answer)
     }
 
     pub(super) fn build_checksum(&mut self, packet: &[u8], cal: &[u8], meas: &[u8]) -> Answer {
@@ -80,11 +88,4 @@ impl Session {
 fn upload_count(packet: &[u8]) -> Result<u32, Packet> {
     check((1..=7).contains(&packet[1]), RANGE)?;
     Ok(u32::from(packet[1]))
-}
-
-fn read(memory: &[u8], address: u32, count: u32) -> Answer {
-    let bytes = block(memory, address, count).ok_or_else(|| refusal(NOT_INSIDE))?;
-    let mut answer = Packet::new(&[0xFF]);
-    answer.extend(bytes);
-    Ok(answer)
 }

@@ -261,10 +261,27 @@ fn f4_short_upload() {
     bench.refused("F4 01 00 00 FF FF FF FF", "FE 24");
     bench.cal[4095] = 9;
     bench.meas[1] = 8;
-    bench.told("F4 01 AA 00 FF 0F 00 00", "FF 09");
-    bench.good("F6 00 00 00 03 00 00 00");
-    bench.told("F4 07 00 01 00 00 00 00", "FF 00 08 00 00 00 00 00");
-    assert_eq!(bench.slave.session.mta, at(3));
+    assert_eq!(bench.slave.session.mta, Mta::Unset);
+    assert_eq!(bench.ask("F4 01 AA 00 FF 0F 00 00"), "FF 09");
+    assert_eq!(bench.slave.session.mta, at(4096));
+    bench.refused("F4 07 00 00 FA 0F 00 00", "FE 24");
+    assert_eq!(
+        bench.ask("F4 07 00 01 00 00 00 00"),
+        "FF 00 08 00 00 00 00 00"
+    );
+    assert_eq!(bench.slave.session.mta, Mta::At(Extension::Measured, 7));
+}
+
+/// A long block by the short command and then the plain one, with a refusal and a question between.
+#[test]
+fn upload_goes_on_behind_a_short_upload() {
+    let mut bench = locked();
+    bench.meas[0x20..0x2C].copy_from_slice(&[1, 2, 3, 4, 5, 6, 7, 8, 9, 10, 11, 12]);
+    assert_eq!(bench.ask("F4 03 00 01 20 00 00 00"), "FF 01 02 03");
+    assert_eq!(bench.ask("F5 07"), "FF 04 05 06 07 08 09 0A");
+    bench.refused("F4 03 00 01 FF 0F 00 00", "FE 24");
+    bench.told("FD", "FF 00 05 00 00 00");
+    assert_eq!(bench.ask("F5 02"), "FF 0B 0C");
 }
 
 #[test]
@@ -319,7 +336,7 @@ fn f0_download() {
     let mut expected = vec![0; 4096];
     expected[16..24].copy_from_slice(&[0x0A, 0x0B, 0x9A, 0x9B, 1, 2, 3, 4]);
     assert_eq!(bench.cal, expected);
-    bench.told("F4 03 00 00 11 00 00 00", "FF 0B 9A 9B");
+    assert_eq!(bench.ask("F4 03 00 00 11 00 00 00"), "FF 0B 9A 9B");
 }
 
 #[test]

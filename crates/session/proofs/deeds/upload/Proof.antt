@@ -10,8 +10,8 @@ use borrow.Author.Needs.{needs}
 use Rattle.session.proofs.deeds.upload.Statement.{statement}
 use Rattle.session.proofs.deeds.upload.Tie as tie
 
-add-t11 : tie.Need-add-t11
-add-t11 c = omega (arith, inside-le (c .before .before .before .before .args .address) (c .before .before .before .before .args .n) (pick (c .before .before .before .before .args .extension) (length (c .before .before .before .before .args .cal .now)) (length (c .before .before .before .before .args .meas .now))) (c .before .before .before .before .pre .1 .1) .1)
+add-behind : tie.Need-add-behind
+add-behind c = omega (arith, inside-le (c .before .before .before .args .address) (c .before .before .before .args .n) (pick (c .before .before .before .args .extension) (length (c .before .before .before .args .cal .now)) (length (c .before .before .before .args .meas .now))) (c .before .before .before .pre .1 .1) .1)
 
 set-mta-requires : tie.Need-set-mta-requires
 set-mta-requires c κs = search needs
@@ -27,4 +27,4 @@ unfolding effect replyIn sessionOf
 returns c = c .before .before .read .ensures ∙ rw (c .before .before .before .before .before .before .set-mta .ensures)
 
 pub upload-spec : {M : Type 1} → statement M
-upload-spec = tie.close (tie.spec add-t11 set-mta-requires read-requires same-length returns)
+upload-spec = tie.close (tie.spec add-behind set-mta-requires read-requires same-length returns)

@@ -81,101 +81,95 @@ upload-requires c κs = (c .before .before .before .before .before .before .befo
 enum-known-deed-6 : tie.Need-enum-known-deed-6
 enum-known-deed-6 c = c .match .keys13
 
-read-requires : tie.Need-read-requires
-read-requires c κs = (c .before .before .before .before .before .before .before .before .pre .0, rw (c .before .before .before .deed6 .given .1) at (c .before .before .before .before .before .before .before .before .pre .2))
+checksum-requires : tie.Need-checksum-requires
+checksum-requires c κs = (c .before .before .before .before .before .before .before .before .pre .0, rw (c .before .before .before .deed6 .given .1) at (c .before .before .before .before .before .before .before .before .pre .2))
 
 enum-known-deed-7 : tie.Need-enum-known-deed-7
 enum-known-deed-7 c = c .match .keys14
 
-checksum-requires : tie.Need-checksum-requires
-checksum-requires c κs = (c .before .before .before .before .before .before .before .before .pre .0, rw (c .before .before .before .deed7 .given .1) at (c .before .before .before .before .before .before .before .before .pre .2))
+download-requires : tie.Need-download-requires
+download-requires c κs = let h = rw (c .before .before .before .deed7 .given .1) at (c .before .before .before .before .before .before .before .before .pre .2) in (c .before .before .before .before .before .before .before .before .pre .0, c .before .before .before .before .before .before .before .before .pre .1, h .0, h .1)
 
 enum-known-deed-8 : tie.Need-enum-known-deed-8
 enum-known-deed-8 c = c .match .keys15
 
-download-requires : tie.Need-download-requires
-download-requires c κs = let h = rw (c .before .before .before .deed8 .given .1) at (c .before .before .before .before .before .before .before .before .pre .2) in (c .before .before .before .before .before .before .before .before .pre .0, c .before .before .before .before .before .before .before .before .pre .1, h .0, h .1)
+clear-list-requires : tie.Need-clear-list-requires
+clear-list-requires c κs = (c .before .before .before .before .before .before .before .pre .0, rw (c .before .before .deed8 .given .1) at (c .before .before .before .before .before .before .before .pre .2))
 
 enum-known-deed-9 : tie.Need-enum-known-deed-9
 enum-known-deed-9 c = c .match .keys16
 
-clear-list-requires : tie.Need-clear-list-requires
-clear-list-requires c κs = (c .before .before .before .before .before .before .before .pre .0, rw (c .before .before .deed9 .given .1) at (c .before .before .before .before .before .before .before .pre .2))
+set-pointer-requires : tie.Need-set-pointer-requires
+set-pointer-requires c κs = let h = rw (c .before .before .deed9 .given .1) at (c .before .before .before .before .before .before .before .pre .2) in (c .before .before .before .before .before .before .before .pre .0, h .0, h .1)
 
 enum-known-deed-10 : tie.Need-enum-known-deed-10
 enum-known-deed-10 c = c .match .keys17
 
-set-pointer-requires : tie.Need-set-pointer-requires
-set-pointer-requires c κs = let h = rw (c .before .before .deed10 .given .1) at (c .before .before .before .before .before .before .before .pre .2) in (c .before .before .before .before .before .before .before .pre .0, h .0, h .1)
+clear-entry-requires : tie.Need-clear-entry-requires
+clear-entry-requires c κs = let h = rw (c .before .before .deed10 .given .1) at (c .before .before .before .before .before .before .before .pre .2) in (c .before .before .before .before .before .before .before .pre .0, h .0, h .1)
 
 enum-known-deed-11 : tie.Need-enum-known-deed-11
 enum-known-deed-11 c = c .match .keys18
 
-clear-entry-requires : tie.Need-clear-entry-requires
-clear-entry-requires c κs = let h = rw (c .before .before .deed11 .given .1) at (c .before .before .before .before .before .before .before .pre .2) in (c .before .before .before .before .before .before .before .pre .0, h .0, h .1)
+write-entry-requires : tie.Need-write-entry-requires
+write-entry-requires c κs = let h = rw (c .before .before .deed11 .given .1) at (c .before .before .before .before .before .before .before .pre .2) in (c .before .before .before .before .before .before .before .pre .0, h .0, h .1)
 
 enum-known-deed-12 : tie.Need-enum-known-deed-12
 enum-known-deed-12 c = c .match .keys19
 
-write-entry-requires : tie.Need-write-entry-requires
-write-entry-requires c κs = let h = rw (c .before .before .deed12 .given .1) at (c .before .before .before .before .before .before .before .pre .2) in (c .before .before .before .before .before .before .before .pre .0, h .0, h .1)
+set-mode-requires : tie.Need-set-mode-requires
+set-mode-requires c κs = let h = rw (c .before .before .deed12 .given .1) at (c .before .before .before .before .before .before .before .pre .2) in (c .before .before .before .before .before .before .before .pre .0, h .0, h .1)
 
 enum-known-deed-13 : tie.Need-enum-known-deed-13
 enum-known-deed-13 c = c .match .keys20
 
-set-mode-requires : tie.Need-set-mode-requires
-set-mode-requires c κs = let h = rw (c .before .before .deed13 .given .1) at (c .before .before .before .before .before .before .before .pre .2) in (c .before .before .before .before .before .before .before .pre .0, h .0, h .1)
+stop-requires : tie.Need-stop-requires
+stop-requires c κs = (c .before .before .before .before .before .before .before .pre .0, rw (c .before .before .deed13 .given .1) at (c .before .before .before .before .before .before .before .pre .2))
 
 enum-known-deed-14 : tie.Need-enum-known-deed-14
 enum-known-deed-14 c = c .match .keys21
 
-stop-requires : tie.Need-stop-requires
-stop-requires c κs = (c .before .before .before .before .before .before .before .pre .0, rw (c .before .before .deed14 .given .1) at (c .before .before .before .before .before .before .before .pre .2))
+start-requires : tie.Need-start-requires
+start-requires c κs = (c .before .before .before .before .before .before .before .pre .0, rw (c .before .before .deed14 .given .1) at (c .before .before .before .before .before .before .before .pre .2))
 
 enum-known-deed-15 : tie.Need-enum-known-deed-15
 enum-known-deed-15 c = c .match .keys22
 
-start-requires : tie.Need-start-requires
-start-requires c κs = (c .before .before .before .before .before .before .before .pre .0, rw (c .before .before .deed15 .given .1) at (c .before .before .before .before .before .before .before .pre .2))
+keep-running-requires : tie.Need-keep-running-requires
+keep-running-requires c κs = (c .before .before .before .before .before .before .before .pre .0, rw (c .before .before .deed15 .given .1) at (c .before .before .before .before .before .before .before .pre .2))
 
 enum-known-deed-16 : tie.Need-enum-known-deed-16
 enum-known-deed-16 c = c .match .keys23
 
-keep-running-requires : tie.Need-keep-running-requires
-keep-running-requires c κs = (c .before .before .before .before .before .before .before .pre .0, rw (c .before .before .deed16 .given .1) at (c .before .before .before .before .before .before .before .pre .2))
-
-enum-known-deed-17 : tie.Need-enum-known-deed-17
-enum-known-deed-17 c = c .match .keys24
-
 select-requires : tie.Need-select-requires
-select-requires c κs = (c .before .before .before .before .before .before .before .pre .0, rw (c .before .before .deed17 .given .1) at (c .before .before .before .before .before .before .before .pre .2))
+select-requires c κs = (c .before .before .before .before .before .before .before .pre .0, rw (c .before .before .deed16 .given .1) at (c .before .before .before .before .before .before .before .pre .2))
 
 enum-told-8 : tie.Need-enum-told-8
-enum-told-8 c = c .match .keys25
+enum-told-8 c = c .match .keys24
 
 stop-all-requires : tie.Need-stop-all-requires
 stop-all-requires c κs = search needs
 
 enum-told-9 : tie.Need-enum-told-9
-enum-told-9 c = c .match .keys26
+enum-told-9 c = c .match .keys25
 
 start-selected-requires : tie.Need-start-selected-requires
 start-selected-requires c κs = search needs
 
 enum-told-10 : tie.Need-enum-told-10
-enum-told-10 c = c .match .keys27
+enum-told-10 c = c .match .keys26
 
 stop-selected-requires : tie.Need-stop-selected-requires
 stop-selected-requires c κs = search needs
 
 enum-told-11 : tie.Need-enum-told-11
-enum-told-11 c = c .match .keys28
+enum-told-11 c = c .match .keys27
 
 processor-info-requires : tie.Need-processor-info-requires
 processor-info-requires c κs = search needs
 
 enum-told-12 : tie.Need-enum-told-12
-enum-told-12 c = c .match .keys29
+enum-told-12 c = c .match .keys28
 
 resolution-info-requires : tie.Need-resolution-info-requires
 resolution-info-requires c κs = search needs
@@ -275,7 +269,7 @@ same-length-15 c = search needs
 
 returns-13 : tie.Need-returns-13
 unfolding effect replyIn sessionOf writes
-returns-13 c = rw (c .before .before .before .before .before .before .deed6 .given .1) (record { state = c .before .before .read .ensures; memory = refl })
+returns-13 c = rw (c .before .before .before .before .before .before .deed6 .given .1) (record { state = c .before .before .checksum .ensures; memory = refl })
 
 same-length-16 : tie.Need-same-length-16
 same-length-16 c = search needs
@@ -285,115 +279,105 @@ same-length-17 c = search needs
 
 returns-14 : tie.Need-returns-14
 unfolding effect replyIn sessionOf writes
-returns-14 c = rw (c .before .before .before .before .before .before .deed7 .given .1) (record { state = c .before .before .checksum .ensures; memory = refl })
+returns-14 c = rw (c .before .before .before .before .before .before .before .before .deed7 .given .1) (record { state = c .before .before .before .before .download .ensures .0; memory = c .before .before .before .before .download .ensures .1 })
 
 same-length-18 : tie.Need-same-length-18
 same-length-18 c = search needs
 
+returns-15 : tie.Need-returns-15
+unfolding effect replyIn sessionOf writes
+returns-15 c = rw (c .before .before .before .before .before .deed8 .given .1) (record { state = c .before .before .clear-list .ensures; memory = refl })
+
 same-length-19 : tie.Need-same-length-19
 same-length-19 c = search needs
 
-returns-15 : tie.Need-returns-15
+returns-16 : tie.Need-returns-16
 unfolding effect replyIn sessionOf writes
-returns-15 c = rw (c .before .before .before .before .before .before .before .before .deed8 .given .1) (record { state = c .before .before .before .before .download .ensures .0; memory = c .before .before .before .before .download .ensures .1 })
+returns-16 c = rw (c .before .before .before .before .before .deed9 .given .1) (record { state = c .before .before .set-pointer .ensures; memory = refl })
 
 same-length-20 : tie.Need-same-length-20
 same-length-20 c = search needs
 
-returns-16 : tie.Need-returns-16
+returns-17 : tie.Need-returns-17
 unfolding effect replyIn sessionOf writes
-returns-16 c = rw (c .before .before .before .before .before .deed9 .given .1) (record { state = c .before .before .clear-list .ensures; memory = refl })
+returns-17 c = rw (c .before .before .before .before .before .deed10 .given .1) (record { state = c .before .before .clear-entry .ensures; memory = refl })
 
 same-length-21 : tie.Need-same-length-21
 same-length-21 c = search needs
 
-returns-17 : tie.Need-returns-17
+returns-18 : tie.Need-returns-18
 unfolding effect replyIn sessionOf writes
-returns-17 c = rw (c .before .before .before .before .before .deed10 .given .1) (record { state = c .before .before .set-pointer .ensures; memory = refl })
+returns-18 c = rw (c .before .before .before .before .before .deed11 .given .1) (record { state = c .before .before .write-entry .ensures; memory = refl })
 
 same-length-22 : tie.Need-same-length-22
 same-length-22 c = search needs
 
-returns-18 : tie.Need-returns-18
+returns-19 : tie.Need-returns-19
 unfolding effect replyIn sessionOf writes
-returns-18 c = rw (c .before .before .before .before .before .deed11 .given .1) (record { state = c .before .before .clear-entry .ensures; memory = refl })
+returns-19 c = rw (c .before .before .before .before .before .deed12 .given .1) (record { state = c .before .before .set-mode .ensures; memory = refl })
 
 same-length-23 : tie.Need-same-length-23
 same-length-23 c = search needs
 
-returns-19 : tie.Need-returns-19
+returns-20 : tie.Need-returns-20
 unfolding effect replyIn sessionOf writes
-returns-19 c = rw (c .before .before .before .before .before .deed12 .given .1) (record { state = c .before .before .write-entry .ensures; memory = refl })
+returns-20 c = rw (c .before .before .before .before .before .deed13 .given .1) (record { state = c .before .before .stop .ensures; memory = refl })
 
 same-length-24 : tie.Need-same-length-24
 same-length-24 c = search needs
 
-returns-20 : tie.Need-returns-20
+returns-21 : tie.Need-returns-21
 unfolding effect replyIn sessionOf writes
-returns-20 c = rw (c .before .before .before .before .before .deed13 .given .1) (record { state = c .before .before .set-mode .ensures; memory = refl })
+returns-21 c = rw (c .before .before .before .before .before .deed14 .given .1) (record { state = c .before .before .start .ensures; memory = refl })
 
 same-length-25 : tie.Need-same-length-25
 same-length-25 c = search needs
 
-returns-21 : tie.Need-returns-21
+returns-22 : tie.Need-returns-22
 unfolding effect replyIn sessionOf writes
-returns-21 c = rw (c .before .before .before .before .before .deed14 .given .1) (record { state = c .before .before .stop .ensures; memory = refl })
+returns-22 c = rw (c .before .before .before .before .before .deed15 .given .1) (record { state = c .before .before .keep-running .ensures; memory = refl })
 
 same-length-26 : tie.Need-same-length-26
 same-length-26 c = search needs
 
-returns-22 : tie.Need-returns-22
+returns-23 : tie.Need-returns-23
 unfolding effect replyIn sessionOf writes
-returns-22 c = rw (c .before .before .before .before .before .deed15 .given .1) (record { state = c .before .before .start .ensures; memory = refl })
+returns-23 c = rw (c .before .before .before .before .before .deed16 .given .1) (record { state = c .before .before .select .ensures; memory = refl })
 
 same-length-27 : tie.Need-same-length-27
 same-length-27 c = search needs
 
-returns-23 : tie.Need-returns-23
+returns-24 : tie.Need-returns-24
 unfolding effect replyIn sessionOf writes
-returns-23 c = rw (c .before .before .before .before .before .deed16 .given .1) (record { state = c .before .before .keep-running .ensures; memory = refl })
+returns-24 c = rw (c .before .before .before .before .enum-told8 .given .1) (record { state = c .before .before .stop-all .ensures; memory = refl })
 
 same-length-28 : tie.Need-same-length-28
 same-length-28 c = search needs
 
-returns-24 : tie.Need-returns-24
+returns-25 : tie.Need-returns-25
 unfolding effect replyIn sessionOf writes
-returns-24 c = rw (c .before .before .before .before .before .deed17 .given .1) (record { state = c .before .before .select .ensures; memory = refl })
+returns-25 c = rw (c .before .before .before .before .enum-told9 .given .1) (record { state = c .before .before .start-selected .ensures; memory = refl })
 
 same-length-29 : tie.Need-same-length-29
 same-length-29 c = search needs
 
-returns-25 : tie.Need-returns-25
+returns-26 : tie.Need-returns-26
 unfolding effect replyIn sessionOf writes
-returns-25 c = rw (c .before .before .before .before .enum-told8 .given .1) (record { state = c .before .before .stop-all .ensures; memory = refl })
+returns-26 c = rw (c .before .before .before .before .enum-told10 .given .1) (record { state = c .before .before .stop-selected .ensures; memory = refl })
 
 same-length-30 : tie.Need-same-length-30
 same-length-30 c = search needs
 
-returns-26 : tie.Need-returns-26
+returns-27 : tie.Need-returns-27
 unfolding effect replyIn sessionOf writes
-returns-26 c = rw (c .before .before .before .before .enum-told9 .given .1) (record { state = c .before .before .start-selected .ensures; memory = refl })
+returns-27 c = rw (c .before .before .before .before .enum-told11 .given .1) (record { state = c .before .before .processor-info .ensures; memory = refl })
 
 same-length-31 : tie.Need-same-length-31
 same-length-31 c = search needs
 
-returns-27 : tie.Need-returns-27
-unfolding effect replyIn sessionOf writes
-returns-27 c = rw (c .before .before .before .before .enum-told10 .given .1) (record { state = c .before .before .stop-selected .ensures; memory = refl })
-
-same-length-32 : tie.Need-same-length-32
-same-length-32 c = search needs
-
 returns-28 : tie.Need-returns-28
 unfolding effect replyIn sessionOf writes
-returns-28 c = rw (c .before .before .before .before .enum-told11 .given .1) (record { state = c .before .before .processor-info .ensures; memory = refl })
-
-same-length-33 : tie.Need-same-length-33
-same-length-33 c = search needs
-
-returns-29 : tie.Need-returns-29
-unfolding effect replyIn sessionOf writes
-returns-29 c = rw (c .before .before .before .before .enum-told12 .given .1) (record { state = c .before .before .resolution-info .ensures; memory = refl })
+returns-28 c = rw (c .before .before .before .before .enum-told12 .given .1) (record { state = c .before .before .resolution-info .ensures; memory = refl })
 
 pub perform-spec : {M : Type 1} → statement M
 perform-spec =
@@ -424,28 +408,26 @@ perform-spec =
     enum-known-deed-5
     upload-requires
     enum-known-deed-6
-    read-requires
-    enum-known-deed-7
     checksum-requires
-    enum-known-deed-8
+    enum-known-deed-7
     download-requires
-    enum-known-deed-9
+    enum-known-deed-8
     clear-list-requires
-    enum-known-deed-10
+    enum-known-deed-9
     set-pointer-requires
-    enum-known-deed-11
+    enum-known-deed-10
     clear-entry-requires
-    enum-known-deed-12
+    enum-known-deed-11
     write-entry-requires
-    enum-known-deed-13
+    enum-known-deed-12
     set-mode-requires
-    enum-known-deed-14
+    enum-known-deed-13
     stop-requires
-    enum-known-deed-15
+    enum-known-deed-14
     start-requires
-    enum-known-deed-16
+    enum-known-deed-15
     keep-running-requires
-    enum-known-deed-17
+    enum-known-deed-16
     select-requires
     enum-told-8
     stop-all-requires
@@ -489,33 +471,30 @@ perform-spec =
     same-length-17
     returns-14
     same-length-18
-    same-length-19
     returns-15
-    same-length-20
+    same-length-19
     returns-16
-    same-length-21
+    same-length-20
     returns-17
-    same-length-22
+    same-length-21
     returns-18
-    same-length-23
+    same-length-22
     returns-19
-    same-length-24
+    same-length-23
     returns-20
-    same-length-25
+    same-length-24
     returns-21
-    same-length-26
+    same-length-25
     returns-22
-    same-length-27
+    same-length-26
     returns-23
-    same-length-28
+    same-length-27
     returns-24
-    same-length-29
+    same-length-28
     returns-25
-    same-length-30
+    same-length-29
     returns-26
-    same-length-31
+    same-length-30
     returns-27
-    same-length-32
-    returns-28
-    same-length-33
-    returns-29)
+    same-length-31
+    returns-28)

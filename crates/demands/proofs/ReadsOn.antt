@@ -1,0 +1,99 @@
+-- SHORT_UPLOAD sets the MTA behind its block, and UPLOAD goes on there. Assumes nothing.
+use Prim.{tt}
+use Prim.Native.Nat.{ℕ, _+_}
+use mathlib.Core.Path.{_≡_, refl, sym, ap, subst, _∙_}
+use mathlib.Core.Bool.{true}
+use mathlib.Core.List.{List, _∷_, _++_}
+use lib.ListN.{length, drop, take}
+use lib.Seq.{drop-drop, take-add}
+use Rattle.state.specs.Bytes.{block, u32At}
+use Rattle.state.specs.Memory.{pick}
+use Rattle.state.specs.State.{consistent}
+use Rattle.model.specs.Judge.{extensionFrom}
+use Rattle.model.specs.Model.{byte, Session, Slave}
+use Rattle.model.specs.Step.{stepIn}
+use Rattle.model.specs.Answers.{replyIn}
+use Rattle.model.specs.View.{sessionOf, viewOf}
+use Rattle.model.specs.declared.Deed.{Deed}
+use Rattle.model.specs.declared.Deed.the-variants.{Upload}
+use Rattle.words.specs.declared.Extension.{Extension}
+use Rattle.words.specs.declared.Mta.the-variants.{At}
+use Rattle.session.specs.Perform.{after}
+use Rattle.session.specs.Receive.{Step, receiveOf}
+use Rattle.judge.specs.Doable.{Doable}
+use Rattle.look.proofs.Looked.{judged-doable}
+use Rattle.fields.proofs.Kept.{receive-kept}
+use Rattle.views.proofs.Done.{view-after}
+use Rattle.views.proofs.MemoryLaws.{Reading, Own, upload-reads, short-reads}
+use Rattle.demands.specs.Slave.{ours}
+use Rattle.demands.specs.Runs.{Call, run}
+use Rattle.demands.specs.Heard.{readBy, deedIn}
+use Rattle.demands.specs.Demand2.{Brings, Uncommanded}
+use Rattle.demands.proofs.ReadBy.{read-length}
+use Rattle.demands.proofs.Received.{commanded, command-answer}
+use Rattle.demands.proofs.Keys.{run-alike}
+use Rattle.demands.proofs.Downloads.{upload-says}
+
+-- two blocks, the second behind the first
+block-on : (mem : List ℕ) (a n k : ℕ) → block mem a n ++ block mem (a + n) k ≡ block mem a (n + k)
+block-on mem a n k = sym (take-add n k (drop a mem) ∙ ap (λ (l : List ℕ). take n (drop a mem) ++ take k l) (drop-drop n a mem))
+
+upload-leaves : (x : Extension) (a n : ℕ) (c : Session) → stepIn (Upload x a n) c .mta ≡ At x (a + n)
+unfolding stepIn
+upload-leaves x a n c = refl
+
+-- ---- a command that reads: its bytes, and the MTA after it
+module _ (s cal meas : List ℕ) (b : ℕ) (p bs : List ℕ) (u : consistent s ≡ true) (number : ℕ) (w : Brings ours number s cal meas b p bs) where
+  answered-ff : byte (replyIn (deedIn p (sessionOf s) cal meas) (sessionOf s) cal meas) 0 ≡ 0xFF
+  answered-ff = ap (λ (l : List ℕ). byte l 0) (sym (command-answer s cal meas b p u (w .command)) ∙ w .answer)
+
+  module _ (From : Extension → ℕ → Type 0) (r : Reading p (sessionOf s) cal meas From (deedIn p (sessionOf s) cal meas)) where
+    read-bytes : bs ≡ block (pick (r .extension) cal meas) (r .address) (byte p 1)
+    read-bytes =
+        ap (drop 1)
+        (sym (w .answer) ∙ command-answer s cal meas b p u (w .command) ∙ ap (λ (d : Deed). replyIn d (sessionOf s) cal meas) (r .deed)
+        ∙ upload-says (r .extension) (r .address) (byte p 1) (sessionOf s) cal meas)
+
+    read-leaves : sessionOf (receiveOf s cal meas b .state) .mta ≡ At (r .extension) (r .address + byte p 1)
+    unfolding viewOf
+    read-leaves =
+        let t : List ℕ = readBy s b in
+        let x : Extension = r .extension in
+        let a : ℕ = r .address in
+        let can : Doable (Upload x a (byte p 1)) (length p) (length cal) (length meas) =
+        subst (λ (d : Deed). Doable d (length p) (length cal) (length meas)) (r .deed) (judged-doable p s (length cal) (length meas)) in
+        ap (λ (o : Step). sessionOf (o .state) .mta) (commanded s cal meas b p u (w .command)) ∙ ap (λ (d : Deed). sessionOf (after d t cal meas) .mta) (r .deed)
+        ∙ ap (λ (v : Slave). v .session .mta) (view-after (Upload x a (byte p 1)) t cal meas (length p) (read-length s b u) can tt) ∙ upload-leaves x a (byte p 1) (sessionOf t)
+
+-- ---- SHORT_UPLOAD
+module _ (s cal meas : List ℕ) (b : ℕ) (p bs : List ℕ) (u : consistent s ≡ true) (w : Brings ours 0xF4 s cal meas b p bs) where
+  short : Reading p (sessionOf s) cal meas (Own p (sessionOf s) cal meas) (deedIn p (sessionOf s) cal meas)
+  short = short-reads p (sessionOf s) cal meas (w .code) (answered-ff s cal meas b p bs u 0xF4 w)
+
+  pub sets-mta : sessionOf (ours .receive s cal meas b .state) .mta ≡ At (extensionFrom (byte p 3)) (u32At p 4 + byte p 1)
+  sets-mta = rw (← (short .from .0), ← (short .from .2)) (read-leaves s cal meas b p bs u 0xF4 w (Own p (sessionOf s) cal meas) short)
+
+  short-bytes : bs ≡ block (pick (extensionFrom (byte p 3)) cal meas) (u32At p 4) (byte p 1)
+  short-bytes = rw (← (short .from .0), ← (short .from .2)) (read-bytes s cal meas b p bs u 0xF4 w (Own p (sessionOf s) cal meas) short)
+
+-- ---- UPLOAD from where the MTA is
+upload-bytes : (s cal meas : List ℕ) (b : ℕ) (p bs : List ℕ) (x : Extension) (a : ℕ) → consistent s ≡ true → Brings ours 0xF5 s cal meas b p bs → sessionOf s .mta ≡ At x a
+    → bs ≡ block (pick x cal meas) a (byte p 1)
+upload-bytes s cal meas b p bs x a u w e =
+    let From : Extension → ℕ → Type 0 = λ y d. sessionOf s .mta ≡ At y d in
+    let r : Reading p (sessionOf s) cal meas From (deedIn p (sessionOf s) cal meas) = upload-reads p (sessionOf s) cal meas (w .code) (answered-ff s cal meas b p bs u 0xF5 w) in
+    let same : At (r .extension) (r .address) ≡ At x a = sym (r .from) ∙ e in
+    let bytes : bs ≡ block (pick (r .extension) cal meas) (r .address) (byte p 1) = read-bytes s cal meas b p bs u 0xF5 w From r in
+    cc
+
+pub goes-on : (s cal meas : List ℕ) (b : ℕ) (p first : List ℕ) (between : List Call) (c : ℕ) (q second : List ℕ) → consistent s ≡ true
+    → Brings ours 0xF4 s cal meas b p first → Uncommanded ours (ours .receive s cal meas b .state) between
+    → Brings ours 0xF5 (run ours (ours .receive s cal meas b .state) between) cal meas c q second
+    → first ++ second ≡ block (pick (extensionFrom (byte p 3)) cal meas) (u32At p 4) (byte p 1 + byte q 1)
+goes-on s cal meas b p first between c q second u short quiet next =
+    let t : List ℕ = receiveOf s cal meas b .state in
+    let x : Extension = extensionFrom (byte p 3) in
+    let a : ℕ = u32At p 4 in
+    let later = run-alike between t (receive-kept s cal meas b u) quiet in
+    let there : sessionOf (run ours t between) .mta ≡ At x (a + byte p 1) = later .0 .mta ∙ sets-mta s cal meas b p first u short in
+    rw (short-bytes s cal meas b p first u short, upload-bytes (run ours t between) cal meas c q second x (a + byte p 1) (later .1) next there) (block-on (pick x cal meas) a (byte p 1) (byte q 1))
