@@ -18,6 +18,7 @@ pub fn run(rig: &mut Rig) {
             }
             edges(rig, extension, length.min(4096) as u32);
             sums(rig, extension, length.min(4096) as u32);
+            first_address(rig, extension);
         }
     }
 }
@@ -54,7 +55,9 @@ fn edges(rig: &mut Rig, extension: u8, reach: u32) {
             u32::MAX,
         ];
         for address in addresses {
+            // The other command goes on from where this one leaves the address.
             rig.ask(&with_address([0xF4, count, 0, extension], address));
+            rig.ask(&[0xF5, 8 - count]);
             rig.set_mta(extension, address);
             rig.ask(&[0xF5, count]);
             // Shows whether the address moved on.
@@ -78,5 +81,14 @@ fn sums(rig: &mut Rig, extension: u8, reach: u32) {
             rig.ask(&with_address([0xF3, 0, 0, 0], size));
             rig.ask(&[0xF5, 1]);
         }
+    }
+}
+
+/// In a session where no address is set: a block that is inside sets it, one that is not does not.
+fn first_address(rig: &mut Rig, extension: u8) {
+    for address in [0, 1, 4095, 4096] {
+        rig.connect();
+        rig.ask(&with_address([0xF4, 1, 0, extension], address));
+        rig.ask(&[0xF5, 1]);
     }
 }

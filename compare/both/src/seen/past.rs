@@ -19,9 +19,13 @@ enum Case {
     OldKey,
     ModeAlone,
     EntriesAlone,
+    GoesOn,
+    FirstAddress,
+    AddressLeft,
+    StillUnset,
 }
 
-const NAMES: [&str; 8] = [
+const NAMES: [&str; 12] = [
     "a sum above 65,535",
     "a calibration key that wraps",
     "a list key that wraps",
@@ -30,7 +34,19 @@ const NAMES: [&str; 8] = [
     "a key to a seed that a renewal forgot",
     "a start of a list that a renewal cleared, its mode set again",
     "a start of a list that a renewal cleared, its entries written again",
+    "an UPLOAD right behind the block of a SHORT_UPLOAD",
+    "an UPLOAD behind a SHORT_UPLOAD that found no address set",
+    "an UPLOAD from the address that a refused SHORT_UPLOAD left",
+    "an UPLOAD refused since a refused SHORT_UPLOAD left the address unset",
 ];
+
+/// A SHORT_UPLOAD as the command before.
+#[derive(Clone, Copy)]
+struct Short {
+    done: bool,
+    /// It found an address set.
+    set: bool,
+}
 
 /// What done commands have set up since the session began.
 #[derive(Clone, Copy, Default)]
@@ -40,6 +56,7 @@ struct Session {
     /// A seed of no bytes was given since.
     outlived: bool,
     mta: Option<(u8, u32)>,
+    short: Option<Short>,
     pointer: usize,
     has_mode: [bool; 4],
     has_entries: [bool; 4],
@@ -60,7 +77,7 @@ impl Past {
         self.renewed = Session::default();
     }
 
-    /// The extension that SET_MTA has set.
+    /// The extension of the address, where one is set.
     pub fn extension(&self) -> Option<u8> {
         self.now.mta.map(|mta| mta.0)
     }
@@ -79,6 +96,16 @@ impl Past {
 
     pub fn answered(&mut self, asked: &Asked, answer: &[u8]) {
         let packet = asked.packet.as_slice();
+        let good = answer[0] == 0xFF;
+        let short = self.now.short.take();
+        match (packet[0], short) {
+            (0xF5, Some(short)) => self.goes_on(short, answer),
+            (0xF4, _) => {
+                let set = self.now.mta.is_some();
+                self.now.short = Some(Short { done: good, set });
+            }
+            _ => {}
+        }
         match (packet[0], answer) {
             (_, [0xFF, ..]) => self.done(asked, answer),
             // A wrong key, which ends the session.
@@ -114,6 +141,7 @@ impl Past {
             }
             0xF7 => self.unlocked(packet),
             0xF6 => self.now.mta = Some((packet[3], number(packet))),
+            0xF4 => self.now.mta = Some((packet[3], number(packet) + u32::from(packet[1]))),
             0xF5 | 0xF0 => self.move_on(u32::from(packet[1])),
             0xF3 => {
                 self.move_on(number(packet));
@@ -122,6 +150,17 @@ impl Past {
                 }
             }
             _ => self.set_up(packet),
+        }
+    }
+
+    /// An UPLOAD right after a SHORT_UPLOAD.
+    fn goes_on(&mut self, short: Short, answer: &[u8]) {
+        match (short.done, short.set, answer) {
+            (true, true, [0xFF, ..]) => self.count(Case::GoesOn),
+            (true, false, [0xFF, ..]) => self.count(Case::FirstAddress),
+            (false, true, [0xFF, ..]) => self.count(Case::AddressLeft),
+            (false, false, [0xFE, 0x29]) => self.count(Case::StillUnset),
+            _ => {}
         }
     }
 
