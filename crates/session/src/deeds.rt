@@ -12,12 +12,12 @@ ghost use Rattle.session.specs.Perform.{after};
 ghost use Rattle.model.specs.Answers.{written};
 ghost use Rattle.judge.specs.Doable.{Inside};
 use crate::answer;
-use crate::blocks::block_sum;
 use crate::blocks::copy;
 use lists::asked::any_runs;
 use model::Deed;
 use state::fields;
 use state::layout;
+use sums::block_sum;
 use words::Extension;
 use words::Mta;
 use words::Reason;
@@ -151,8 +151,8 @@ pub fn checksum(s: &mut [u8], cal: &[u8], meas: &[u8], extension: Extension, add
     requires { ⌜ (length (now s) ≡ size) × Inside addressable address n (pick extension (length (now cal)) (length (now meas))) ⌝ }
     ensures { λ _. ⌜ now (s .exit) ≡ after (Deed.Checksum extension address n) (now (s .entry)) (now (cal .entry)) (now (meas .entry)) ⌝ }
 {
-    let sum = sum_of(cal, meas, extension, address, n);
     fields::set_mta(s, Mta::At(extension, address + n));
+    let sum = sum_of(cal, meas, extension, address, n);
     answer::sum(s, sum);
 }
 

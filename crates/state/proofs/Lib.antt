@@ -1,6 +1,5 @@
 -- Laws that the functions' proofs cite.
 pub mod Sets
-pub mod Sums
 pub mod Rotated
 pub mod Xorshift
 pub mod Inside

@@ -10,14 +10,14 @@ use borrow.Author.Needs.{needs}
 use Rattle.session.proofs.deeds.checksum.Statement.{statement}
 use Rattle.session.proofs.deeds.checksum.Tie as tie
 
-sum-of-requires : tie.Need-sum-of-requires
-sum-of-requires c κs = search needs
-
 add-t11 : tie.Need-add-t11
-add-t11 c = omega (arith, inside-le (c .before .before .before .before .before .args .address) (c .before .before .before .before .before .args .n) (pick (c .before .before .before .before .before .args .extension) (length (c .before .before .before .before .before .args .cal .now)) (length (c .before .before .before .before .before .args .meas .now))) (c .before .before .before .before .before .pre .1 .1) .1)
+add-t11 c = omega (arith, inside-le (c .before .before .before .before .args .address) (c .before .before .before .before .args .n) (pick (c .before .before .before .before .args .extension) (length (c .before .before .before .before .args .cal .now)) (length (c .before .before .before .before .args .meas .now))) (c .before .before .before .before .pre .1 .1) .1)
 
 set-mta-requires : tie.Need-set-mta-requires
 set-mta-requires c κs = search needs
+
+sum-of-requires : tie.Need-sum-of-requires
+sum-of-requires c κs = search needs
 
 sum-requires : tie.Need-sum-requires
 sum-requires c κs = search needs
@@ -27,8 +27,8 @@ same-length c = search needs
 
 returns : tie.Need-returns
 unfolding effect replyIn sessionOf
-returns c = c .before .before .sum .ensures ∙ rw (c .before .before .before .before .before .before .set-mta .ensures, c .before .before .before .before .before .before .before .before .sum-of .ensures)
+returns c = c .before .before .sum .ensures ∙ rw (c .before .before .before .before .before .before .before .set-mta .ensures, c .before .before .before .before .sum-of .ensures)
 
 pub checksum-spec : {M : Type 1} → statement M
 checksum-spec =
-    tie.close (tie.spec sum-of-requires add-t11 set-mta-requires sum-requires same-length returns)
+    tie.close (tie.spec add-t11 set-mta-requires sum-of-requires sum-requires same-length returns)

@@ -1,5 +1,3 @@
-use Rattle.state.proofs.Inside.{inside-le}
-use lib.ListN.{length}
 use borrow.Author.Needs.{needs}
 use Rattle.session.proofs.deeds.sum_of.Statement.{statement}
 use Rattle.session.proofs.deeds.sum_of.Tie as tie
@@ -8,13 +6,13 @@ enum-told : tie.Need-enum-told
 enum-told c = search needs
 
 block-sum-requires : tie.Need-block-sum-requires
-block-sum-requires c κs = inside-le (c .before .before .before .before .args .address) (c .before .before .before .before .args .n) (length (c .before .before .before .before .args .cal .now)) (rw (c .enum-told .given .1) at (c .before .before .before .before .pre .1)) .0
+block-sum-requires c κs = search needs
 
 enum-told-2 : tie.Need-enum-told-2
 enum-told-2 c = search needs
 
 block-sum-requires-2 : tie.Need-block-sum-requires-2
-block-sum-requires-2 c κs = inside-le (c .before .before .before .before .args .address) (c .before .before .before .before .args .n) (length (c .before .before .before .before .args .meas .now)) (rw (c .enum-told2 .given .1) at (c .before .before .before .before .pre .1)) .0
+block-sum-requires-2 c κs = search needs
 
 returns : tie.Need-returns
 returns c = rw (c .before .enum-told .given .1) (c .block-sum .ensures)
