@@ -192,6 +192,50 @@ static void longest_sum(void)
     rig_end(&r);
 }
 
+/* The sum of a block, and the MTA behind it. */
+static void sum_of(struct rig *r, unsigned ext, uint32_t from, uint32_t size)
+{
+    const uint8_t *memory = ext == 0 ? r->cal : r->meas;
+    char answer[32];
+    uint32_t sum = 0;
+    for (uint32_t i = 0; i < size; i++)
+        sum += memory[from + i];
+    snprintf(answer, sizeof answer, "FF 02 00 00 %02X %02X 00 00", LE16(sum));
+    check_note("extension %u, %u bytes from %u", ext, (unsigned)size, (unsigned)from);
+    ASK(r, "FF", "F6 00 00 %02X %02X %02X 00 00", ext, LE16(from));
+    ASK(r, answer, "F3 00 00 00 %02X %02X 00 00", LE16(size));
+    if (from + size < 4096)
+        ASK(r, answer_of(memory + from + size, 1), "F5 01");
+    else
+        ASK(r, "FE 24", "F5 01");
+}
+
+/* A block is summed in runs of 256 words, then in words, then in bytes: sizes around these seams, from
+ * every place in a word, and up to the last byte; of bytes FF, the most that a run has to hold, and of
+ * bytes that differ. */
+static void sums_at_seams(void)
+{
+    static const uint32_t seams[] = {4, 16, 64, 1024, 2048, 3072, 4096};
+    struct rig r;
+    connected(&r);
+    for (int pattern = 0; pattern < 2; pattern++) {
+        for (size_t i = 0; i < 4096; i++)
+            r.cal[i] = r.meas[4095 - i] = (uint8_t)(pattern == 0 ? 0xFF : i * 73 + i / 256 * 5);
+        for (size_t k = 0; k < COUNT(seams); k++)
+            for (uint32_t off = 0; off <= 18; off++) {
+                uint32_t size = seams[k] + off - 9; /* where that is below 0 it is above 4,096 */
+                if (size < 1 || size > 4096)
+                    continue;
+                for (uint32_t from = 0; from < 5 && from + size <= 4096; from++)
+                    sum_of(&r, (from + size) % 2, from, size);
+                sum_of(&r, 0, 4096 - size, size);
+                sum_of(&r, 1, 4096 - size, size);
+            }
+    }
+    check_note("%s", "");
+    rig_end(&r);
+}
+
 /* A memory may have another length at each call: that call's length is judged. */
 static void other_lengths(void)
 {
@@ -236,6 +280,7 @@ void test_memory(void)
     mta_moves();
     upload_goes_on();
     longest_sum();
+    sums_at_seams();
     other_lengths();
     locked_writes();
 }
