@@ -212,6 +212,30 @@ static void commands(void)
     began(0xFF);
 }
 
+/* What a sum takes follows from its size, but not in step with it: what is left behind whole runs has loops of its own. So every
+ * size is tried. */
+static void checksums(void)
+{
+    uint32_t most = 0, stack = 0, size = 0;
+    open_session();
+    for (uint32_t n = 1; n <= sizeof meas; n++) {
+        ASK(0xF6, 0, 0, 1, 0, 0, 0, 0);
+        if (XCP_NUMBER(TELL(CHECKSUM, 0, 0, 0, (uint8_t)n, (uint8_t)(n >> 8), 0, 0)) != XCP_TAKEN)
+            fail("a BUILD_CHECKSUM was not taken");
+        if (counted > most)
+            most = counted, stack = depth, size = n;
+        if (XCP_SIZE(call(SLOT, 0)) < 12) /* a sum has eight bytes in its packet, a refusal two */
+            fail("a BUILD_CHECKSUM was refused");
+    }
+    say("the last byte of the dearest BUILD_CHECKSUM|");
+    say_number(most, 10);
+    say(" (");
+    say_number(size, 10);
+    say(" bytes)|");
+    say_number(stack, 10);
+    say("\n");
+}
+
 static void slots(void)
 {
     open_session();
@@ -259,6 +283,7 @@ int main(void)
         meas[i] = (uint8_t)i;
     bytes();
     commands();
+    checksums();
     slots();
     everything();
     say("the last byte of the dearest other command|");
