@@ -16,8 +16,9 @@
  * Seed and key are a guard against mistakes. They are no security: who listens can compute the key.
  *
  * The longest call is xcp_receive_byte at the last byte of BUILD_CHECKSUM: it reads up to 4,096
- * bytes of memory. Let the ring buffer hold what can arrive in that time. Bytes lost there are
- * damage on the line like any other: the message is dropped, as far as one checksum byte can tell.
+ * bytes of memory, which takes up to 4,998 instructions on a Cortex-M4 (-Os); no other call takes
+ * 2,000. Let the ring buffer hold what can arrive in that time. Bytes lost there are damage on the
+ * line like any other: the message is dropped, as far as one checksum byte can tell.
  *
  * A main loop (examples/host.c is a whole one):
  *
@@ -55,7 +56,7 @@ extern "C" {
 #endif
 
 /* Of this header and the archives made with it; CHANGELOG.md says what each version changed. */
-#define XCP_SLAVE_VERSION "1.1.0"
+#define XCP_SLAVE_VERSION "1.1.1"
 
 /* The state's one size: a shorter or longer buffer is refused. */
 #define XCP_STATE_SIZE 248
