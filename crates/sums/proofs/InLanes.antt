@@ -48,17 +48,17 @@ module _ (s : List ℕ) (n : ℕ) where
   }
 
   -- the bytes of one word more
-  sum-byte : (k : ℕ) → 4 * n + k < length s → sum (take (4 * n + (k + 1)) s) ≡ sum (take (4 * n + k) s) + getD s (4 * n + k) 0
-  sum-byte k h = let e : 4 * n + (k + 1) ≡ 4 * n + k + 1 = omega arith in rw e (sum-next s (4 * n + k) h)
+  word-byte : (k : ℕ) → 4 * n + k < length s → sum (take (4 * n + (k + 1)) s) ≡ sum (take (4 * n + k) s) + getD s (4 * n + k) 0
+  word-byte k h = let e : 4 * n + (k + 1) ≡ 4 * n + k + 1 = omega arith in rw e (sum-next s (4 * n + k) h)
 
   sum-word : 4 * (n + 1) ≤ length s → sum (take (4 * (n + 1)) s) ≡ sum (take (4 * n) s) + getD s (4 * n + 0) 0 + getD s (4 * n + 1) 0 + getD s (4 * n + 2) 0 + getD s (4 * n + 3) 0
   sum-word h =
       let none : 4 * n + 0 ≡ 4 * n = omega arith in
       let so-far : sum (take (4 * n + 0) s) ≡ sum (take (4 * n) s) = ap (λ (i : ℕ). sum (take i s)) none in
-      let one : sum (take (4 * n + 1) s) ≡ sum (take (4 * n + 0) s) + getD s (4 * n + 0) 0 = sum-byte 0 (omega arith) in
-      let two : sum (take (4 * n + 2) s) ≡ sum (take (4 * n + 1) s) + getD s (4 * n + 1) 0 = sum-byte 1 (omega arith) in
-      let three : sum (take (4 * n + 3) s) ≡ sum (take (4 * n + 2) s) + getD s (4 * n + 2) 0 = sum-byte 2 (omega arith) in
-      let four : sum (take (4 * n + 4) s) ≡ sum (take (4 * n + 3) s) + getD s (4 * n + 3) 0 = sum-byte 3 (omega arith) in
+      let one : sum (take (4 * n + 1) s) ≡ sum (take (4 * n + 0) s) + getD s (4 * n + 0) 0 = word-byte 0 (omega arith) in
+      let two : sum (take (4 * n + 2) s) ≡ sum (take (4 * n + 1) s) + getD s (4 * n + 1) 0 = word-byte 1 (omega arith) in
+      let three : sum (take (4 * n + 3) s) ≡ sum (take (4 * n + 2) s) + getD s (4 * n + 2) 0 = word-byte 2 (omega arith) in
+      let four : sum (take (4 * n + 4) s) ≡ sum (take (4 * n + 3) s) + getD s (4 * n + 3) 0 = word-byte 3 (omega arith) in
       let e : 4 * (n + 1) ≡ 4 * n + 4 = omega arith in
       rw e (omega arith)
 

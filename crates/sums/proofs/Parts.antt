@@ -1,17 +1,16 @@
 -- Laws of sums over the parts of a list. Assumes nothing.
 use mathlib.Core.Path.{_≡_, refl, sym, ap, _∙_}
 use mathlib.Core.Bool.{Bool, true, false}
-use mathlib.Core.List.{List, [], _∷_}
+use mathlib.Core.List.{List}
 use Prim.Native.Nat.{ℕ, _+_, _-_, _%_, _^_, _<_, _≤_, min}
 use native.Mathlib.Omega.{arith}
 use borrow.Author.Tests.{leb-true, leb-false}
 use lib.Dec.{leb}
 use lib.ListN.{length, getD, take, drop, take-append-drop, length-drop, drop-of-length-le}
-use lib.Seq.{take-add, take-all, take-nil}
+use lib.Seq.{take-add, take-all, take-nil, getD-drop}
 use Rattle.line.specs.Message.{sum}
-use Rattle.line.proofs.Laws.{sum-append}
+use Rattle.line.proofs.Laws.{sum-append, sum-next}
 use Rattle.state.specs.Bytes.{block}
-use Rattle.state.proofs.Sets.{block-next}
 
 -- a sum that wraps at 32 bits keeps its last 16
 low-bits : (m : ℕ) → m % 2 ^ 32 % 65536 ≡ m % 65536
@@ -34,16 +33,17 @@ goes-to-end s n x b r so-far behind wraps =
 
 -- one byte more
 pub sum-byte : (s : List ℕ) (i n : ℕ) → i + n < length s → sum (block s i (n + 1)) ≡ sum (block s i n) + getD s (i + n) 0
-sum-byte s i n h = rw (block-next s i n h) (omega (arith, sum-append (block s i n) (getD s (i + n) 0 ∷ [])))
+sum-byte s i n h = rw (← getD-drop i s n 0) (sum-next (drop i s) n (simp length-drop (omega arith)))
 
--- ---- what is behind a place, which is how a part that is lent on reads
+-- a block up to the end, or past it, is all that is behind its place
+pub block-rest : (s : List ℕ) (i n : ℕ) → length s ≤ i + n → block s i n ≡ drop i s
+block-rest s i n h = take-all n (drop i s) (simp length-drop (omega arith))
+
+-- so a part that is lent on reads
 pub behind : (s : List ℕ) (i : ℕ) → block s i (length s - i) ≡ drop i s
-behind s i = take-all (length s - i) (drop i s) (simp length-drop (omega arith))
+behind s i = block-rest s i (length s - i) (omega arith)
 
 -- no more is summed than is there
-pub sum-rest : (s : List ℕ) (i n : ℕ) → length s ≤ i + n → sum (block s i n) ≡ sum (drop i s)
-sum-rest s i n h = rw (take-all n (drop i s) (simp length-drop (omega arith))) refl
-
 sum-none : (s : List ℕ) (i n : ℕ) → length s ≤ i → sum (block s i n) ≡ 0
 sum-none s i n h = rw (drop-of-length-le s h, take-nil n) refl
 
@@ -54,7 +54,7 @@ cut-inside s i n = go (leb n (length s - i)) refl where
   go false e =
       let past : length s - i < n = leb-false n (length s - i) e in
       let cut : min n (length s - i) ≡ length s - i = omega arith in
-      rw cut (sum-rest s i (length s - i) (omega arith) ∙ sym (sum-rest s i n (omega arith)))
+      rw (cut, behind s i, block-rest s i n (omega arith)) refl
 
 pub sum-cut : (s : List ℕ) (i n from k : ℕ) → from ≡ min i (length s) → k ≡ min n (length s - from) → sum (block s from k) ≡ sum (block s i n)
 sum-cut s i n from k e f = go (leb i (length s)) refl where

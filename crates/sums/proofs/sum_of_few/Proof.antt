@@ -5,7 +5,7 @@ use borrow.Author.Needs.{needs}
 use lib.ListN.{length, drop}
 use Rattle.line.specs.Message.{sum as total}
 use Rattle.state.specs.Bytes.{block}
-use Rattle.sums.proofs.Parts.{sum-byte, sum-rest}
+use Rattle.sums.proofs.Parts.{sum-byte, block-rest}
 use Rattle.sums.proofs.sum_of_few.Statement.{statement}
 use Rattle.sums.proofs.sum_of_few.Tie as tie
 
@@ -46,7 +46,7 @@ returns : tie.Need-returns Inv-loop μ-loop
 returns c =
     let n : ℕ = length (c .before .before .before .args .part .now) in
     let from : n - n % 4 ≡ 4 * (n / 4) = omega arith in
-    c .before .loop .inv .1 ∙ sum-rest (c .before .before .before .args .part .now) (n - n % 4) (c .before .loop .i) (omega arith) ∙ ap (λ (i : ℕ). total (drop i (c .before .before .before .args .part .now))) from
+    c .before .loop .inv .1 ∙ ap total (block-rest (c .before .before .before .args .part .now) (n - n % 4) (c .before .loop .i) (omega arith)) ∙ ap (λ (i : ℕ). total (drop i (c .before .before .before .args .part .now))) from
 
 pub sum-of-few-spec : {M : Type 1} → statement M
 sum-of-few-spec =
