@@ -4,7 +4,7 @@ ghost use mathlib.Core.Bool.{true};
 ghost use Prim.Native.Nat.{_+_, _≤_, _<_};
 ghost use lib.ListN.{length};
 ghost use lib.Seq.{sets};
-ghost use Rattle.state.specs.Layout.{lists, odts, entries, allOdts, events, odtMost, entryMost, size, sampleAt};
+ghost use Rattle.state.specs.Layout.{lists, odts, entries, allOdts, events, odtMost, entryMost, clockSize, size, sampleAt};
 ghost use Rattle.state.specs.Memory.{bytesOf};
 ghost use Rattle.state.specs.Lists.{sizeOf};
 ghost use Rattle.lists.specs.Lists.{odtBytes};
@@ -15,7 +15,6 @@ ghost use Rattle.model.specs.View.{entryOf, odtOf, sessionOf};
 use crate::Counted;
 use crate::list;
 use model::Sampling;
-use state::bytes::store16;
 use state::fields;
 use state::layout;
 use state::memory::byte;
@@ -85,11 +84,12 @@ fn gather(s: &mut [u8], from: usize, cal: &[u8], meas: &[u8], k: u16) -> usize
 
 // In a list's first ODT the clock; says where the bytes begin.
 fn lead(s: &mut [u8], at: usize, k: u16, clock: u16) -> usize
-    requires { ⌜ at < size ⌝ }
+    requires { ⌜ (length (now s) ≡ size) × (at + clockSize ≤ size) ⌝ }
     ensures { λ r. ⌜ (now (s .exit) ≡ sets (now (s .entry)) at (leadOf k clock)) × (r ≡ at + length (leadOf k clock)) ⌝ }
 {
     if layout::is_first(k) {
-        store16(s, at, clock as u32);
+        s[at] = (clock % 256) as u8;
+        s[at + 1] = (clock / 256 % 256) as u8;
         return at + layout::CLOCK_SIZE as usize;
     }
     at

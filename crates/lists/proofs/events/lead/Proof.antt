@@ -1,6 +1,8 @@
+use Rattle.state.specs.Bytes.{put16}
+use Rattle.lists.proofs.Gathered.{put16-sets}
 use mathlib.Core.Path.{refl, sym, _∙_}
 use native.Mathlib.Omega.{arith}
-use Rattle.lists.proofs.Gathered.{put16-sets}
+use lib.ListN.{length-set}
 use borrow.Author.Needs.{needs}
 use Rattle.lists.proofs.events.lead.Statement.{statement}
 use Rattle.lists.proofs.events.lead.Tie as tie
@@ -8,8 +10,20 @@ use Rattle.lists.proofs.events.lead.Tie as tie
 is-first-requires : tie.Need-is-first-requires
 is-first-requires c κs = search needs
 
-store16-requires : tie.Need-store16-requires
-store16-requires c κs = search needs
+cast-s : tie.Need-cast-s
+cast-s c = search needs
+
+slice-write-s : tie.Need-slice-write-s
+slice-write-s c = search needs
+
+cast-s-2 : tie.Need-cast-s-2
+cast-s-2 c = search needs
+
+add-s : tie.Need-add-s
+add-s c = search needs
+
+slice-write-s-2 : tie.Need-slice-write-s-2
+slice-write-s-2 c = simp length-set (omega (arith, c .before .before .before .pre .0, c .before .before .before .pre .1))
 
 cast-result : tie.Need-cast-result
 cast-result c = search needs
@@ -21,7 +35,8 @@ same-length : tie.Need-same-length
 same-length c = search needs
 
 returns : tie.Need-returns
-returns c = simp (sym (c .before .before .before .before .before .is-first .ensures) ∙ c .before .before .before .before .if1 .taken) (c .before .before .store16 .ensures ∙ put16-sets (c .before .before .before .before .before .before .before .args .s .now) (c .before .before .before .before .before .before .before .args .at) (c .before .before .before .before .before .before .before .args .clock), omega arith)
+unfolding put16
+returns c = simp (sym (c .before .is-first .ensures) ∙ c .if1 .taken) (put16-sets (c .before .before .before .args .s .now) (c .before .before .before .args .at) (c .before .before .before .args .clock), omega arith)
 
 returns-2 : tie.Need-returns-2
 returns-2 c = simp (sym (c .before .is-first .ensures) ∙ c .if1 .left) (refl, omega arith)
@@ -31,7 +46,11 @@ lead-spec =
     tie.close
     (tie.spec
     is-first-requires
-    store16-requires
+    cast-s
+    slice-write-s
+    cast-s-2
+    add-s
+    slice-write-s-2
     cast-result
     add-result
     same-length
