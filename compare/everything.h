@@ -115,12 +115,24 @@ static void codes(void)
     ASK(0xFD);
 }
 
+/* Three wrong keys, and a fourth where it stays shut. */
+static void wrong_keys(void)
+{
+    for (int keys = 0; keys < 4; keys++) {
+        ASK(0xFF, 0);
+        ASK(0xF8, 0, 1);
+        ASK(0xF7, 4, 0, 0, 0, 0);
+    }
+    ASK(0xFD);
+}
+
 static void everything(void)
 {
     open_session();
     memory();
     lists();
     codes();
+    wrong_keys();
 }
 
 #endif

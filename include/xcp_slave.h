@@ -56,10 +56,10 @@ extern "C" {
 #endif
 
 /* Of this header and the archives made with it; CHANGELOG.md says what each version changed. */
-#define XCP_SLAVE_VERSION "1.1.1"
+#define XCP_SLAVE_VERSION "1.2.0"
 
 /* The state's one size: a shorter or longer buffer is refused. */
-#define XCP_STATE_SIZE 248
+#define XCP_STATE_SIZE 249
 
 /* The room that a slot needs, whatever waits: the longest frame. */
 #define XCP_SLOT_ROOM 23
@@ -88,7 +88,10 @@ enum xcp_number {
 /* A length has 64 bits on every processor; a narrower size_t widens by itself at the call. */
 
 /* Makes the state anew, whatever it held: no session, nothing waits, the slave's CTR is 0. Seeds
- * follow from start; a start of 0 becomes a default. Refuses with 10 by the size alone. */
+ * follow from start; a start of 0 becomes a default. Refuses with 10 by the size alone.
+ * After three wrong keys no seed is given until this call is made: until then even a tool that has
+ * the right key finds it shut. A host that makes the call by itself, as after a watchdog's reset,
+ * gives three more tries. */
 uint32_t xcp_power_up(uint8_t *state, uint64_t state_len, uint32_t start);
 
 /* Takes one byte from the wire. At most the first 4,096 bytes of each memory can be addressed:

@@ -17,7 +17,7 @@ SIZES = {"SIZE_BYTE": 1, "SIZE_WORD": 2, "SIZE_DWORD": 4}
 TYPES = {"UBYTE": 1, "UWORD": 2, "ULONG": 4}
 # How examples/host.c says where what lies: name, place, memory, size, meaning.
 PLACE = r"\b([A-Z]+) = (0x[0-9A-Fa-f]+),?\s*/\* (\w+): (one|two|four) bytes?, (.*?) \*/"
-WORDS = {"one": 1, "two": 2, "four": 4}
+WORDS = {"one": 1, "two": 2, "three": 3, "four": 4}
 # What GET_DAQ_PROCESSOR_INFO says of the lists, a bit each, and the word that describes it.
 ABILITIES = {0x02: "PRESCALER_SUPPORTED", 0x04: "RESUME_SUPPORTED", 0x08: "STIM", 0x20: "PID_OFF_SUPPORTED"}
 OVERLOAD = ["NO_OVERLOAD_INDICATION", "OVERLOAD_INDICATION_PID", "OVERLOAD_INDICATION_EVENT"]
@@ -113,6 +113,14 @@ def protocol(c, module):
     codes = [*range(0xC0, 0xFE), 0xFF, 0xFE]
     for code, answer in zip(codes, asked(*(f"{code:02X} 00 00 00 00 00 00 00" for code in codes))):
         c.same(f"command {code:02X}", code in listed | MANDATORY, answer[:2] != b"\xfe\x20")
+
+
+def wrong_keys(c, text):
+    """How many of them the comment beside the keys lets pass, and what GET_SEED is answered then."""
+    most, code = re.search(r"After (\w+)[\s*]+wrong keys GET_SEED is refused with (0x\w\w)", text).groups()
+    answers = asked(*["FF 00", "F8 00 01", "F7 04 00 00 00 00"] * (WORDS[most] + 1))[1::3]
+    c.same("wrong keys until no seed is given", WORDS[most], sum(answer[0] == 0xFF for answer in answers))
+    c.same("what GET_SEED is answered then", bytes([0xFE, value(code)]), answers[-1])
 
 
 def lists(c, daq):
@@ -238,8 +246,10 @@ def example(c, module):
 
 def main():
     c = Checks()
-    module = parsed(open("docs/controller.a2l").read()).one("PROJECT", "MODULE")
+    text = open("docs/controller.a2l").read()
+    module = parsed(text).one("PROJECT", "MODULE")
     protocol(c, module)
+    wrong_keys(c, text)
     lists(c, module.one("IF_DATA", "DAQ"))
     checksum(c, module.one("MOD_PAR", "MEMORY_SEGMENT", "IF_DATA", "SEGMENT"))
     example(c, module)

@@ -10,6 +10,8 @@ SYNC = 0x9A
 MEMORY, ROOM = 4096, 23
 START = 1  # the start number that the page's situations have
 RESOURCES = {"calibration": 0x01, "lists": 0x04}
+COUNTS = ["no", "one", "two", "three", "four", "five", "six"]
+SHUT, NO_SEED = b"\xfe\x25", b"\xfe\x29"
 
 
 # The page.
@@ -18,7 +20,7 @@ class Page:
     """Its tables, by the heading above and the first column's name; each is a list of rows, the columns by name."""
 
     def __init__(self, text):
-        self.tables, self.used, self.prose = {}, set(), {}
+        self.text, self.tables, self.used, self.prose = text, {}, set(), {}
         heading, lines = None, text.splitlines()
         for i, line in enumerate(lines):
             if line.startswith("#"):
@@ -100,6 +102,10 @@ class Slave:
     def measured(self, place, values):
         return self.lent(4) + little(place, 2) + bytes([len(values)]) + values
 
+    def exchanges(self, commands):
+        """Each command, and a slot for its answer."""
+        return b"".join(self.bytes(frame(bytes.fromhex(command))) + self.slot() for command in commands)
+
     def run(self, script):
         """What each call returned, and the frame of those that wrote one."""
         self.end.stdin.write(little(len(script), 4) + script)
@@ -116,11 +122,10 @@ class Slave:
 
     def asked(self, commands, start=START):
         """The answer to each command, from a power-up on; None where there was none."""
-        packets = [bytes.fromhex(command) for command in commands]
-        calls = self.run(self.power_up(start) + b"".join(self.bytes(frame(p)) + self.slot() for p in packets))
+        calls = self.run(self.power_up(start) + self.exchanges(commands))
         answers, at = [], 1
-        for packet in packets:
-            at += len(frame(packet))
+        for command in commands:
+            at += len(frame(bytes.fromhex(command)))
             sent = calls[at][1]
             answers.append(plain(sent[1:])[2:-1] if sent else None)
             at += 1
@@ -132,11 +137,11 @@ def key(seed, addend):
     return (x << 8 | x >> 24) % 2**32
 
 
-def opening(slave, resource, addend):
-    """The commands that open one resource, after CONNECT."""
+def opening(slave, resource, addend, before=("FF 00",)):
+    """Commands before, of which the last is CONNECT, and those that open one resource then."""
     get = f"F8 00 {resource:02X}"
-    seed = int.from_bytes(slave.asked(["FF 00", get])[1][2:], "little")
-    return ["FF 00", get, "F7 04 " + little(key(seed, addend), 4).hex(" ")]
+    seed = int.from_bytes(slave.asked([*before, get])[-1][2:], "little")
+    return [*before, get, "F7 04 " + little(key(seed, addend), 4).hex(" ")]
 
 
 class Checks:
@@ -263,10 +268,17 @@ def follows(codes, order):
     return all(code in rest for i, code in enumerate(codes) if i == 0 or code != codes[i - 1])
 
 
+def arrived(name, command, answer):
+    """Whether a command of a situation is answered as it should be: done, or a wrong key."""
+    wrong = name == "shut" and command.startswith("F7")
+    return answer == SHUT if wrong else answer is not None and answer[0] == 0xFF
+
+
 def sections(c, page, slave, situations):
     order = [row["Code"] for row in page.table("What can be wrong", "Code")]
     for name, commands in situations.items():
-        c.same(f"situation {name}", [True] * len(commands), [a is not None and a[0] == 0xFF for a in slave.asked(commands)])
+        came = [arrived(name, *exchange) for exchange in zip(commands, slave.asked(commands))]
+        c.same(f"situation {name}", [True] * len(commands), came)
     shown = {"20"}
     for heading in page.commands():
         rows = page.table(heading, "Check")
@@ -361,9 +373,7 @@ def sample(c, page, slave, opened):
     which = number[0] // 2
     prepare = [f"E2 00 {which:02X} 00 00 00", f"E1 FF {len(values):02X} 01 40 00 00 00",
                f"E0 10 {which:02X} 00 00 00 01 00", f"DE 01 {which:02X} 00"]
-    packets = [bytes.fromhex(command) for command in opened + prepare]
-    script = slave.power_up() + slave.measured(0x40, values)
-    script += b"".join(slave.bytes(frame(p)) + slave.slot() for p in packets)
+    script = slave.power_up() + slave.measured(0x40, values) + slave.exchanges(opened + prepare)
     script += slave.event(0, int.from_bytes(clock, "little")) + slave.slot()
     listed = re.search(r"list (\d), ODT (\d)", page.table("Memories, lists, samples", "Sent")[0]["Is"])
     c.same("the packet's number", 2 * int(listed[1]) + int(listed[2]), number[0])
@@ -403,6 +413,32 @@ def seeds(c, page, slave):
     return dict(zip(RESOURCES, addends))
 
 
+def wrong_keys(c, page, slave, situations, addends):
+    """How many wrong keys it takes until it stays shut, and that nothing but a power-up clears their count."""
+    told = re.findall(r"(\w+)\s+(?:wrong\s+keys|keys\s+were\s+wrong)", page.text)
+    most = COUNTS.index(told[0])
+    c.same("how many keys may be wrong, each time that it is said", set(told), {COUNTS[most]})
+    c.same("wrong keys of the situation shut", sum(command.startswith("F7") for command in situations["shut"]), most)
+    codes = list(RESOURCES.values())
+    wrong = [[f"F8 00 {code:02X}", "F7 04 00 00 00 00", "FF 00"] for code in codes * most]
+    for n in range(most + 2):
+        commands = ["FF 00", *sum(wrong[:n], [])]
+        for code in codes:
+            c.same(f"GET_SEED for {code:02X} is refused after {n} wrong keys", n >= most,
+                   slave.asked(commands + [f"F8 00 {code:02X}"])[-1] == SHUT)
+    before = ["FF 00", *sum(wrong[: most - 1], [])]
+    for name, code in RESOURCES.items():
+        # A right key, an end and a new session before the last one: none of them clears the count.
+        between = opening(slave, code, addends[name], before) + ["FE", "FF 00"]
+        answers = slave.asked(between + wrong[0] + ["F8 00 01", "F8 00", "F7 04 00 00 00 00", "FD"])
+        c.same(f"a right key for {name} after {most - 1} wrong ones", answers[len(between) - 3][0], 0xFF)
+        c.same(f"one more after it, and {name} is shut", answers[-4:], [SHUT, b"\xfe\x21", NO_SEED, b"\xff\0\x05\0\0\0"])
+    for state, shut in ((slave.state, False), (slave.state - 1, True)):
+        script = slave.power_up() + slave.exchanges(situations["shut"])
+        script += slave.power_up(state=state) + slave.exchanges(["FF 00", "F8 00 01"])
+        c.same(f"shut after a power-up lent {state} bytes", plain(slave.run(script)[-1][1][1:])[2:-1] == SHUT, shut)
+
+
 def words(c, page):
     """The words of the code are in it."""
     sources = [*pathlib.Path("crates").glob("*/src/*.rt"), *pathlib.Path("crates").glob("*/specs/*.antt")]
@@ -430,6 +466,7 @@ def main():
     worded(c, page, slave, situations)
     limits(c, page, slave, opened)
     sample(c, page, slave, opened)
+    wrong_keys(c, page, slave, situations, addends)
     words(c, page)
     c.same("tables that nothing here reads", sorted(set(page.tables) - page.used), [])
     slave.end.stdin.close()

@@ -45,7 +45,8 @@ static void bad_state(const struct rig *r, uint8_t *state, size_t len)
 
 static void wrong_sizes(void)
 {
-    static const size_t sizes[] = {0, 1, 4, 22, 23, 247, 249, 255, 256};
+    static const size_t sizes[] = {
+        0, 1, 4, 22, 23, XCP_STATE_SIZE - 1, XCP_STATE_SIZE + 1, 255, 256};
     for (size_t i = 0; i < COUNT(sizes); i++) {
         struct rig r;
         struct kept k;
@@ -77,10 +78,30 @@ static void never_powered_up(void)
         bad_state(&r, r.state, XCP_STATE_SIZE);
         NUMBER("power-up", 0, xcp_power_up(r.state, XCP_STATE_SIZE, 1));
         check_note("%s", "");
-        ASK(&r, "FF 05 00 08 08 00 01 01", "FF 00");
+        ASK(&r, CONNECTED, "FF 00");
         ASK(&r, "FF 04 21 20 04 00", "F8 00 04");
         rig_end(&r);
     }
+}
+
+/* The mark that power-up writes; with any other bit in it, as a version before this one wrote, the
+ * state was never powered up. */
+static void marks(void)
+{
+    struct rig r;
+    rig_start(&r, 16, 16, 1);
+    BYTES("mark", (const uint8_t *)"XCP3", 4, r.state, 4);
+    for (unsigned bit = 0; bit < 32; bit++) {
+        uint8_t other = (uint8_t)(1 << bit % 8);
+        check_note("bit %u of the mark", bit);
+        HERE();
+        r.state[bit / 8] ^= other;
+        bad_state(&r, r.state, XCP_STATE_SIZE);
+        r.state[bit / 8] ^= other;
+    }
+    check_note("%s", "");
+    ASK(&r, CONNECTED, "FF 00"); /* it is as it was */
+    rig_end(&r);
 }
 
 /* Power-up writes every byte: what the buffer held before does not show in it. */
@@ -158,7 +179,7 @@ static void much_room(void)
         r.out_len = rooms[i];
         r.out = lend(rooms[i], 0);
         SENDS(&r, "");
-        ASK(&r, "FF 05 00 08 08 00 01 01", "FF 00");
+        ASK(&r, CONNECTED, "FF 00");
         ASK(&r, "FE 00", "FC");
         rig_end(&r);
     }
@@ -190,7 +211,7 @@ static void no_memories(void)
     rig_start(&r, 0, 0, 1);
     uint8_t *cal = r.cal, *meas = r.meas;
     r.cal = r.meas = NULL;
-    ASK(&r, "FF 05 00 08 08 00 01 01", "FF 00");
+    ASK(&r, CONNECTED, "FF 00");
     HERE();
     unlock(&r, CALIBRATION);
     unlock(&r, LISTS);
@@ -227,7 +248,7 @@ static void moved_state(void)
         check_note("offset %u", i);
         memmove(room + i, r.state, XCP_STATE_SIZE);
         r.state = room + i;
-        ASK(&r, "FF 05 00 08 08 00 01 01", "FF 00");
+        ASK(&r, CONNECTED, "FF 00");
         HERE();
         unlock(&r, LISTS);
         entry(&r, 0, 0, 0, 4, 1, i);
@@ -248,6 +269,7 @@ void test_calls(void)
     NUMBER("state size", XCP_STATE_SIZE, xcp_state_size());
     wrong_sizes();
     never_powered_up();
+    marks();
     power_up_is_whole();
     bad_events();
     little_room();

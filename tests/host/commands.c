@@ -68,6 +68,16 @@ static void seeded_lists(struct rig *r)
     get_seed(r, LISTS);
 }
 
+/* Two wrong keys, so that one more would shut it; calibration is open, and a seed is out. */
+static void one_key_left(struct rig *r)
+{
+    connected(r);
+    spend_key(r, CALIBRATION);
+    spend_key(r, LISTS);
+    unlock(r, CALIBRATION);
+    get_seed(r, LISTS);
+}
+
 /* The pointer is at a list that does not run. */
 static void pointing(struct rig *r)
 {
@@ -145,6 +155,20 @@ static const struct row rows[] = {
     {__LINE__, seeded, "F8 00 10", "FE 22"},
     {__LINE__, seeded_lists, "F8 00 FF", "FE 22"},
     {__LINE__, busy, "F8 00 02", "FE 22"},
+    /* GET_SEED after three wrong keys: short, shut; and not after two */
+    {__LINE__, shut, "F8", "FE 21"},
+    {__LINE__, shut, "F8 02", "FE 21"},
+    {__LINE__, shut, "F8 01 09", "FE 25"},
+    {__LINE__, shut, "F8 01 04", "FE 25"},
+    {__LINE__, shut, "F8 02 01", "FE 25"},
+    {__LINE__, shut, "F8 FF 09", "FE 25"},
+    {__LINE__, shut, "F8 00 00", "FE 25"},
+    {__LINE__, shut, "F8 00 01", "FE 25"},
+    {__LINE__, shut, "F8 00 04 00 00 00 00 00", "FE 25"},
+    {__LINE__, one_key_left, "F8 01", "FE 21"},
+    {__LINE__, one_key_left, "F8 01 09", "FE 29"},
+    {__LINE__, one_key_left, "F8 02 01", "FE 22"},
+    {__LINE__, one_key_left, "F8 00 02", "FE 22"},
     /* UNLOCK: short, no seed, length, bytes missing; the seed and the session stay */
     {__LINE__, connected, "F7", "FE 21"},
     {__LINE__, seeded, "F7", "FE 21"},
@@ -161,6 +185,15 @@ static const struct row rows[] = {
     {__LINE__, seeded, "F7 04 00 7F", "FE 21"},
     {__LINE__, seeded, "F7 04 00 7F F0", "FE 21"},
     {__LINE__, seeded_lists, "F7 04 00 00 00", "FE 21"},
+    {__LINE__, one_key_left, "F7", "FE 21"},
+    {__LINE__, one_key_left, "F7 05 00 00 00 00", "FE 22"},
+    {__LINE__, one_key_left, "F7 04 00 00 00", "FE 21"},
+    /* UNLOCK after three wrong keys: short, no seed */
+    {__LINE__, shut, "F7", "FE 21"},
+    {__LINE__, shut, "F7 05", "FE 29"},
+    {__LINE__, shut, "F7 04", "FE 29"},
+    {__LINE__, shut, "F7 04 00 7F F0", "FE 29"},
+    {__LINE__, shut, "F7 04 00 7F F0 04", "FE 29"},
     /* SET_MTA */
     {__LINE__, reading, "F6", "FE 21"},
     {__LINE__, reading, "F6 00 00 02", "FE 21"},
@@ -227,6 +260,8 @@ static const struct row rows[] = {
     {__LINE__, writing_outside, "F0 01 55", "FE 24"},
     {__LINE__, writing_outside, "F0 03 55 55 55", "FE 24"},
     {__LINE__, busy, "F0 00 01", "FE 22"},
+    {__LINE__, shut, "F0", "FE 21"},
+    {__LINE__, shut, "F0 01 55", "FE 25"},
     /* CLEAR_DAQ_LIST: short, locked, list, runs */
     {__LINE__, lists_locked, "E3", "FE 21"},
     {__LINE__, lists_locked, "E3 00 04", "FE 21"},
@@ -310,11 +345,14 @@ static const struct row rows[] = {
     {__LINE__, lists_locked, "DA", "FE 25"},
     {__LINE__, lists_locked, "D9", "FE 25"},
     {__LINE__, connected, "DA 01 02 03 04 05 06 07", "FE 25"},
+    {__LINE__, shut, "D9", "FE 25"},
     /* Not refused, and changing nothing either: status, infos, a seed for what is open (one for
      * the other resource stays good, and the generator stays), a start of a running list */
     {__LINE__, busy, "FD", "FF 40 00 00 00 00"},
     {__LINE__, seeded, "FD", "FF 00 05 00 00 00"},
+    {__LINE__, shut, "FD", "FF 00 05 00 00 00"},
     {__LINE__, seeded_lists, "F8 00 01", "FF 00"},
+    {__LINE__, one_key_left, "F8 00 01", "FF 00"},
     {__LINE__, busy, "F8 00 04", "FF 00"},
     {__LINE__, busy, "DA", "FF 10 04 00 02 00 00 00"},
     {__LINE__, busy, "D9", "FF 01 04 00 00 6A 01 00"},

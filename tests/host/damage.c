@@ -9,7 +9,7 @@
 
 enum { MEMORY = 512, GOOD = 1 };
 
-/* The session that is damaged; its keys follow from start 1. An event comes before each frame. */
+/* The session that is damaged; its keys are right after seed 1. An event comes before each frame. */
 static const char *const session[] = {
     "FF 00",                   /* CONNECT */
     "F8 00 01",                /* calibration: seed, key */
@@ -188,7 +188,8 @@ static void answered(struct rig *r, struct witness *w, const char *hex)
     check_bytes("memory", w->cal, MEMORY, r->cal, MEMORY);
 }
 
-/* A new session that writes and reads back. */
+/* A new session that writes and reads back. It needs a seed, which it would not get if damage had
+ * counted as a wrong key. */
 static void new_session(struct rig *r, struct witness *w)
 {
     uint8_t packet[PACKET] = {0};
@@ -274,6 +275,27 @@ static void lose_bytes(const struct moment *m, const uint8_t *frame, size_t size
     }
 }
 
+/* Two wrong keys, so that one more would shut it: no damage may be that one. The second seed from
+ * this start number is 1, as the session's keys want it, and the tool's CTRs begin anew. */
+static void one_key_left(struct rig *r)
+{
+    rig_start(r, MEMORY, MEMORY, 0x53951C03);
+    uint8_t ctr = r->master_ctr;
+    ask(r, CONNECTED, "FF 00");
+    spend_key(r, CALIBRATION);
+    spend_key(r, LISTS);
+    ask(r, "FF", "FE");
+    r->master_ctr = ctr;
+}
+
+/* One more, whole: it was the last, so that damage had not counted and could have. */
+static void shuts(struct rig *r)
+{
+    ASK(r, CONNECTED, "FF 00");
+    spend_key(r, CALIBRATION);
+    ASK(r, "FE 25", "F8 00 01");
+}
+
 /* Runs the session whole, and at each of its frames goes through every damage first. */
 static void whole_session(damage *by)
 {
@@ -283,7 +305,7 @@ static void whole_session(damage *by)
     struct moment m;
     uint8_t packet[PACKET], frame[FRAME];
     memset(&w, 0, sizeof w);
-    rig_start(&r, MEMORY, MEMORY, 1);
+    one_key_left(&r);
     memcpy(w.cal, r.cal, MEMORY);
     for (size_t step = 0; step < COUNT(session); step++) {
         size_t len = bytes_of(session[step], packet, sizeof packet);
@@ -305,6 +327,7 @@ static void whole_session(damage *by)
     }
     check_note("%s", "");
     check_bytes("what the session wrote", written, sizeof written, r.cal + 0x9A, sizeof written);
+    shuts(&r);
     rig_end(&r);
 }
 

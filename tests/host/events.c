@@ -140,7 +140,7 @@ static void other_memories(void)
 {
     struct rig r;
     rig_start(&r, 5000, 5000, 1);
-    ask(&r, "FF 05 00 08 08 00 01 01", "FF 00");
+    ask(&r, CONNECTED, "FF 00");
     unlock(&r, LISTS);
     ASK(&r, "FF", "E2 00 00 00 00 00");
     REFUSED(&r, "FE 24", "E1 FF 02 01 FF 0F 00 00");
@@ -207,7 +207,7 @@ static void round_runs_on(void)
     NUMBER("sampled", 0x200, event(&r, 1, 1));
     NUMBER("list 1", 5, (uint32_t)slot(&r, packet)); /* the last one served is list 1 */
     NUMBER("taken", 1, give(&r, "FF 00"));
-    SENDS(&r, "FF 05 00 08 08 00 01 01");
+    SENDS(&r, CONNECTED);
     HERE();
     unlock(&r, LISTS);
     for (unsigned list = 0; list < 4; list++) {

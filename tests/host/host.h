@@ -11,6 +11,7 @@
 void test_calls(void);    /* the calls themselves: sizes, states, NULL, numbers 8 to 10 */
 void test_line(void);     /* bytes to messages: numbers 0, 3, 4, 5, 7 */
 void test_session(void);  /* whole messages: numbers 1, 2, 6; a session from end to end; keys */
+void test_shut(void);     /* three wrong keys, and it stays shut until a power-up */
 void test_commands(void); /* every command's checks, in order, and that a refusal changes nothing */
 void test_memory(void);   /* reading and writing, at memories of any length */
 void test_lists(void);    /* lists: set up, selected, started, stopped */
@@ -21,6 +22,7 @@ void test_bench(void);    /* the bench sheet, byte for byte */
 void powered(struct rig *r);          /* no session */
 void connected(struct rig *r);        /* a session, both resources locked */
 void unlocked(struct rig *r);         /* both unlocked; MTA and pointer unset */
+void shut(struct rig *r);             /* a session after three wrong keys: no seed any more */
 void closed_waiting(struct rig *r);   /* DISCONNECT's answer still waits */
 void busy(struct rig *r);             /* all settings in use: see situations.c */
 

@@ -109,7 +109,7 @@ static void every_length(void)
         struct rig r;
         size_t cal_len = lengths[i], meas_len = lengths[COUNT(lengths) - 1 - i];
         rig_start(&r, cal_len, meas_len, 1);
-        ask(&r, "FF 05 00 08 08 00 01 01", "FF 00");
+        ask(&r, CONNECTED, "FF 00");
         read_to_the_end(&r, 0, r.cal, cal_len); /* no lock guards reading */
         read_to_the_end(&r, 1, r.meas, meas_len);
         sum_to_the_end(&r, 0, r.cal, cal_len);
@@ -147,7 +147,7 @@ static void mta_moves(void)
     REFUSED(&r, "FE 24", "F0 03 01 02 03");
     ASK(&r, answer_of(r.cal + 4094, 2), "F5 02");
     ASK(&r, "FF", "F6 00 00 00 00 00 00 00");
-    ASK(&r, "FF 05 00 08 08 00 01 01", "FF 00");
+    ASK(&r, CONNECTED, "FF 00");
     ASK(&r, "FE 29", "F5 01"); /* a new session has it unset */
     rig_end(&r);
 }
@@ -164,7 +164,7 @@ static void upload_goes_on(void)
                 const uint8_t *memory = ext == 0 ? r.cal : r.meas;
                 uint32_t from = 4096 - first - second;
                 check_note("extension %u, %u and %u bytes", ext, (unsigned)first, (unsigned)second);
-                ASK(&r, "FF 05 00 08 08 00 01 01", "FF 00");
+                ASK(&r, CONNECTED, "FF 00");
                 REFUSED(&r, "FE 24", "F4 %02X 00 %02X %02X %02X %02X %02X", first, ext,
                         LE32(4097 - first));
                 REFUSED(&r, "FE 29", "F5 %02X", second); /* still unset */

@@ -55,7 +55,7 @@ static void step(struct rig *r, struct seen *seen, const char *command)
 
 /* Exchanges that show one thing each: status and MTA; what the pointer points at, and all entries;
  * the modes; the lists as they run; the selections, started and stopped; which lists can start; the
- * seed; the generator. */
+ * seed; the generator; how many wrong keys it takes until no seed is given. */
 static const char *const exchanges[][12] = {
     {"FD", "F5 07", "F5 01", NULL},
     {"F0 01 EE", "F4 07 00 00 00 00 00 00", NULL},
@@ -73,6 +73,8 @@ static const char *const exchanges[][12] = {
     {"KEY4", "FD", NULL},
     {"F8 00 01", NULL},
     {"F8 00 04", NULL},
+    {"FF 00", "F8 00 01", "F7 04 00 00 00 00", "FF 00", "F8 00 01", "F7 04 00 00 00 00", "FF 00",
+     "F8 00 01", NULL},
 };
 
 static void run(struct rig *r, struct seen *seen, const char *const *commands)

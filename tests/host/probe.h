@@ -10,7 +10,8 @@ struct seen {
     size_t len;
 };
 
-/* Writes down the packets that wait, locks, MTA, pointer, seed, generator, selections and lists. */
+/* Writes down the packets that wait, locks, MTA, pointer, seed, generator, the count of wrong keys,
+ * selections and lists. */
 void probe(struct rig *r, struct seen *seen);
 
 /* A command that must be refused so, and leave all that a probe and the memories show. */

@@ -262,6 +262,13 @@ void unlock(struct rig *r, uint8_t resource)
     insist("FF and the mask left", 0xFF, (uint32_t)(p[0] | (p[1] & resource) << 8));
 }
 
+void spend_key(struct rig *r, uint8_t resource)
+{
+    get_seed(r, resource);
+    ask(r, "FE 25", "F7 04 %02X %02X %02X %02X", LE32(key_of(r->seed, resource) ^ 1));
+    ask(r, CONNECTED, "FF 00");
+}
+
 void entry(struct rig *r, unsigned list, unsigned odt, unsigned at, unsigned size, unsigned ext,
            uint32_t address)
 {

@@ -66,9 +66,16 @@ void sends_frame(struct rig *r, const char *frame);
 void wire(struct rig *r, const char *bytes, const char *numbers);
 #define WIRE(r, bytes, numbers) (HERE(), wire(r, bytes, numbers))
 
+/* What CONNECT is answered. */
+#define CONNECTED "FF 05 00 08 08 00 01 01"
+
 uint32_t key_of(uint32_t seed, uint8_t resource);
 void get_seed(struct rig *r, uint8_t resource);
 void unlock(struct rig *r, uint8_t resource);
+
+/* One of the three keys that may be wrong: a seed, and its key with one wrong bit. That ends the
+ * session, and CONNECT begins another. */
+void spend_key(struct rig *r, uint8_t resource);
 
 /* An entry through SET_DAQ_PTR and WRITE_DAQ; a list's mode; a start. All must be done. */
 void entry(struct rig *r, unsigned list, unsigned odt, unsigned at, unsigned size, unsigned ext,

@@ -1,7 +1,5 @@
 #include "host.h"
 
-#define CONNECTED "FF 05 00 08 08 00 01 01"
-
 /* One session from end to end, as a setting tool runs it. */
 static void whole_session(void)
 {
@@ -101,17 +99,18 @@ static void key_wanted(struct rig *r)
     ask(r, "FF", "E2 00 01 00 01 02");
 }
 
-/* What ends or renews a session. */
+/* What ends or renews a session; a wrong key also counts. */
 static const struct {
     int line;
     void (*situation)(struct rig *);
     const char *command;
+    int counts;
 } endings[] = {
-    {__LINE__, busy, "FF 00"},
-    {__LINE__, key_wanted, "FF 00"},
-    {__LINE__, busy, "FE"},
-    {__LINE__, key_wanted, "FE"},
-    {__LINE__, key_wanted, "F7 04 00 00 00 00"},
+    {__LINE__, busy, "FF 00", 0},
+    {__LINE__, key_wanted, "FF 00", 0},
+    {__LINE__, busy, "FE", 0},
+    {__LINE__, key_wanted, "FE", 0},
+    {__LINE__, key_wanted, "F7 04 00 00 00 00", 1},
 };
 
 /* What a session shows as it is, and with both resources open: a lock hides what it guards. */
@@ -124,12 +123,16 @@ static void probe_open(struct rig *r, struct seen *seen)
     probe(r, seen);
 }
 
-/* What a new session shows after two seeds, as many as each situation above has had. */
-static void probe_fresh(struct seen *fresh)
+/* What a new session shows after two seeds, as many as each situation above has had; one of them
+ * had a wrong key, if so many count. */
+static void probe_fresh(struct seen *fresh, int counted)
 {
     struct rig r;
     connected(&r);
-    get_seed(&r, LISTS);
+    if (counted)
+        spend_key(&r, LISTS);
+    else
+        get_seed(&r, LISTS);
     get_seed(&r, LISTS);
     ASK(&r, "FF", "FE");
     ASK(&r, CONNECTED, "FF 00");
@@ -140,8 +143,9 @@ static void probe_fresh(struct seen *fresh)
 /* After each of them nothing waits, nothing samples, and a session is as new. */
 static void ends(void)
 {
-    static struct seen fresh, after;
-    probe_fresh(&fresh);
+    static struct seen fresh[2], after;
+    probe_fresh(&fresh[0], 0);
+    probe_fresh(&fresh[1], 1);
     for (size_t i = 0; i < COUNT(endings); i++) {
         struct rig r;
         uint8_t packet[PACKET] = {0};
@@ -154,7 +158,8 @@ static void ends(void)
         if (strcmp(endings[i].command, "FF 00") != 0)
             ask(&r, CONNECTED, "FF 00");
         probe_open(&r, &after);
-        check_bytes("a fresh session", fresh.bytes, fresh.len, after.bytes, after.len);
+        const struct seen *expected = &fresh[endings[i].counts];
+        check_bytes("a fresh session", expected->bytes, expected->len, after.bytes, after.len);
         rig_end(&r);
     }
 }

@@ -8,7 +8,7 @@ void powered(struct rig *r)
 void connected(struct rig *r)
 {
     powered(r);
-    ask(r, "FF 05 00 08 08 00 01 01", "FF 00");
+    ask(r, CONNECTED, "FF 00");
 }
 
 void unlocked(struct rig *r)
@@ -16,6 +16,14 @@ void unlocked(struct rig *r)
     connected(r);
     unlock(r, CALIBRATION);
     unlock(r, LISTS);
+}
+
+void shut(struct rig *r)
+{
+    connected(r);
+    spend_key(r, CALIBRATION);
+    spend_key(r, LISTS);
+    spend_key(r, CALIBRATION);
 }
 
 void closed_waiting(struct rig *r)

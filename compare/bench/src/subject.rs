@@ -2,7 +2,7 @@
 
 use plain::Slave;
 
-pub const STATE: usize = 248;
+pub const STATE: usize = 249;
 pub const LENGTH: usize = 4096;
 
 pub struct Memories {

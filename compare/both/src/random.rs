@@ -52,11 +52,30 @@ fn turn(rig: &mut Rig) {
         35 => open(rig),
         36 | 37 => measure(rig),
         38 => rig.wrong_size(),
-        _ if rig.dice.once_in(40) => {
-            let start = rig.dice.number();
-            rig.power_up(start);
-        }
-        _ => {}
+        _ => match rig.dice.below(40) {
+            0 => power_up(rig),
+            1..=3 => script(rig),
+            _ => {}
+        },
+    }
+}
+
+fn power_up(rig: &mut Rig) {
+    let start = rig.dice.number();
+    rig.power_up(start);
+}
+
+/// Key after key is tried. Three wrong ones shut it, most often for the rest of this life: so it comes
+/// seldom, and the locks open in most lives.
+fn script(rig: &mut Rig) {
+    rig.drain();
+    for _ in 0..1 + rig.dice.below(4) {
+        let resource = rig.dice.one_of(&[CALIBRATION, LISTS]);
+        rig.wrong_key(resource);
+    }
+    if rig.dice.once_in(4) {
+        power_up(rig);
+        rig.open();
     }
 }
 

@@ -73,6 +73,7 @@ impl Rig {
     pub fn begin(&mut self, start: u32, vary: bool) {
         self.settle();
         self.reference = Reference::new();
+        self.seen.begin();
         self.vary = vary;
         self.lend(4096, 4096);
         if vary {
@@ -213,6 +214,13 @@ impl Rig {
             _ => Call::Slot(self.dice.one_of(&[0, 22, 23, 30])),
         };
         self.call_with(call, size);
+    }
+
+    /// A power-up with a state of each wrong size; none is made.
+    pub fn power_up_refused(&mut self) {
+        for size in WRONG_SIZES {
+            self.call_with(Call::PowerUp(1), size);
+        }
     }
 }
 

@@ -6,7 +6,7 @@ pub const CALIBRATION: u8 = 0x01;
 pub const LISTS: u8 = 0x04;
 
 impl Rig {
-    /// Asks for a seed; none if the resource is unlocked or there is no session.
+    /// Asks for a seed; none if the resource is unlocked, it stays shut or there is no session.
     pub fn seed(&mut self, resource: u8) -> Option<u32> {
         match self.ask(&[0xF8, 0, resource])?.as_slice() {
             [0xFF, 4, a, b, c, d] => Some(u32::from_le_bytes([*a, *b, *c, *d])),
@@ -18,6 +18,14 @@ impl Rig {
         if let Some(seed) = self.seed(resource) {
             self.ask(&unlock_packet(key(resource, seed)));
         }
+    }
+
+    /// In a session of its own a key with one bit wrong, sent even where no seed was given for it.
+    pub fn wrong_key(&mut self, resource: u8) {
+        self.connect();
+        let seed = self.seed(resource).unwrap_or(0);
+        let bit = self.dice.below(32);
+        self.ask(&unlock_packet(key(resource, seed) ^ 1 << bit));
     }
 
     pub fn connect(&mut self) {

@@ -5,7 +5,7 @@ mod daq;
 mod standard;
 
 use crate::packet::Packet;
-use crate::seed::Generator;
+use crate::seed::{Generator, WrongKeys};
 use crate::session::Session;
 
 /// A good answer, or the FE answer of a refusal.
@@ -31,6 +31,7 @@ pub fn is_good_connect(packet: &[u8]) -> bool {
 pub fn answer(
     session: &mut Session,
     generator: &mut Generator,
+    wrong_keys: &mut WrongKeys,
     packet: &[u8],
     cal: &mut [u8],
     meas: &[u8],
@@ -40,8 +41,8 @@ pub fn answer(
         0xFE => session.disconnect(),
         0xFD => session.get_status(),
         0xFC => session.synch(),
-        0xF8 => session.get_seed(packet, generator),
-        0xF7 => session.unlock(packet),
+        0xF8 => session.get_seed(packet, generator, *wrong_keys),
+        0xF7 => session.unlock(packet, wrong_keys),
         0xF6 => session.set_mta(packet),
         0xF5 => session.upload(packet, cal, meas),
         0xF4 => session.short_upload(packet, cal, meas),

@@ -16,7 +16,7 @@ mod tests;
 
 use line::{Heard, Reader};
 use packet::Packet;
-use seed::Generator;
+use seed::{Generator, WrongKeys};
 use session::Session;
 
 /// What a refused event returns: 65,536 times number 8.
@@ -31,6 +31,7 @@ pub struct Slave {
     session: Session,
     // The rest runs on across sessions, so it is kept outside `session`.
     generator: Generator,
+    wrong_keys: WrongKeys,
     answer: Option<Packet>,
     ctr: u8,
     last_served: usize,
@@ -44,6 +45,7 @@ impl Slave {
             reader: Reader::new(),
             session: Session::closed(),
             generator: Generator::new(start),
+            wrong_keys: WrongKeys::NONE,
             answer: None,
             ctr: 0,
             last_served: lists::LISTS - 1,
@@ -78,8 +80,14 @@ impl Slave {
         } else if !self.session.open && !commands::is_good_connect(packet) {
             2
         } else {
-            let answer =
-                commands::answer(&mut self.session, &mut self.generator, packet, cal, meas);
+            let answer = commands::answer(
+                &mut self.session,
+                &mut self.generator,
+                &mut self.wrong_keys,
+                packet,
+                cal,
+                meas,
+            );
             self.answer = Some(answer);
             1
         }

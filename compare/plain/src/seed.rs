@@ -21,6 +21,26 @@ impl Generator {
     }
 }
 
+/// How many keys were wrong since power-up, whichever resource they were for.
+#[derive(Clone, Copy, Debug, PartialEq, Eq)]
+pub struct WrongKeys(u8);
+
+impl WrongKeys {
+    pub const NONE: WrongKeys = WrongKeys(0);
+    /// With so many it stays shut until the next power-up.
+    const MOST: u8 = 3;
+
+    /// One more; beyond `MOST` there is none, since a key needs a seed.
+    pub fn count(&mut self) {
+        self.0 += 1;
+    }
+
+    /// Whether no seed is given any more.
+    pub fn shut(self) -> bool {
+        self.0 >= Self::MOST
+    }
+}
+
 #[derive(Clone, Copy, Debug, PartialEq, Eq)]
 pub enum Resource {
     Calibration,

@@ -7,18 +7,19 @@ use mathlib.Core.Path.{_≡_, refl, sym, ap, subst, _∙_}
 use mathlib.Core.Logic.{_≢_}
 use mathlib.Core.Bool.{true, false}
 use mathlib.Core.Option.{Option}
-use mathlib.Core.List.{List}
+use mathlib.Core.List.{List, [], _∷_}
 use native.Mathlib.Omega.{arith}
 use borrow.Author.Tests.{lt-ltb, le-ltb, eq-eqb, ne-eqb}
 use lib.Dec.{eqb, ltb, lit≤, T}
-use lib.ListN.{length, getD, replicate}
+use lib.ListN.{length, getD, set, replicate}
 use Rattle.line.specs.Message.{most, room}
 use Rattle.line.specs.Writer.{Sent, writeOf}
 use Rattle.line.proofs.Laws.{cond-ind}
 use Rattle.line.proofs.Stuffed.{false-true}
-use Rattle.state.specs.Layout.{placeAt, answerAt, size, sessionAt, sessionSize, packetMost}
+use Rattle.state.specs.Layout.{wrongKeysAt, placeAt, answerAt, size, sessionAt, sessionSize}
 use Rattle.state.specs.Bytes.{cleared}
-use Rattle.state.specs.State.{consistent, ctrOf, closed, answerOf}
+use Rattle.state.specs.Generator.{oneWrongMore}
+use Rattle.state.specs.State.{consistent, wrongKeysOf, countedWrong, ctrOf, closed, answerOf}
 use Rattle.model.specs.Model.{byte}
 use Rattle.model.specs.View.{sessionOf, viewOf}
 use Rattle.session.specs.Perform.{effect, reply, after}
@@ -35,7 +36,7 @@ use Rattle.model.specs.declared.Turn.{Turn}
 use Rattle.model.specs.declared.Turn.the-variants.{Nobody, Answer, Packet}
 use Rattle.fields.proofs.Effects.{answering}
 use Rattle.fields.proofs.Frames.{Only, only-then, only-wider, only-between, only-answered}
-use Rattle.fields.proofs.Readers.{Same}
+use Rattle.fields.proofs.Readers.{Same, apart, wrongKeys-reads}
 use Rattle.fields.proofs.Kept.{receive-kept, event-kept, slot-kept, power-up-consistent}
 use Rattle.demands.specs.Slave.{ours}
 use Rattle.demands.specs.Heard.{readBy, Commands, wrongKey, wrongKeyIn, wrongKeyAt}
@@ -85,53 +86,54 @@ closed-alike : {s t : List ℕ} → Only placeAt sessionAt s t → Only placeAt 
 unfolding closed cleared
 closed-alike w = only-both sessionAt (replicate sessionSize 0) w
 
--- deeds that close the session leave it as it is closed
-record Closes (d : Deed) : Type 0 where
-  pub state : (s : List ℕ) → effect d s ≡ closed s
-  pub memory : (p cal : List ℕ) → written d p cal ≡ cal
-  pub can : (n nc nm : ℕ) → Doable d n nc nm
+-- but for the answer a wrong key leaves the closed session with itself counted
+wrong-only : (t cal meas : List ℕ) → Only answerAt sessionAt (countedWrong (closed t)) (after WrongKey t cal meas)
+unfolding effect
+wrong-only t cal meas = only-answered (countedWrong (closed t)) (reply WrongKey t cal meas) (answering WrongKey t cal meas 0 tt .few)
 
-wrong-closes : Closes WrongKey
-unfolding effect writes
-wrong-closes = record { state = λ s. refl; memory = λ p cal. refl; can = λ n nc nm. tt }
+wrong-writes : (p cal : List ℕ) → written WrongKey p cal ≡ cal
+unfolding writes
+wrong-writes p cal = refl
 
-disconnect-closes : Closes Disconnect
-unfolding effect writes
-disconnect-closes = record { state = λ s. refl; memory = λ p cal. refl; can = λ n nc nm. tt }
+-- and with one wrong key more counted
+counted-alike : {s t : List ℕ} → Only placeAt sessionAt s t → Only placeAt sessionAt (countedWrong s) (countedWrong t)
+unfolding countedWrong
+counted-alike {s} {t} w =
+    subst (λ (n : ℕ). Only placeAt sessionAt (countedWrong s) (set t wrongKeysAt (oneWrongMore n))) (sym (wrongKeys-reads (apart tt w))) (only-both wrongKeysAt (oneWrongMore (wrongKeysOf s) ∷ []) w)
 
-closes-to : (d : Deed) (s cal meas : List ℕ) (b : ℕ) → Closes d → consistent s ≡ true → Only placeAt sessionAt (closed s) (after d (readBy s b) cal meas)
-closes-to d s cal meas b w c =
+-- but for the reader's place and the answer: DISCONNECT leaves the closed session, a wrong key that with itself counted
+disconnect-leaves : (s cal meas : List ℕ) (b : ℕ) → consistent s ≡ true → Only placeAt sessionAt (closed s) (after Disconnect (readBy s b) cal meas)
+unfolding effect
+disconnect-leaves s cal meas b c =
     let t : List ℕ = readBy s b in
-    let few : length (reply d t cal meas) ≤ packetMost = answering d t cal meas 0 (w .can 0 (length cal) (length meas)) .few in
-    let answer : Only answerAt sessionAt (effect d t) (after d t cal meas) = only-answered (effect d t) (reply d t cal meas) few in
-    only-then (closed-alike (only-wider (lit≤ tt) (lit≤ tt) (read-only s b c))) (only-wider (lit≤ tt) (lit≤ tt) (subst (λ (u : List ℕ). Only answerAt sessionAt u (after d t cal meas)) (w .state t) answer))
+    only-then (closed-alike (only-wider (lit≤ tt) (lit≤ tt) (read-only s b c)))
+    (only-wider (lit≤ tt) (lit≤ tt) (only-answered (closed t) (reply Disconnect t cal meas) (answering Disconnect t cal meas 0 tt .few)))
+
+wrong-leaves : (s cal meas : List ℕ) (b : ℕ) → consistent s ≡ true → Only placeAt sessionAt (countedWrong (closed s)) (after WrongKey (readBy s b) cal meas)
+wrong-leaves s cal meas b c =
+    only-then (counted-alike (closed-alike (only-wider (lit≤ tt) (lit≤ tt) (read-only s b c)))) (only-wider (lit≤ tt) (lit≤ tt) (wrong-only (readBy s b) cal meas))
 
 wrong-step : (s cal meas : List ℕ) (b : ℕ) (p : List ℕ) → consistent s ≡ true → Commands s b p → wrongKey p (sessionOf s) ≡ true
     → receiveOf s cal meas b ≡ obeyed WrongKey p (readBy s b) cal meas
 wrong-step s cal meas b p u w wrong =
     commanded s cal meas b p u w ∙ ap (λ (d : Deed). obeyed d p (readBy s b) cal meas) (wrong-judged p (sessionOf s) (length cal) (length meas) wrong)
 
--- but for the answer it is the closed session
-wrong-only : (t cal meas : List ℕ) → Only answerAt sessionAt (closed t) (after WrongKey t cal meas)
-unfolding effect
-wrong-only t cal meas = only-answered (closed t) (reply WrongKey t cal meas) (answering WrongKey t cal meas 0 tt .few)
-
 wrong-key-ends : (s cal meas : List ℕ) (b : ℕ) (p : List ℕ) → consistent s ≡ true → Commands s b p → wrongKey p (sessionOf s) ≡ true
-    → SameOutside answerAt sessionAt (closed (readBy s b)) (receiveOf s cal meas b .state) × (receiveOf s cal meas b .cal ≡ cal)
+    → SameOutside answerAt sessionAt (countedWrong (closed (readBy s b))) (receiveOf s cal meas b .state) × (receiveOf s cal meas b .cal ≡ cal)
 wrong-key-ends s cal meas b p u w wrong =
     let e : receiveOf s cal meas b ≡ obeyed WrongKey p (readBy s b) cal meas = wrong-step s cal meas b p u w wrong in
-    (rw e (all-but (wrong-only (readBy s b) cal meas)), ap (λ (o : Step). o .cal) e ∙ wrong-closes .memory p cal)
+    (rw e (all-but (wrong-only (readBy s b) cal meas)), ap (λ (o : Step). o .cal) e ∙ wrong-writes p cal)
 
 as-disconnect : (s t cal meas cal′ meas′ : List ℕ) (b c : ℕ) (p q : List ℕ) → consistent s ≡ true → consistent t ≡ true → SameOutside placeAt sessionAt s t
     → Commands s b p → wrongKey p (sessionOf s) ≡ true → Commands t c q → byte q 0 ≡ 0xFE
-    → SameOutside placeAt sessionAt (receiveOf s cal meas b .state) (receiveOf t cal′ meas′ c .state)
+    → SameOutside placeAt sessionAt (receiveOf s cal meas b .state) (countedWrong (receiveOf t cal′ meas′ c .state))
 as-disconnect s t cal meas cal′ meas′ b c p q u v alike w wrong x code =
     let left : receiveOf s cal meas b ≡ obeyed WrongKey p (readBy s b) cal meas = wrong-step s cal meas b p u w wrong in
     let right : receiveOf t cal′ meas′ c ≡ obeyed Disconnect q (readBy t c) cal′ meas′ =
     commanded t cal′ meas′ c q v x ∙ ap (λ (d : Deed). obeyed d q (readBy t c) cal′ meas′) (disconnect-judged q (sessionOf t) (length cal′) (length meas′) code) in
     let same : Only placeAt sessionAt s t = only-between placeAt sessionAt (alike .long) (alike .front) (alike .back) in
     rw (left, right)
-    (all-but (only-then (only-back (closes-to WrongKey s cal meas b wrong-closes u)) (only-then (closed-alike same) (closes-to Disconnect t cal′ meas′ c disconnect-closes v))))
+    (all-but (only-then (only-back (wrong-leaves s cal meas b u)) (counted-alike (only-then (closed-alike same) (disconnect-leaves t cal′ meas′ c v)))))
 
 -- ---- a byte without an answer
 unanswered-by : {s cal meas : List ℕ} {b : ℕ} {o : Step} {x : Option Deed} → consistent s ≡ true → receivedNumber (o .received) ≢ 1

@@ -105,7 +105,7 @@ module _ (p : List ℕ) (c : Session) (nc nm : ℕ) where
   by-verdict _ _ code tells = tt
   by-verdict _ _ code synchs = tt
   by-verdict _ _ code no-seed = tt
-  by-verdict _ _ code (gives r) = tt
+  by-verdict _ _ code (gives r still) = tt
   by-verdict _ _ code (unlocks r w right) = record { seed = w .seed; key = key-found p seen r code w; right = right }
   by-verdict _ _ code (wrong r w off) = wrong-found (c .seed) r p c (w .seed) (key-found p seen r code w) off
   by-verdict _ _ code sets = tt

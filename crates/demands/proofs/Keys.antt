@@ -7,7 +7,7 @@ use mathlib.Core.List.{List, [], _∷_}
 use native.Mathlib.Omega.{arith}
 use native.Mathlib.Nat.{lt-of-not-le, mod-lt, mod-eq-of-lt}
 use native.Mathlib.Decide.{decLe}
-use borrow.Author.Tests.{le-ltb, eq-eqb}
+use borrow.Author.Tests.{le-ltb, lt-leb, eq-eqb}
 use lib.Dec.{lit<}
 use lib.ListN.{length, getD, take, length-take}
 use lib.Pow.{low, shr-lt}
@@ -20,8 +20,8 @@ use Rattle.model.specs.Calls.{turnIn, packetGone}
 use Rattle.model.specs.View.{sessionOf, viewOf}
 use Rattle.line.specs.Message.{room}
 use Rattle.state.specs.Bytes.{u32At, bytes32}
-use Rattle.state.specs.Generator.{addend, rotatedLeft8, keyOf, nextOf}
-use Rattle.state.specs.State.{consistent, bitOf, generatorOf}
+use Rattle.state.specs.Generator.{addend, rotatedLeft8, keyOf, nextOf, staysShut}
+use Rattle.state.specs.State.{consistent, bitOf, generatorOf, wrongKeysOf}
 use Rattle.words.specs.Command.{commandOf}
 use Rattle.session.specs.Perform.{after}
 use Rattle.session.specs.Receive.{Step, obeyed, receiveOf}
@@ -51,22 +51,24 @@ use Rattle.demands.proofs.Locks.{unlocks-own}
 -- ---- what a command's checks look at, but for the lists: the same in both sessions
 pub record Alike (c d : Session) : Type 0 where
   pub generator : d .generator ≡ c .generator
+  pub wrongKeys : d .wrongKeys ≡ c .wrongKeys
   pub opened : d .opened ≡ c .opened
   pub seed : d .seed ≡ c .seed
   pub unlocked : d .unlocked ≡ c .unlocked
   pub mta : d .mta ≡ c .mta
 
 alike-self : {c : Session} → Alike c c
-alike-self = record { generator = refl; opened = refl; seed = refl; unlocked = refl; mta = refl }
+alike-self = record { generator = refl; wrongKeys = refl; opened = refl; seed = refl; unlocked = refl; mta = refl }
 
 alike-then : {c d e : Session} → Alike c d → Alike d e → Alike c e
-alike-then p q = record { generator = q .generator ∙ p .generator; opened = q .opened ∙ p .opened; seed = q .seed ∙ p .seed; unlocked = q .unlocked ∙ p .unlocked; mta = q .mta ∙ p .mta }
+alike-then p q = record { generator = q .generator ∙ p .generator; wrongKeys = q .wrongKeys ∙ p .wrongKeys; opened = q .opened ∙ p .opened; seed = q .seed ∙ p .seed; unlocked = q .unlocked ∙ p .unlocked; mta = q .mta ∙ p .mta }
 
 -- a change of the lists alone, or none
 alike-lists : {c d : Session} (f : ℕ → DaqList) → d ≡ withLists c f → Alike c d
 alike-lists f e =
     record {
       generator = ap (λ (x : Session). x .generator) e;
+      wrongKeys = ap (λ (x : Session). x .wrongKeys) e;
       opened = ap (λ (x : Session). x .opened) e;
       seed = ap (λ (x : Session). x .seed) e;
       unlocked = ap (λ (x : Session). x .unlocked) e;
@@ -115,12 +117,12 @@ begins-long : (p l : List ℕ) (n : ℕ) → take n p ≡ l → length l ≡ n �
 begins-long p l n e h = let k = sym (length-take n p) ∙ ap length e ∙ h in omega arith
 
 -- ---- GET_SEED
-give-judged : (p : List ℕ) (c : Session) (r : Resource) (nc nm : ℕ) → take 3 p ≡ 0xF8 ∷ 0x00 ∷ bitOf r ∷ [] → c .unlocked r ≡ false → judgeIn p c nc nm ≡ GiveSeed r
+give-judged : (p : List ℕ) (c : Session) (r : Resource) (nc nm : ℕ) → take 3 p ≡ 0xF8 ∷ 0x00 ∷ bitOf r ∷ [] → c .wrongKeys < 3 → c .unlocked r ≡ false → judgeIn p c nc nm ≡ GiveSeed r
 unfolding judgeIn judge judgeBy judgeThe commandOf getSeedDeed
-give-judged p c Calibration nc nm e locked =
-    simp (begins-at p _ 3 0 e (lit< tt), le-ltb (length p) 3 (begins-long p _ 3 e refl), begins-at p _ 3 1 e (lit< tt), begins-at p _ 3 2 e (lit< tt), locked)
-give-judged p c Lists nc nm e locked =
-    simp (begins-at p _ 3 0 e (lit< tt), le-ltb (length p) 3 (begins-long p _ 3 e refl), begins-at p _ 3 1 e (lit< tt), begins-at p _ 3 2 e (lit< tt), locked)
+give-judged p c Calibration nc nm e still locked =
+    simp (begins-at p _ 3 0 e (lit< tt), le-ltb (length p) 3 (begins-long p _ 3 e refl), lt-leb 3 (c .wrongKeys) still, begins-at p _ 3 1 e (lit< tt), begins-at p _ 3 2 e (lit< tt), locked)
+give-judged p c Lists nc nm e still locked =
+    simp (begins-at p _ 3 0 e (lit< tt), le-ltb (length p) 3 (begins-long p _ 3 e refl), lt-leb 3 (c .wrongKeys) still, begins-at p _ 3 1 e (lit< tt), begins-at p _ 3 2 e (lit< tt), locked)
 
 seed-says : (r : Resource) (c : Session) (cal meas : List ℕ) → replyIn (GiveSeed r) c cal meas ≡ 0xFF ∷ 0x04 ∷ bytes32 (nextOf (c .generator))
 unfolding replyIn
@@ -130,14 +132,19 @@ generator-low : (s : List ℕ) → sessionOf s .generator < 2 ^ 32 → generator
 unfolding sessionOf
 generator-low s h = h
 
+not-shut : (s : List ℕ) → sessionOf s .wrongKeys < 3 → staysShut (wrongKeysOf s) ≡ false
+unfolding sessionOf
+not-shut s h = lt-leb 3 (wrongKeysOf s) h
+
 -- what GET_SEED leaves
-seeded : (r : Resource) (s cal meas : List ℕ) (b : ℕ) → consistent s ≡ true → sessionOf s .generator < 2 ^ 32
+seeded : (r : Resource) (s cal meas : List ℕ) (b : ℕ) → consistent s ≡ true → sessionOf s .generator < 2 ^ 32 → sessionOf s .wrongKeys < 3
     → sessionOf (after (GiveSeed r) (readBy s b) cal meas) ≡ withSeed (withGenerator (sessionOf s) (nextOf (sessionOf s .generator))) (For r)
 unfolding viewOf stepIn
-seeded r s cal meas b c few =
+seeded r s cal meas b c few still =
     let t : List ℕ = readBy s b in
     let fits : generatorOf t < 2 ^ 32 = generator-low t (subst (λ (x : Session). x .generator < 2 ^ 32) (sym (read-session s b c)) few) in
-    ap (λ (v : Slave). v .session) (view-after (GiveSeed r) t cal meas 0 (read-length s b c) tt (next-some (generatorOf t) fits (generator-some t), next-fits (generatorOf t) fits))
+    let unshut : staysShut (wrongKeysOf t) ≡ false = not-shut t (subst (λ (x : Session). x .wrongKeys < 3) (sym (read-session s b c)) still) in
+    ap (λ (v : Slave). v .session) (view-after (GiveSeed r) t cal meas 0 (read-length s b c) tt (next-some (generatorOf t) fits (generator-some t), next-fits (generatorOf t) fits, unshut))
     ∙ ap (stepIn (GiveSeed r)) (read-session s b c)
 
 -- ---- the key
@@ -168,14 +175,14 @@ key-right r x p h e =
       rw (begins-at p _ 6 2 e (lit< tt), begins-at p _ 6 3 e (lit< tt), begins-at p _ 6 4 e (lit< tt), begins-at p _ 6 5 e (lit< tt)) (rotated-word k (mod-lt _ (lit< tt)) ∙ rw same),
     )
 
-pub seed-opens : (s cal meas : List ℕ) (b : ℕ) (p : List ℕ) (r : Resource) → consistent s ≡ true → sessionOf s .generator < 2 ^ 32
+pub seed-opens : (s cal meas : List ℕ) (b : ℕ) (p : List ℕ) (r : Resource) → consistent s ≡ true → sessionOf s .generator < 2 ^ 32 → sessionOf s .wrongKeys < 3
     → Commands s b p → take 3 p ≡ 0xF8 ∷ 0x00 ∷ bitOf r ∷ [] → sessionOf s .unlocked r ≡ false → SeedOpens ours r s (ours .receive s cal meas b .state)
-seed-opens s cal meas b p r c few w e locked =
+seed-opens s cal meas b p r c few still w e locked =
     let u : List ℕ = receiveOf s cal meas b .state in
     let x : ℕ = nextOf (sessionOf s .generator) in
-    let judged : deedIn p (sessionOf s) cal meas ≡ GiveSeed r = give-judged p (sessionOf s) r (length cal) (length meas) e locked in
+    let judged : deedIn p (sessionOf s) cal meas ≡ GiveSeed r = give-judged p (sessionOf s) r (length cal) (length meas) e still locked in
     let step : receiveOf s cal meas b ≡ obeyed (GiveSeed r) p (readBy s b) cal meas = commanded s cal meas b p c w ∙ ap (λ (d : Deed). obeyed d p (readBy s b) cal meas) judged in
-    let given : sessionOf u ≡ withSeed (withGenerator (sessionOf s) x) (For r) = ap (λ (o : Step). sessionOf (o .state)) step ∙ seeded r s cal meas b c few in
+    let given : sessionOf u ≡ withSeed (withGenerator (sessionOf s) x) (For r) = ap (λ (o : Step). sessionOf (o .state)) step ∙ seeded r s cal meas b c few still in
     record {
       seed = bytes32 x;
       four = refl;

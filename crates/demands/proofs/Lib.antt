@@ -26,9 +26,10 @@ pub mod Life
 pub mod CutJudge
 pub mod Cut
 pub mod Demand2
--- What every command that is done makes of the slave; locked lists keep their settings.
+-- What every command that is done makes of the slave; locked lists keep their settings; after three wrong keys it stays shut.
 pub mod Obeyed
 pub mod ListsLocked
+pub mod StaysShut
 -- The first two leave no choice.
 pub mod NoChoice
 -- The third demand, and that nothing is lost.

@@ -50,7 +50,7 @@ settings-same e = rw e (record { pointer = refl; modes = λ l. refl; selected = 
 -- a good CONNECT renews it
 connect-ends : (p : List ℕ) (c : Session) (cal meas : List ℕ) → goodConnect p ≡ true → Shields p c (doneBy Connect p c cal meas)
 unfolding goodConnect stepIn replyIn
-connect-ends p c cal meas g = record { kept = λ n. absurd (false-true (sym n ∙ ends)); fresh = λ _. blank-fresh c true } where
+connect-ends p c cal meas g = record { kept = λ n. absurd (false-true (sym n ∙ ends)); fresh = λ _. blank-fresh c (c .wrongKeys) true } where
   code : (b x : Bool) → cond b x false ≡ true → b ≡ true
   code true x e = refl
   code false x e = absurd (false-true e)

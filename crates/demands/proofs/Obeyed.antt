@@ -11,7 +11,7 @@ use Rattle.line.specs.declared.Outcome.{Outcome}
 use Rattle.line.specs.declared.Outcome.the-variants as line
 use Rattle.line.proofs.Laws.{false-true}
 use Rattle.state.specs.Bytes.{block}
-use Rattle.state.specs.State.{consistent, generatorOf}
+use Rattle.state.specs.State.{consistent, generatorOf, wrongKeysOf}
 use Rattle.model.specs.Answers.{written, doneBy, commandIn}
 use Rattle.session.specs.Perform.{after}
 use Rattle.session.specs.Receive.{Step, fedOf, receiveOf}
@@ -69,7 +69,7 @@ module _ (s : List ℕ) (b : ℕ) (c : consistent s ≡ true) (w : Bytes s) (low
   generator-low = subst (λ (x : Session). x .generator < 2 ^ 32) (sym (read-session s b c)) (generator-fits s w)
 
   -- a deed that is done at a byte shows what it makes of the session
-  pub shown-done : (d : Deed) (p cal meas : List ℕ) (n : ℕ) → Doable d n (length cal) (length meas) → Fit d (generatorOf (readBy s b))
+  pub shown-done : (d : Deed) (p cal meas : List ℕ) (n : ℕ) → Doable d n (length cal) (length meas) → Fit d (generatorOf (readBy s b)) (wrongKeysOf (readBy s b))
       → shown (after d (readBy s b) cal meas) (written d p cal) ≡ doneBy d p (sessionOf s) cal meas
   shown-done d p cal meas n can fit =
       shown-after d (readBy s b) cal meas n (read-length s b c) can fit p ∙ ap (λ (x : Session). doneBy d p x cal meas) (read-session s b c)
@@ -79,8 +79,8 @@ module _ (s : List ℕ) (b : ℕ) (c : consistent s ≡ true) (w : Bytes s) (low
       → shown (after (deedIn p (sessionOf s) cal meas) (readBy s b) cal meas) (written (deedIn p (sessionOf s) cal meas) p cal) ≡ commandIn p (sessionOf s) cal meas
   command-done p cal meas v =
       let t : List ℕ = readBy s b in
-      let fit : Fit (deedIn p (sessionOf s) cal meas) (generatorOf t) =
-      subst (λ (x : Session). Fit (deedIn p x cal meas) (generatorOf t)) (read-session s b c) (judged-fits p t (length cal) (length meas) v generator-low) in
+      let fit : Fit (deedIn p (sessionOf s) cal meas) (generatorOf t) (wrongKeysOf t) =
+      subst (λ (x : Session). Fit (deedIn p x cal meas) (generatorOf t) (wrongKeysOf t)) (read-session s b c) (judged-fits p t (length cal) (length meas) v generator-low) in
       shown-done (deedIn p (sessionOf s) cal meas) p cal meas (length p) (judged-doable p s (length cal) (length meas)) fit
 
   -- a good CONNECT without a session is what it leads to in one

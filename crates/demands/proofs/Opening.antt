@@ -113,7 +113,7 @@ pub opens-by-key : (s cal meas : List ℕ) (b : ℕ) (r : Resource) → consiste
 opens-by-key s cal meas b r c e t = opens-by s cal meas b r c (received s cal meas b c) e t
 
 -- ---- so a session that is shut stays shut
-shut-locked : (c : Session) → c .unlocked Calibration ≡ false → shut c ≡ true
+pub shut-locked : (c : Session) → c .unlocked Calibration ≡ false → shut c ≡ true
 shut-locked c e = rw e (cond-ind (λ (t : Bool). t ≡ true) (c .opened) (λ _. refl) (λ _. refl))
 
 shut-same : (c d : Session) → Alike c d → shut c ≡ true → shut d ≡ true

@@ -95,7 +95,7 @@ pub record Wrong (p : List ℕ) (c : Session) (seed : Seed) : Type 0 where
   pub key : bringsKey p ≡ true
   pub wrong : keyMatches p resource c ≡ false
 
-wrong-by : (seed : Seed) (p : List ℕ) (c : Session) → wrongKeyBy seed p c ≡ true → Wrong p c seed
+pub wrong-by : (seed : Seed) (p : List ℕ) (c : Session) → wrongKeyBy seed p c ≡ true → Wrong p c seed
 unfolding wrongKeyBy
 wrong-by None p c e = absurd (false-true e)
 wrong-by (For r) p c e =

@@ -14,9 +14,11 @@ use Rattle.demands.specs.Demand1.{Demand1}
 use Rattle.demands.specs.Demand2.{Demand2}
 use Rattle.demands.specs.Obeyed.{Obeyed}
 use Rattle.demands.specs.ListsLocked.{ListsLocked}
+use Rattle.demands.specs.StaysShut.{StaysShut}
 use Rattle.demands.specs.Shows.{Shows}
 use Rattle.demands.proofs.Obeyed.{ours-obeys}
 use Rattle.demands.proofs.ListsLocked.{lists-locked}
+use Rattle.demands.proofs.StaysShut.{stays-shut}
 use Rattle.demands.proofs.NoChoice.{only-ours}
 
 low : (number : ℕ) → number ≤ 1 → number < events
@@ -43,3 +45,6 @@ every-obeys = every (λ (v : AnySlave). Obeys (Obeyed v)) ours-obeys
 
 pub every-locked : (v : AnySlave) → Demand1 v → Demand2 v → ListsLocked v
 every-locked = every ListsLocked lists-locked
+
+pub every-shut : (v : AnySlave) → Demand1 v → Demand2 v → StaysShut v
+every-shut = every StaysShut stays-shut

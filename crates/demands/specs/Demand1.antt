@@ -1,5 +1,5 @@
 -- Any bytes, at any moment, with any lent memory, get a defined outcome and never a fault. Each refusal has one fixed number, and apart from a wrong
--- key, which ends the session, a refused command changes no memory byte, setting, list or lock.
+-- key, which ends the session and is counted, a refused command changes no memory byte, setting, list or lock.
 use Prim.Native.Nat.{ℕ, _≤_, _<_}
 use mathlib.Core.Path.{_≡_}
 use mathlib.Core.Logic.{_≢_}
@@ -8,7 +8,7 @@ use mathlib.Core.List.{List}
 use lib.ListN.{length}
 use Rattle.line.specs.Message.{room}
 use Rattle.state.specs.Layout.{placeAt, answerAt, size, sessionAt}
-use Rattle.state.specs.State.{consistent, closed}
+use Rattle.state.specs.State.{consistent, countedWrong, closed}
 use Rattle.model.specs.Model.{byte}
 use Rattle.model.specs.View.{sessionOf, viewOf}
 use Rattle.words.specs.Number.{receivedNumber, eventedNumber, slottedNumber, poweredUpNumber}
@@ -30,13 +30,14 @@ pub record Refused (v : AnySlave) (s cal meas : List ℕ) (b : ℕ) : Type 0 whe
 pub record Demand1 (v : AnySlave) : Type 0 where
   -- a refused command, a wrong key apart, changes the reader's place and the answer alone
   pub refused : (s cal meas : List ℕ) (b : ℕ) → consistent s ≡ true → Refused v s cal meas b → wrongKeyAt s b ≡ false → ChangesOnly placeAt sessionAt v s cal meas b
-  -- after a wrong key every state byte but the answer is DISCONNECT's, which closes the session; and no memory byte has changed
+  -- after a wrong key every state byte but the answer is DISCONNECT's, which closes the session, and one wrong key more is counted, at most three; and no
+  -- memory byte has changed
   pub wrongKeyEnds : (s cal meas : List ℕ) (b : ℕ) (p : List ℕ) → consistent s ≡ true → Commands s b p → wrongKey p (sessionOf s) ≡ true
-      → SameOutside answerAt sessionAt (closed (readBy s b)) (v .receive s cal meas b .state) × (v .receive s cal meas b .cal ≡ cal)
-  -- so it leaves all as DISCONNECT itself does, but for the reader's place, where the command's own bytes are, and the answer
+      → SameOutside answerAt sessionAt (countedWrong (closed (readBy s b))) (v .receive s cal meas b .state) × (v .receive s cal meas b .cal ≡ cal)
+  -- so it leaves all as DISCONNECT itself does, with that one counted, but for the reader's place, where the command's own bytes are, and the answer
   pub asDisconnect : (s t cal meas cal′ meas′ : List ℕ) (b c : ℕ) (p q : List ℕ) → consistent s ≡ true → consistent t ≡ true → SameOutside placeAt sessionAt s t
       → Commands s b p → wrongKey p (sessionOf s) ≡ true → Commands t c q → byte q 0 ≡ 0xFE
-      → SameOutside placeAt sessionAt (v .receive s cal meas b .state) (v .receive t cal′ meas′ c .state)
+      → SameOutside placeAt sessionAt (v .receive s cal meas b .state) (countedWrong (v .receive t cal′ meas′ c .state))
   -- the numbers 0 and 2 to 7 of a byte change the reader's place alone
   pub unanswered : (s cal meas : List ℕ) (b : ℕ) → consistent s ≡ true → receivedNumber (v .receive s cal meas b .received) ≢ 1 → ChangesOnly placeAt answerAt v s cal meas b
   -- 10 is for a state that is not consistent, and changes nothing

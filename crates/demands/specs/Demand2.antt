@@ -208,8 +208,8 @@ pub record Demand2 (v : AnySlave) : Type 0 where
   -- and nothing else opens a lock
   pub opensByKey : (s cal meas : List ℕ) (b : ℕ) (r : Resource) → consistent s ≡ true → sessionOf s .unlocked r ≡ false → sessionOf (v .receive s cal meas b .state) .unlocked r ≡ true
       → RightKeyEnds s b r
-  -- GET_SEED of a locked resource gives a seed, whatever the generator, and the key to that seed opens that lock
-  pub seedOpens : (s cal meas : List ℕ) (b : ℕ) (p : List ℕ) (r : Resource) → consistent s ≡ true → sessionOf s .generator < 2 ^ 32
+  -- GET_SEED of a locked resource gives a seed while fewer than three keys were wrong, whatever the generator, and the key to that seed opens that lock
+  pub seedOpens : (s cal meas : List ℕ) (b : ℕ) (p : List ℕ) (r : Resource) → consistent s ≡ true → sessionOf s .generator < 2 ^ 32 → sessionOf s .wrongKeys < 3
       → Commands s b p → take 3 p ≡ 0xF8 ∷ 0x00 ∷ bitOf r ∷ [] → sessionOf s .unlocked r ≡ false → SeedOpens v r s (v .receive s cal meas b .state)
   -- an event samples the lists that run on it and have no unsent packet, and misses those that have one; exactly these are counted
   pub counts : (s cal meas : List ℕ) (event clock : ℕ) → consistent s ≡ true → event ≤ 1

@@ -13,7 +13,7 @@ use Rattle.state.specs.Layout.{size, generatorAt, ctrAt, sessionAt, seedAt, mta
 use Rattle.state.specs.Bytes.{block, cleared}
 use Rattle.state.specs.Generator.{nextOf}
 use Rattle.state.specs.Memory.{pick}
-use Rattle.state.specs.State.{flagOf, generatorOf, setGenerator, lockAt, setSeed, setMta, setPointer, placeOf, messageOf, waits, answerOf}
+use Rattle.state.specs.State.{flagOf, generatorOf, setGenerator, lockAt, setSeed, setMta, setPointer, closed, placeOf, messageOf, waits, answerOf}
 use Rattle.lists.specs.Lists.{runsOf, dropped, switched, listCleared, modeSet, tagOf, entryCleared, entrySet, stopEach, startOne, startSelected, stopSelected}
 use Rattle.judge.specs.Doable.{Doable}
 use Rattle.model.specs.Step.{nextEntry}
@@ -25,7 +25,7 @@ use Rattle.words.specs.declared.Pointer.{Pointer}
 use Rattle.model.specs.declared.Deed.{Deed}
 use Rattle.model.specs.declared.Deed.the-variants.{Refuse, RefuseSize, WrongKey, Connect, Disconnect, Status, Synch, NoSeed, GiveSeed, Unlock, SetMta, Upload, Checksum, Download, ClearList, SetPointer, ClearEntry, WriteEntry, SetMode, Stop, Start, KeepRunning, Select, StopAll, StartSelected, StopSelected, ProcessorInfo, ResolutionInfo}
 use Rattle.fields.proofs.Fields.{kindly, Answering, answer-same, waits-answered}
-use Rattle.fields.proofs.Frames.{Only, only-none, only-then, only-wider, only-set, only-put16, only-cleared, only-generator, only-lock, only-seed, only-mta, only-pointer, only-closed, only-fresh}
+use Rattle.fields.proofs.Frames.{Only, only-none, only-then, only-wider, only-set, only-put16, only-cleared, only-generator, only-counted, only-lock, only-seed, only-mta, only-pointer, only-closed, only-fresh}
 use Rattle.fields.proofs.Readers.{Same, apart, same-then, same-part, place-reads, message-reads}
 
 -- ---- the lists' changes
@@ -94,7 +94,7 @@ only-stopSelected s (suc n) h =
     (only-cond (flagOf (stopSelected s n) (selectedAt n)) (only-switched (stopSelected s n) n 0 (omega arith)) only-none))
 
 -- ---- the deeds
--- t differs from s in the generator and the session alone: not in the mark, the CTR, the round, the reader or the answer
+-- t differs from s in the generator, the count of wrong keys and the session alone: not in the mark, the CTR, the round, the reader or the answer
 pub record Effected (s t : List ℕ) : Type 0 where
   pub range : Only generatorAt size s t
   pub between : Same ctrAt sessionAt s t
@@ -102,6 +102,13 @@ pub record Effected (s t : List ℕ) : Type 0 where
 -- the session alone
 within : {s t : List ℕ} → Only sessionAt size s t → Effected s t
 within w = record { range = only-wider (lit≤ tt) (lit≤ tt) w; between = apart tt w }
+
+-- what runs on across sessions alone; one after the other
+beside : {s t : List ℕ} → Only generatorAt ctrAt s t → Effected s t
+beside w = record { range = only-wider (lit≤ tt) (lit≤ tt) w; between = apart tt w }
+
+then : {s t u : List ℕ} → Effected s t → Effected t u → Effected s u
+then w v = record { range = only-then (w .range) (v .range); between = same-then (w .between) (v .between) }
 
 none : {s : List ℕ} → Effected s s
 none = within only-none
@@ -120,7 +127,7 @@ pub effected : (d : Deed) (s : List ℕ) (n nc nm : ℕ) → Doable d n nc nm �
 unfolding effect
 effected (Refuse r) s n nc nm h = none
 effected RefuseSize s n nc nm h = none
-effected WrongKey s n nc nm h = within (only-closed s)
+effected WrongKey s n nc nm h = then (within (only-closed s)) (beside (only-wider (lit≤ tt) (lit≤ tt) (only-counted (closed s))))
 effected Connect s n nc nm h = within (only-fresh s)
 effected Disconnect s n nc nm h = within (only-closed s)
 effected Status s n nc nm h = none
@@ -128,9 +135,7 @@ effected Synch s n nc nm h = none
 effected NoSeed s n nc nm h = none
 effected (GiveSeed r) s n nc nm h =
     let x : ℕ = nextOf (generatorOf s) in
-    let g : Only generatorAt ctrAt s (setGenerator s x) = only-generator s x in
-    let e : Only seedAt mtaAt (setGenerator s x) (setSeed (setGenerator s x) (For r)) = only-seed (setGenerator s x) (For r) in
-    record { range = only-then (only-wider (lit≤ tt) (lit≤ tt) g) (only-wider (lit≤ tt) (lit≤ tt) e); between = same-then (apart tt g) (apart tt e) }
+    then (beside (only-wider (lit≤ tt) (lit≤ tt) (only-generator s x))) (within (only-wider (lit≤ tt) (lit≤ tt) (only-seed (setGenerator s x) (For r))))
 effected (Unlock r) s n nc nm h =
     within (only-then (only-wider (lit≤ tt) (lit≤ tt) (only-lock s r 1)) (only-wider (lit≤ tt) (lit≤ tt) (only-seed (set s (lockAt r) 1) None)))
 effected (SetMta e a) s n nc nm h = mta s _

@@ -5,17 +5,17 @@ use mathlib.Core.Bool.{Bool, true, false, cond}
 use mathlib.Core.List.{List, _∷_}
 use native.Mathlib.Omega.{arith}
 use native.Mathlib.Nat.{mod-eq-of-lt}
-use borrow.Author.Tests.{eqb-true, ne-eqb, lt-ltb, le-ltb, lt-leb}
+use borrow.Author.Tests.{leb-true, leb-false, eqb-true, ne-eqb, lt-ltb, le-ltb, lt-leb}
 use lib.Dec.{T, eqb, ltb, lit<, lit≤}
 use lib.ListN.{length, getD, set, length-set}
 use lib.Seq.{sets, getD-set-same, getD-set-other, set-getD}
 use Rattle.line.specs.declared.Place.{Place}
 use Rattle.line.specs.declared.Place.the-variants.{Outside, Inside, Escaped}
 use Rattle.line.proofs.Laws.{cond-ind}
-use Rattle.state.specs.Layout.{size, generatorAt, sessionAt, sessionSize, openAt, calibrationAt, listsAt, seedAt, pointerAt, pointerEntryAt, mtaAt, addressAt, sampleAt, placeAt, countAt, messageAt, answerAt, answerBytesAt, entryCount, allOdts, packetMost}
+use Rattle.state.specs.Layout.{size, wrongMost, generatorAt, wrongKeysAt, sessionAt, sessionSize, openAt, calibrationAt, listsAt, seedAt, pointerAt, pointerEntryAt, mtaAt, addressAt, sampleAt, placeAt, countAt, messageAt, answerAt, answerBytesAt, entryCount, allOdts, packetMost}
 use Rattle.state.specs.Bytes.{u32At, put32, block}
-use Rattle.state.specs.Generator.{startOf}
-use Rattle.state.specs.State.{bitOf, flagOf, generatorOf, setGenerator, openOf, lockAt, unlockedOf, seedOf, setSeed, mtaTag, mtaOf, setMta, pointerOf, setPointer, Pointed, closed, fresh, placeOf, setPlace, answerLength, waits, answerKind, answerOf, answered}
+use Rattle.state.specs.Generator.{startOf, staysShut, oneWrongMore}
+use Rattle.state.specs.State.{bitOf, flagOf, generatorOf, setGenerator, wrongKeysOf, countedWrong, openOf, lockAt, unlockedOf, seedOf, setSeed, mtaTag, mtaOf, setMta, pointerOf, setPointer, Pointed, closed, fresh, placeOf, setPlace, answerLength, waits, answerKind, answerOf, answered}
 use Rattle.state.specs.Lists.{leastOf, storedLength}
 use Rattle.words.specs.declared.Resource.{Resource}
 use Rattle.words.specs.declared.Resource.the-variants.{Calibration, Lists}
@@ -62,11 +62,50 @@ pointer-same s (Entry k e) h l =
     = getD-set-same (set s pointerAt (k + 1)) pointerEntryAt e 0 (rw length-set (omega arith)) in
     simp (m, odt, entry, back, ne-eqb (k + 1) 0 (omega arith), le-ltb allOdts (k + 1) (omega arith), lt-leb (entryCount k) e (l .1))
 
-pub seed-same : (s : List ℕ) (x : Seed) → length s ≡ size → seedOf (setSeed s x) ≡ x
+-- the count of wrong keys is never above 3, also with one more
+pub wrongKeys-few : (s : List ℕ) → wrongKeysOf s ≤ wrongMost
+unfolding wrongKeysOf
+wrongKeys-few s =
+    cond-ind (λ (n : ℕ). n ≤ wrongMost) (staysShut (getD s wrongKeysAt 0)) (λ _. lit≤ tt) (λ b. let few : getD s wrongKeysAt 0 < wrongMost = leb-false wrongMost _ b in omega arith)
+
+pub more-few : (n : ℕ) → oneWrongMore n ≤ wrongMost
+more-few n = cond-ind (λ (m : ℕ). m ≤ wrongMost) (staysShut n) (λ _. lit≤ tt) (λ b. let few : n < wrongMost = leb-false wrongMost n b in omega arith)
+
+-- such a count reads as it was set
+count-reads : (s : List ℕ) (n : ℕ) → getD s wrongKeysAt 0 ≡ n → n ≤ wrongMost → wrongKeysOf s ≡ n
+unfolding wrongKeysOf
+count-reads s n e l = rw e (cond-ind (λ (m : ℕ). m ≡ n) (staysShut n) (λ b. let many : wrongMost ≤ n = leb-true wrongMost n b in omega arith) (λ _. refl))
+
+pub wrongKeys-counted : (s : List ℕ) → length s ≡ size → wrongKeysOf (countedWrong s) ≡ oneWrongMore (wrongKeysOf s)
+unfolding countedWrong
+wrongKeys-counted s h = count-reads _ _ (getD-set-same s wrongKeysAt (oneWrongMore (wrongKeysOf s)) 0 (omega arith)) (more-few (wrongKeysOf s))
+
+-- a seed that can be out with n wrong keys
+abbrev pub Given : Seed → ℕ → Type 0
+Given None n = Unit
+Given (For r) n = staysShut n ≡ false
+
+-- a seed is out only then
+pub seed-few : (s : List ℕ) (r : Resource) → seedOf s ≡ For r → staysShut (wrongKeysOf s) ≡ false
+unfolding seedOf
+seed-few s r = go (staysShut (wrongKeysOf s)) _ where
+  go : (shut : Bool) (x : Seed) → cond shut None x ≡ For r → shut ≡ false
+  go true x e = absurd (let z : _≡_ {A = ℕ} 0 1 = cc in omega arith)
+  go false x e = refl
+
+pub shut-seedless : (s : List ℕ) → staysShut (wrongKeysOf s) ≡ true → seedOf s ≡ None
+unfolding seedOf
+shut-seedless s e = rw e
+
+set-seed-count : (s : List ℕ) (v : ℕ) → wrongKeysOf (set s seedAt v) ≡ wrongKeysOf s
+unfolding wrongKeysOf
+set-seed-count s v = rw (set-out s seedAt mtaAt seedAt v wrongKeysAt (lit≤ tt) (lit< tt) tt)
+
+pub seed-same : (s : List ℕ) (x : Seed) → length s ≡ size → Given x (wrongKeysOf s) → seedOf (setSeed s x) ≡ x
 unfolding setSeed seedOf
-seed-same s None h = simp (getD-set-same s seedAt 0 0 (omega arith))
-seed-same s (For Calibration) h = simp (getD-set-same s seedAt (bitOf Calibration) 0 (omega arith))
-seed-same s (For Lists) h = simp (getD-set-same s seedAt (bitOf Lists) 0 (omega arith))
+seed-same s None h g = cond-ind (λ (x : Seed). x ≡ None) (staysShut (wrongKeysOf (set s seedAt 0))) (λ _. refl) (λ _. simp (getD-set-same s seedAt 0 0 (omega arith)))
+seed-same s (For Calibration) h g = simp (set-seed-count s (bitOf Calibration), g, getD-set-same s seedAt (bitOf Calibration) 0 (omega arith))
+seed-same s (For Lists) h g = simp (set-seed-count s (bitOf Lists), g, getD-set-same s seedAt (bitOf Lists) 0 (omega arith))
 
 -- a count that a byte holds
 abbrev pub Counted : Place → Type 0
@@ -167,7 +206,7 @@ bare-locked s Lists z = simp (z listsAt (lit≤ tt) (lit< tt))
 
 pub bare-seed : (s : List ℕ) → Bare s → seedOf s ≡ None
 unfolding seedOf
-bare-seed s z = simp (z seedAt (lit≤ tt) (lit< tt))
+bare-seed s z = cond-ind (λ (x : Seed). x ≡ None) (staysShut (wrongKeysOf s)) (λ _. refl) (λ _. simp (z seedAt (lit≤ tt) (lit< tt)))
 
 pub bare-mta : (s : List ℕ) → Bare s → mtaOf s ≡ Unset
 unfolding mtaOf
@@ -202,6 +241,10 @@ closed-bare s h j p q = closed-zero s j h (omega arith) q
 pub fresh-open : (s : List ℕ) → length s ≡ size → openOf (fresh s) ≡ true
 unfolding fresh flagOf
 fresh-open s h = simp (getD-set-same (closed s) openAt 1 0 (rw closed-length (omega arith)))
+
+pub counted-bare : (s : List ℕ) → Bare s → Bare (countedWrong s)
+unfolding countedWrong
+counted-bare s z j p q = getD-set-other s wrongKeysAt j _ 0 (omega arith) ∙ z j p q
 
 pub fresh-bare : (s : List ℕ) → length s ≡ size → Bare (fresh s)
 unfolding fresh

@@ -13,9 +13,9 @@ use Rattle.line.specs.Unstuffing.{Fed}
 use Rattle.line.specs.declared.Place.{Place}
 use Rattle.line.specs.declared.Place.the-variants.{Outside, Inside, Escaped}
 use Rattle.line.proofs.Laws.{cond-ind}
-use Rattle.state.specs.Layout.{size, generatorAt, ctrAt, placeAt, countAt, messageAt, answerAt, sessionAt, sessionSize, openAt, calibrationAt, listsAt, seedAt, mtaAt, addressAt, pointerAt, pointerEntryAt, modeAt, packetMost}
+use Rattle.state.specs.Layout.{size, generatorAt, wrongKeysAt, ctrAt, placeAt, countAt, messageAt, answerAt, sessionAt, sessionSize, openAt, calibrationAt, listsAt, seedAt, mtaAt, addressAt, pointerAt, pointerEntryAt, modeAt, packetMost}
 use Rattle.state.specs.Bytes.{put16, put32, cleared}
-use Rattle.state.specs.State.{setGenerator, lockAt, bitOf, setSeed, mtaTag, setMta, setPointer, closed, fresh, setPlace, setMessage, answered}
+use Rattle.state.specs.State.{setGenerator, countedWrong, lockAt, bitOf, setSeed, mtaTag, setMta, setPointer, closed, fresh, setPlace, setMessage, answered}
 use Rattle.session.specs.Receive.{readOn}
 use Rattle.words.specs.declared.Resource.{Resource}
 use Rattle.words.specs.declared.Resource.the-variants.{Calibration, Lists}
@@ -99,9 +99,13 @@ only-between {s} {t} lo hi e p q = record { long = e; bytes = λ j o. go j (ltb 
       rw d at (sym (getD-drop hi t (j - hi) 0) ∙ ap (λ (l : List ℕ). getD l (j - hi) 0) q ∙ getD-drop hi s (j - hi) 0)
 
 -- ---- the writers
-pub only-generator : (s : List ℕ) (x : ℕ) → Only generatorAt ctrAt s (setGenerator s x)
+pub only-generator : (s : List ℕ) (x : ℕ) → Only generatorAt wrongKeysAt s (setGenerator s x)
 unfolding setGenerator
 only-generator s x = only-put32 s generatorAt x (lit≤ tt) (lit≤ tt)
+
+pub only-counted : (s : List ℕ) → Only wrongKeysAt ctrAt s (countedWrong s)
+unfolding countedWrong
+only-counted s = only-set s wrongKeysAt _ (lit≤ tt) (lit< tt)
 
 pub only-lock : (s : List ℕ) (r : Resource) (v : ℕ) → Only calibrationAt seedAt s (set s (lockAt r) v)
 only-lock s Calibration v = only-set s calibrationAt v (lit≤ tt) (lit< tt)

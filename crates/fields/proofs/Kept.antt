@@ -19,7 +19,7 @@ use Rattle.line.proofs.After.{take-length}
 use Rattle.state.specs.Layout.{mark, markAt, size, generatorAt, ctrAt, servedAt, lastAt, messageAt, answerAt, answerBytesAt, lists, modeAt, selectedAt, runningAt, entriesAt, entryAt, sampleAt, firstOdt, odtCount, listOf, events, listSize, entrySize, odtSize, lastList}
 use Rattle.state.specs.Bytes.{u32At, put16, put32, block, cleared}
 use Rattle.state.specs.Generator.{startOf, nextOf}
-use Rattle.state.specs.State.{consistent, flagOf, generatorOf, setGenerator, lockAt, setSeed, setMta, setPointer, placeOf, messageOf, waits, answerKind, answered}
+use Rattle.state.specs.State.{consistent, flagOf, generatorOf, setGenerator, lockAt, setSeed, setMta, setPointer, closed, placeOf, messageOf, waits, answerKind, answered}
 use Rattle.lists.specs.Lists.{runsOf, dropped, switched, listCleared, modeSet, tagOf, entryCleared, entrySet, stopEach, startOne, startSelected, stopSelected}
 use Rattle.model.specs.Step.{nextEntry}
 use Rattle.session.specs.Perform.{effect, reply, after}
@@ -41,7 +41,7 @@ use Rattle.model.specs.declared.Deed.the-variants.{Refuse, RefuseSize, WrongKey
 use Rattle.state.proofs.Sets.{block-length}
 use Rattle.state.proofs.Consistent.{consistent-size}
 use Rattle.fields.proofs.Stores.{take-sets}
-use Rattle.fields.proofs.Frames.{Only, only-take, only-generator, only-lock, only-seed, only-mta, only-pointer, only-closed, only-fresh, only-readOn}
+use Rattle.fields.proofs.Frames.{Only, only-take, only-generator, only-counted, only-lock, only-seed, only-mta, only-pointer, only-closed, only-fresh, only-readOn}
 
 -- ---- t has the length of s and its first bytes, the mark
 pub record Marked (s t : List ℕ) : Type 0 where
@@ -179,7 +179,7 @@ pub marked-effect : (d : Deed) (s : List ℕ) → Marked s (effect d s)
 unfolding effect
 marked-effect (Refuse r) s = marked-none
 marked-effect RefuseSize s = marked-none
-marked-effect WrongKey s = marked-only (lit≤ tt) (only-closed s)
+marked-effect WrongKey s = marked-then (marked-only (lit≤ tt) (only-closed s)) (marked-only (lit≤ tt) (only-counted (closed s)))
 marked-effect Connect s = marked-only (lit≤ tt) (only-fresh s)
 marked-effect Disconnect s = marked-only (lit≤ tt) (only-closed s)
 marked-effect Status s = marked-none

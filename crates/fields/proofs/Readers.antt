@@ -9,9 +9,9 @@ use lib.Dec.{T, eqb, ltb, leb, leb→le, lit<, lit≤}
 use lib.ListN.{length, getD, drop, set, length-take, length-drop, length-set}
 use lib.Seq.{getD-take, getD-drop, ext-getD, getD-set-same, getD-set-other, set-out}
 use Rattle.line.specs.Message.{longest}
-use Rattle.state.specs.Layout.{entryCount, generatorAt, ctrAt, placeAt, countAt, messageAt, answerAt, answerBytesAt, sessionAt, openAt, calibrationAt, listsAt, seedAt, mtaAt, addressAt, pointerAt, pointerEntryAt, modeAt, entrySize, entriesAt, entryAt, sampleAt}
+use Rattle.state.specs.Layout.{entryCount, generatorAt, wrongKeysAt, ctrAt, placeAt, countAt, messageAt, answerAt, answerBytesAt, sessionAt, openAt, calibrationAt, listsAt, seedAt, mtaAt, addressAt, pointerAt, pointerEntryAt, modeAt, entrySize, entriesAt, entryAt, sampleAt}
 use Rattle.state.specs.Bytes.{u16At, u32At, block}
-use Rattle.state.specs.State.{flagOf, generatorOf, openOf, unlockedOf, seedOf, mtaOf, pointerOf, placeOf, messageOf, answerLength, answerKind, answerOf}
+use Rattle.state.specs.State.{flagOf, generatorOf, wrongKeysOf, openOf, unlockedOf, seedOf, mtaOf, pointerOf, placeOf, messageOf, answerLength, answerKind, answerOf}
 use Rattle.state.specs.Lists.{sizeOf, extensionOf, addressOf, storedLength}
 use Rattle.model.specs.Model.{noEntry}
 use Rattle.model.specs.View.{entryOf, odtOf}
@@ -82,9 +82,13 @@ module _ {s t : List ℕ} where
   unfolding flagOf
   flag-reads i w = rw (w .byte i (omega arith) (omega arith))
 
-  pub generator-reads : Same generatorAt ctrAt s t → generatorOf t ≡ generatorOf s
+  pub generator-reads : Same generatorAt wrongKeysAt s t → generatorOf t ≡ generatorOf s
   unfolding generatorOf
   generator-reads w = rw (u32-reads generatorAt w)
+
+  pub wrongKeys-reads : Same wrongKeysAt ctrAt s t → wrongKeysOf t ≡ wrongKeysOf s
+  unfolding wrongKeysOf
+  wrongKeys-reads w = rw (w .byte wrongKeysAt (lit≤ tt) (lit< tt))
 
   pub open-reads : Same openAt calibrationAt s t → openOf t ≡ openOf s
   open-reads w = flag-reads openAt w
@@ -93,9 +97,9 @@ module _ {s t : List ℕ} where
   lock-reads Calibration w = flag-reads calibrationAt (same-part (lit≤ tt) (lit≤ tt) w)
   lock-reads Lists w = flag-reads listsAt (same-part (lit≤ tt) (lit≤ tt) w)
 
-  pub seed-reads : Same seedAt mtaAt s t → seedOf t ≡ seedOf s
+  pub seed-reads : Same wrongKeysAt ctrAt s t → Same seedAt mtaAt s t → seedOf t ≡ seedOf s
   unfolding seedOf
-  seed-reads w = rw (w .byte seedAt (lit≤ tt) (lit< tt))
+  seed-reads v w = rw (wrongKeys-reads v, w .byte seedAt (lit≤ tt) (lit< tt))
 
   pub mta-reads : Same mtaAt pointerAt s t → mtaOf t ≡ mtaOf s
   unfolding mtaOf

@@ -7,7 +7,7 @@ use borrow.Author.Tests.{ltb-false, leb-false}
 use lib.Dec.{eqb, ltb, leb}
 use Rattle.line.proofs.Laws.{cond-ind}
 use Rattle.state.specs.Layout.{lists, odtCount, firstOdt, entryCount, allOdts, events, entryMost, uploadMost, downloadMost, addressable}
-use Rattle.state.specs.Generator.{keyOf}
+use Rattle.state.specs.Generator.{keyOf, staysShut}
 use Rattle.state.specs.Memory.{pick, insideOf}
 use Rattle.state.specs.State.{Pointed}
 use Rattle.words.specs.Command.{commandOf, fewest, needsOf}
@@ -40,13 +40,14 @@ module _ (n nc nm : ℕ) where
   seed-doable : (unlocked : Bool) (r : Resource) → Can (seedDeed unlocked r)
   seed-doable unlocked r = cond-ind Can unlocked (λ _. tt) (λ _. tt)
 
-  get-seed-doable : (calibration lists : Bool) (mode resource : ℕ) → Can (getSeedDeed calibration lists mode resource)
+  get-seed-doable : (wrong : ℕ) (calibration lists : Bool) (mode resource : ℕ) → Can (getSeedDeed wrong calibration lists mode resource)
   unfolding getSeedDeed
-  get-seed-doable calibration lists mode resource =
+  get-seed-doable wrong calibration lists mode resource =
+      cond-ind Can (staysShut wrong) (λ _. tt) (λ _.
       cond-ind Can (eqb mode 1) (λ _. tt) (λ _.
       cond-ind Can (ltb 1 mode) (λ _. tt) (λ _.
       cond-ind Can (eqb resource 0x01) (λ _. seed-doable calibration Calibration) (λ _.
-      cond-ind Can (eqb resource 0x04) (λ _. seed-doable lists Lists) (λ _. tt))))
+      cond-ind Can (eqb resource 0x04) (λ _. seed-doable lists Lists) (λ _. tt)))))
 
   unlock-doable : (seed : Seed) (g size len key : ℕ) → Can (unlockBy seed g size len key)
   unfolding unlockBy
@@ -168,7 +169,7 @@ the-doable Connect p v at nc nm = connect-doable (p .n) nc nm (p .b1)
 the-doable Disconnect p v at nc nm = tt
 the-doable GetStatus p v at nc nm = tt
 the-doable Synch p v at nc nm = tt
-the-doable GetSeed p v at nc nm = get-seed-doable (p .n) nc nm (v .calibration) (v .lists) (p .b1) (p .b2)
+the-doable GetSeed p v at nc nm = get-seed-doable (p .n) nc nm (v .wrongKeys) (v .calibration) (v .lists) (p .b1) (p .b2)
 the-doable Unlock p v at nc nm = unlock-doable (p .n) nc nm (v .seed) (v .generator) (p .b1) (p .n) (p .d2)
 the-doable SetMta p v at nc nm = set-mta-doable (p .n) nc nm (p .b3) (p .d4)
 the-doable Upload p v at nc nm = upload-doable (p .n) nc nm (v .mta) (p .b1)

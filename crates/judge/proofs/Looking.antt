@@ -86,6 +86,7 @@ module _ (v : Seen) (nc nm : ℕ) where
 
 -- ---- what is seen: of the lists no more than a list that there is
 pub record Seeing (v w : Seen) : Type 0 where
+  pub wrongKeys : v .wrongKeys ≡ w .wrongKeys
   pub calibration : v .calibration ≡ w .calibration
   pub lists : v .lists ≡ w .lists
   pub seed : v .seed ≡ w .seed
@@ -136,7 +137,7 @@ module _ (p : Packet) (v w : Seen) (s : Seeing v w) (nc nm : ℕ) where
   the-looked Disconnect h = refl
   the-looked GetStatus h = refl
   the-looked Synch h = refl
-  the-looked GetSeed h = rw (s .calibration, s .lists)
+  the-looked GetSeed h = rw (s .wrongKeys, s .calibration, s .lists)
   the-looked Unlock h = rw (s .seed, s .generator)
   the-looked SetMta h = refl
   the-looked Upload h = rw (s .mta)

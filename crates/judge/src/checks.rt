@@ -6,6 +6,7 @@ use state::layout;
 use state::memory::inside;
 use state::memory::length_of;
 use state::seeds::key_for;
+use state::seeds::stays_shut;
 use words::Extension;
 use words::Mta;
 use words::Pointer;
@@ -44,9 +45,12 @@ fn seed_for(unlocked: bool, resource: Resource) -> Deed
     }
 }
 
-pub fn get_seed(calibration: bool, lists: bool, mode: u8, resource: u8) -> Deed
-    ensures { λ r. ⌜ r ≡ getSeedDeed calibration lists mode resource ⌝ }
+pub fn get_seed(wrong: u8, calibration: bool, lists: bool, mode: u8, resource: u8) -> Deed
+    ensures { λ r. ⌜ r ≡ getSeedDeed wrong calibration lists mode resource ⌝ }
 {
+    if stays_shut(wrong) {
+        return Deed::Refuse(Reason::Locked);
+    }
     if mode == 1 {
         return Deed::Refuse(Reason::Sequence);
     }

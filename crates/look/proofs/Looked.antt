@@ -53,7 +53,7 @@ pointer-named s (Entry k e) whole = rw (eq-eqb (length s) size whole)
 
 seeing-all : (l : ℕ) (s : List ℕ) → length s ≡ size → Seeing (lookedAt s) (seenIn l (sessionOf s))
 unfolding sessionOf
-seeing-all l s whole = record { calibration = refl; lists = refl; seed = refl; generator = refl; mta = refl; pointer = refl; pointed = pointer-named s (pointerOf s) whole; ready = rw (eq-eqb (length s) size whole) }
+seeing-all l s whole = record { wrongKeys = refl; calibration = refl; lists = refl; seed = refl; generator = refl; mta = refl; pointer = refl; pointed = pointer-named s (pointerOf s) whole; ready = rw (eq-eqb (length s) size whole) }
 
 named : (s : List ℕ) (l : ℕ) → length s ≡ size → u16At s (packetAt + 2) ≡ l → (lookedAt s .runs ≡ seenIn l (sessionOf s) .runs) × (lookedAt s .fits ≡ seenIn l (sessionOf s) .fits)
 named s l whole e = (rw (e, eq-eqb (length s) size whole), rw (e, eq-eqb (length s) size whole))

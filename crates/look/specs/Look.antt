@@ -5,7 +5,7 @@ use mathlib.Core.List.{List}
 use lib.ListN.{getD}
 use Rattle.state.specs.Layout.{lists, packetAt, listOf}
 use Rattle.state.specs.Bytes.{u16At, u32At}
-use Rattle.state.specs.State.{generatorOf, unlockedOf, seedOf, mtaOf, pointerOf}
+use Rattle.state.specs.State.{generatorOf, wrongKeysOf, unlockedOf, seedOf, mtaOf, pointerOf}
 use Rattle.lists.specs.Lists.{runsNamed, fitsNamed, ready}
 use Rattle.words.specs.declared.Resource.the-variants.{Calibration, Lists}
 use Rattle.words.specs.declared.Pointer.{Pointer}
@@ -41,6 +41,7 @@ pointedNamed (Entry k e) s = runsNamed s (listOf k)
 -- what is seen of a state with such a message
 abbrev pub lookedAt : List ℕ → Seen
 lookedAt s = record {
+  wrongKeys = wrongKeysOf s;
   calibration = unlockedOf s Calibration;
   lists = unlockedOf s Lists;
   seed = seedOf s;

@@ -95,6 +95,7 @@ fn judge_the(command: Command, s: &[u8], n: u8, nc: usize, nm: usize) -> Deed
         Command::GetStatus => Deed::Status,
         Command::Synch => Deed::Synch,
         Command::GetSeed => checks::get_seed(
+            fields::wrong_keys(s),
             fields::unlocked(s, Resource::Calibration),
             fields::unlocked(s, Resource::Lists),
             get(s, layout::PACKET_1),

@@ -138,6 +138,6 @@ sampleFrom l x clock cal meas o (suc n) = packetWith (firstOdt l + o) (contentsI
 abbrev pub sampleIn : Session → ℕ → ℕ → List ℕ → List ℕ → List (List ℕ)
 sampleIn c l clock cal meas = sampleFrom l (c .list l) clock cal meas 0 (odtCount l)
 
--- ---- power-up: the last list counts as served last, the last frame as no answer
+-- ---- power-up: no key was wrong, the last list counts as served last, the last frame as no answer
 abbrev pub poweredUp : ℕ → Slave
-poweredUp start = record { session = blank (startOf start) false; place = Outside; message = replicate longest 0; answer = []; ctr = 0; served = lastList; lastAnswer = false }
+poweredUp start = record { session = blank (startOf start) 0 false; place = Outside; message = replicate longest 0; answer = []; ctr = 0; served = lastList; lastAnswer = false }

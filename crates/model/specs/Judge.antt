@@ -6,7 +6,7 @@ use mathlib.Core.List.{List}
 use lib.Dec.{eqb, ltb, leb}
 use Rattle.state.specs.Layout.{lists, events, entryMost, uploadMost, downloadMost, addressable, firstOdt, odtCount, listOf, entryCount}
 use Rattle.state.specs.Bytes.{u16At}
-use Rattle.state.specs.Generator.{keyOf}
+use Rattle.state.specs.Generator.{keyOf, staysShut}
 use Rattle.state.specs.Memory.{pick, insideOf}
 use Rattle.words.specs.Command.{commandOf, fewest, needsOf}
 use Rattle.model.specs.Model.{Session, fits, runsIn}
@@ -40,13 +40,14 @@ connectDeed mode = cond (eqb mode 0) deed.Connect (deed.Refuse OutOfRange)
 abbrev pub seedDeed : Bool → Resource → Deed
 seedDeed unlocked r = cond unlocked deed.NoSeed (deed.GiveSeed r)
 
-unfoldable pub getSeedDeed : Bool → Bool → ℕ → ℕ → Deed
-getSeedDeed cal lis mode resource =
-    cond (eqb mode 1) (deed.Refuse Sequence)
+unfoldable pub getSeedDeed : ℕ → Bool → Bool → ℕ → ℕ → Deed
+getSeedDeed wrong cal lis mode resource =
+    cond (staysShut wrong) (deed.Refuse Locked)
+    (cond (eqb mode 1) (deed.Refuse Sequence)
     (cond (ltb 1 mode) (deed.Refuse OutOfRange)
     (cond (eqb resource 0x01) (seedDeed cal Calibration)
     (cond (eqb resource 0x04) (seedDeed lis Lists)
-    (deed.Refuse OutOfRange))))
+    (deed.Refuse OutOfRange)))))
 
 -- UNLOCK
 unfoldable pub unlockBy : Seed → ℕ → ℕ → ℕ → ℕ → Deed
@@ -179,7 +180,7 @@ judgeThe Connect p v nc nm = connectDeed (p .b1)
 judgeThe Disconnect p v nc nm = deed.Disconnect
 judgeThe GetStatus p v nc nm = deed.Status
 judgeThe Synch p v nc nm = deed.Synch
-judgeThe GetSeed p v nc nm = getSeedDeed (v .calibration) (v .lists) (p .b1) (p .b2)
+judgeThe GetSeed p v nc nm = getSeedDeed (v .wrongKeys) (v .calibration) (v .lists) (p .b1) (p .b2)
 judgeThe Unlock p v nc nm = unlockBy (v .seed) (v .generator) (p .b1) (p .n) (p .d2)
 judgeThe SetMta p v nc nm = setMtaDeed (p .b3) (p .d4)
 judgeThe Upload p v nc nm = uploadDeed (v .mta) (p .b1) nc nm
@@ -228,6 +229,7 @@ allStartable c (suc n) = cond (allStartable c n) (startable c n) false
 -- by the checks of a command that names list l
 abbrev pub seenIn : ℕ → Session → Seen
 seenIn l c = record {
+  wrongKeys = c .wrongKeys;
   calibration = c .unlocked Calibration;
   lists = c .unlocked Lists;
   seed = c .seed;

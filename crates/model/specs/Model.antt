@@ -51,9 +51,10 @@ pub record DaqList : Type 0 where
   pub started : Bool
   pub odt : ℕ → Odt
 
--- the generator runs on across sessions; the seed is out for one resource, or none is
+-- the generator runs on across sessions, and so does the count of wrong keys since power-up; the seed is out for one resource, or none is
 pub record Session : Type 0 where
   pub generator : ℕ
+  pub wrongKeys : ℕ
   pub opened : Bool
   pub unlocked : Resource → Bool
   pub seed : Seed
@@ -82,8 +83,8 @@ abbrev pub noList : DaqList
 noList = record { mode = 0; selected = false; started = false; odt = λ o. noOdt }
 
 -- both resources locked, no seed, MTA or pointer, every list as after E3, stopped and without samples
-abbrev pub blank : ℕ → Bool → Session
-blank g o = record { generator = g; opened = o; unlocked = λ r. false; seed = None; mta = Unset; pointer = NoEntry; list = λ l. noList }
+abbrev pub blank : ℕ → ℕ → Bool → Session
+blank g n o = record { generator = g; wrongKeys = n; opened = o; unlocked = λ r. false; seed = None; mta = Unset; pointer = NoEntry; list = λ l. noList }
 
 -- ---- whether list l can be started, and whether it runs
 -- the bytes of an ODT's first n entries, and of ODT k

@@ -4,7 +4,7 @@ use mathlib.Core.Bool.{Bool, true, false, cond}
 use mathlib.Core.List.{[]}
 use lib.Dec.{eqb}
 use Rattle.state.specs.Layout.{lastEntry, firstOdt, listOf}
-use Rattle.state.specs.Generator.{nextOf}
+use Rattle.state.specs.Generator.{nextOf, oneWrongMore}
 use Rattle.words.specs.declared.Resource.{Resource}
 use Rattle.words.specs.declared.Resource.the-variants.{Calibration, Lists}
 use Rattle.words.specs.declared.Extension.the-variants.{Calibration as CalibrationMemory}
@@ -23,7 +23,7 @@ abbrev pub withSession : Slave → Session → Slave
 withSession v c = record { session = c; place = v .place; message = v .message; answer = v .answer; ctr = v .ctr; served = v .served; lastAnswer = v .lastAnswer }
 
 abbrev pub withGenerator : Session → ℕ → Session
-withGenerator c x = record { generator = x; opened = c .opened; unlocked = c .unlocked; seed = c .seed; mta = c .mta; pointer = c .pointer; list = c .list }
+withGenerator c x = record { generator = x; wrongKeys = c .wrongKeys; opened = c .opened; unlocked = c .unlocked; seed = c .seed; mta = c .mta; pointer = c .pointer; list = c .list }
 
 abbrev pub unlock : Resource → (Resource → Bool) → Resource → Bool
 unlock Calibration f Calibration = true
@@ -32,19 +32,19 @@ unlock Lists f Calibration = f Calibration
 unlock Lists f Lists = true
 
 abbrev pub withLock : Session → Resource → Session
-withLock c r = record { generator = c .generator; opened = c .opened; unlocked = unlock r (c .unlocked); seed = c .seed; mta = c .mta; pointer = c .pointer; list = c .list }
+withLock c r = record { generator = c .generator; wrongKeys = c .wrongKeys; opened = c .opened; unlocked = unlock r (c .unlocked); seed = c .seed; mta = c .mta; pointer = c .pointer; list = c .list }
 
 abbrev pub withSeed : Session → Seed → Session
-withSeed c x = record { generator = c .generator; opened = c .opened; unlocked = c .unlocked; seed = x; mta = c .mta; pointer = c .pointer; list = c .list }
+withSeed c x = record { generator = c .generator; wrongKeys = c .wrongKeys; opened = c .opened; unlocked = c .unlocked; seed = x; mta = c .mta; pointer = c .pointer; list = c .list }
 
 abbrev pub withMta : Session → Mta → Session
-withMta c m = record { generator = c .generator; opened = c .opened; unlocked = c .unlocked; seed = c .seed; mta = m; pointer = c .pointer; list = c .list }
+withMta c m = record { generator = c .generator; wrongKeys = c .wrongKeys; opened = c .opened; unlocked = c .unlocked; seed = c .seed; mta = m; pointer = c .pointer; list = c .list }
 
 abbrev pub withPointer : Session → Pointer → Session
-withPointer c p = record { generator = c .generator; opened = c .opened; unlocked = c .unlocked; seed = c .seed; mta = c .mta; pointer = p; list = c .list }
+withPointer c p = record { generator = c .generator; wrongKeys = c .wrongKeys; opened = c .opened; unlocked = c .unlocked; seed = c .seed; mta = c .mta; pointer = p; list = c .list }
 
 abbrev pub withLists : Session → (ℕ → DaqList) → Session
-withLists c f = record { generator = c .generator; opened = c .opened; unlocked = c .unlocked; seed = c .seed; mta = c .mta; pointer = c .pointer; list = f }
+withLists c f = record { generator = c .generator; wrongKeys = c .wrongKeys; opened = c .opened; unlocked = c .unlocked; seed = c .seed; mta = c .mta; pointer = c .pointer; list = f }
 
 -- list l changed
 abbrev pub at : ℕ → (DaqList → DaqList) → Session → Session
@@ -103,9 +103,9 @@ nextEntry k e = cond (eqb e lastEntry) NoEntry (Points k (e + 1))
 unfoldable pub stepIn : Deed → Session → Session
 stepIn (Refuse r) c = c
 stepIn RefuseSize c = c
-stepIn WrongKey c = blank (c .generator) false
-stepIn Connect c = blank (c .generator) true
-stepIn Disconnect c = blank (c .generator) false
+stepIn WrongKey c = blank (c .generator) (oneWrongMore (c .wrongKeys)) false
+stepIn Connect c = blank (c .generator) (c .wrongKeys) true
+stepIn Disconnect c = blank (c .generator) (c .wrongKeys) false
 stepIn Status c = c
 stepIn Synch c = c
 stepIn NoSeed c = c

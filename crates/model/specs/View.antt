@@ -4,7 +4,7 @@ use mathlib.Core.List.{List}
 use lib.ListN.{getD}
 use Rattle.state.specs.Layout.{lists, odtCount, entryCount, firstOdt, runningAt, sampleAt, servedAt, lastAt}
 use Rattle.state.specs.Bytes.{block}
-use Rattle.state.specs.State.{flagOf, generatorOf, ctrOf, openOf, unlockedOf, seedOf, mtaOf, pointerOf, placeOf, messageOf, answerOf}
+use Rattle.state.specs.State.{flagOf, generatorOf, wrongKeysOf, ctrOf, openOf, unlockedOf, seedOf, mtaOf, pointerOf, placeOf, messageOf, answerOf}
 use Rattle.state.specs.Lists.{sizeOf, extensionOf, addressOf, modeOf, selectedOf, storedLength}
 use Rattle.model.specs.Answers.{Done}
 use Rattle.model.specs.Model.{upTo, Entry, noEntry, Odt, noOdt, DaqList, noList, Session, Slave}
@@ -22,7 +22,7 @@ unfoldable pub listsOf : List ℕ → ℕ → DaqList
 listsOf s = upTo lists noList (daqOf s)
 
 unfoldable pub sessionOf : List ℕ → Session
-sessionOf s = record { generator = generatorOf s; opened = openOf s; unlocked = unlockedOf s; seed = seedOf s; mta = mtaOf s; pointer = pointerOf s; list = listsOf s }
+sessionOf s = record { generator = generatorOf s; wrongKeys = wrongKeysOf s; opened = openOf s; unlocked = unlockedOf s; seed = seedOf s; mta = mtaOf s; pointer = pointerOf s; list = listsOf s }
 
 unfoldable pub viewOf : List ℕ → Slave
 viewOf s = record {

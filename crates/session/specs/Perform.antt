@@ -5,7 +5,7 @@ use mathlib.Core.List.{List}
 use lib.ListN.{set}
 use Rattle.state.specs.Layout.{lists, selectedAt, listOf}
 use Rattle.state.specs.Generator.{nextOf}
-use Rattle.state.specs.State.{generatorOf, setGenerator, lockAt, setSeed, setMta, setPointer, closed, fresh, answered}
+use Rattle.state.specs.State.{generatorOf, setGenerator, countedWrong, lockAt, setSeed, setMta, setPointer, closed, fresh, answered}
 use Rattle.lists.specs.Lists.{stopped, started, listCleared, modeSet, entryCleared, entrySet, stopEach, startSelected, stopSelected}
 use Rattle.words.specs.declared.Extension.the-variants.{Calibration}
 use Rattle.words.specs.declared.Seed.the-variants.{None, For}
@@ -22,7 +22,7 @@ use Rattle.model.specs.View.{sessionOf}
 unfoldable pub effect : Deed → List ℕ → List ℕ
 effect (Refuse r) s = s
 effect RefuseSize s = s
-effect WrongKey s = closed s
+effect WrongKey s = countedWrong (closed s)
 effect Connect s = fresh s
 effect Disconnect s = closed s
 effect Status s = s

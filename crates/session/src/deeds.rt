@@ -58,12 +58,13 @@ pub fn disconnect(s: &mut [u8])
     answer::ok(s);
 }
 
-// A wrong key ends the session.
+// A wrong key ends the session, and counts.
 pub fn wrong_key(s: &mut [u8])
     requires { ⌜ length (now s) ≡ size ⌝ }
     ensures { λ _. ⌜ now (s .exit) ≡ after Deed.WrongKey (now (s .entry)) [] [] ⌝ }
 {
     fields::close(s);
+    fields::count_wrong(s);
     answer::refusal(s, Reason::WrongKey);
 }
 

@@ -1,5 +1,5 @@
 -- Runs of ours that meet premises which no other run here meets: a good message while an answer waits; a wrong key, and DISCONNECT in its place;
--- UPLOAD behind SHORT_UPLOAD. Assumes nothing.
+-- UPLOAD behind SHORT_UPLOAD; three wrong keys, and GET_SEED and UNLOCK after them. Assumes nothing.
 use Rattle.demands.specs.Waiting.{SameOutside}
 use Prim.Native.Nat.{ℕ}
 use mathlib.Core.Path.{_≡_, refl}
@@ -15,7 +15,8 @@ use Rattle.demands.specs.Slave.{ours}
 use Rattle.demands.specs.Runs.{run}
 use Rattle.demands.specs.Heard.{packetEnded, Commands, wrongKey}
 use Rattle.demands.specs.Demand2.{Uncommanded, Brings}
-use Rattle.shown.specs.Exchange.{says, asks, askAll, begun, lastByte, reached, connect, disconnect, synch, seedOfCalibration, keyOfLists, upload, uploadFirst, pair, readingOn}
+use Rattle.demands.specs.StaysShut.{wrongIn}
+use Rattle.shown.specs.Exchange.{says, asks, askAll, begun, lastByte, device, poweredOn, reached, connect, disconnect, synch, seedOfCalibration, keyOfCalibration, keyOfLists, tries, upload, uploadFirst, pair, readingOn}
 use Rattle.shown.proofs.Computed.{computed}
 
 -- ---- CONNECT's answer waits, and SYNCH comes whole: number 6
@@ -57,3 +58,20 @@ goes-on-met = (
   (refl, (refl, (refl, (refl, (refl, tt))))),
   record { command = record { ends = refl; opened = refl; free = refl }; code = refl; answer = refl },
 )
+
+-- ---- a script tries three keys, and all three are judged wrong; then GET_SEED is answered FE 25, and UNLOCK FE 29
+pub three-wrong-met : wrongIn ours device (poweredOn (tries 3)) 0 ≡ 3
+unfolding computed
+three-wrong-met = refl
+
+abbrev shutAt : List ℕ → List ℕ
+shutAt p = reached ours (askAll [] [] (tries 3 ++ connect ∷ []) ++ begun [] [] p)
+
+abbrev Refuses : List ℕ → ℕ → Type 0
+Refuses p code =
+    (consistent (shutAt p) ≡ true) × Commands (shutAt p) (lastByte p) p × (sessionOf (shutAt p) .wrongKeys ≡ 3)
+    × (viewOf (ours .receive (shutAt p) [] [] (lastByte p) .state) .answer ≡ 0xFE ∷ code ∷ [])
+
+pub stays-shut-met : Refuses seedOfCalibration 0x25 × Refuses keyOfCalibration 0x29
+unfolding computed
+stays-shut-met = ((refl, record { ends = refl; opened = refl; free = refl }, refl, refl), (refl, record { ends = refl; opened = refl; free = refl }, refl, refl))

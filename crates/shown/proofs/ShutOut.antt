@@ -1,5 +1,5 @@
 -- Each wrong slave fails the demand that is to shut it out: one run of it is computed. Assumes nothing.
-use Prim.Native.Nat.{ℕ, _+_, _-_}
+use Prim.Native.Nat.{ℕ, _+_, _-_, _≤_}
 use mathlib.Core.Path.{_≡_, refl, ap, sym, _∙_, subst}
 use mathlib.Core.Bool.{Bool, true, false, cond}
 use mathlib.Core.Option.{Option, some}
@@ -30,8 +30,9 @@ use Rattle.demands.specs.Heard.{packetEnded}
 use Rattle.demands.specs.Demand1.{Demand1}
 use Rattle.demands.specs.Demand2.{Demand2, ReadsBack}
 use Rattle.demands.specs.Demand3.{Demand3}
-use Rattle.shown.specs.Wrong.{refusesAlways, silent, onlyConnects, alwaysFF, storesNothing, obeysDamaged, readsEscaped, allAtOnce, slotsUpTo, sumsEscaped, neverSamples, inventsCounts, inventsMissed, movesAfterRefusal, leavesMta, readsLate, opensBoth}
-use Rattle.shown.specs.Exchange.{slot, says, asks, askAll, begun, lastByte, reached, connect, synch, seedOfCalibration, keyOfCalibration, mtaTo, upload, uploadFirst, downloadOne, downloading, uploading, pair, readingOn, measuring}
+use Rattle.demands.specs.StaysShut.{StaysShut}
+use Rattle.shown.specs.Wrong.{refusesAlways, silent, onlyConnects, alwaysFF, storesNothing, obeysDamaged, readsEscaped, allAtOnce, slotsUpTo, sumsEscaped, neverSamples, inventsCounts, inventsMissed, movesAfterRefusal, leavesMta, readsLate, opensBoth, connectClears, shutsFirst}
+use Rattle.shown.specs.Exchange.{slot, says, asks, askAll, begun, lastByte, device, answering, reached, connect, synch, seedOfCalibration, keyOfCalibration, tries, mtaTo, upload, uploadFirst, downloadOne, downloading, uploading, pair, readingOn, measuring}
 use Rattle.shown.proofs.Computed.{computed}
 
 -- CONNECT is answered FE
@@ -53,7 +54,7 @@ pub onlyConnects-fails : Demand2 onlyConnects → ⊥
 unfolding computed
 onlyConnects-fails d =
     let s : List ℕ = reached onlyConnects (asks [] [] connect ++ begun [] [] seedOfCalibration) in
-    let e : _≡_ {A = ℕ} 0xFE 0xFF = ap (λ a. getD a 0 0) (d .seedOpens s [] [] (lastByte seedOfCalibration) seedOfCalibration Calibration refl (lit< tt) (record { ends = refl; opened = refl; free = refl }) refl refl .answer)
+    let e : _≡_ {A = ℕ} 0xFE 0xFF = ap (λ a. getD a 0 0) (d .seedOpens s [] [] (lastByte seedOfCalibration) seedOfCalibration Calibration refl (lit< tt) (lit< tt) (record { ends = refl; opened = refl; free = refl }) refl refl .answer)
     in omega arith
 
 -- CONNECT with a checksum one too high is answered
@@ -212,3 +213,16 @@ unfolding computed
 opensBoth-fails d =
     let e : _≡_ {A = ℕ} 1 0 = ap (λ t. cond t 1 0) (d .unlocks (reached opensBoth (askAll [] [] (connect ∷ seedOfCalibration ∷ []) ++ begun [] [] keyOfCalibration)) [] [] (lastByte keyOfCalibration) keyOfCalibration Calibration refl (record { ends = refl; opened = refl; free = refl }) refl refl refl .1)
     in omega arith
+
+-- ---- three wrong keys
+-- a fourth key is judged, and wrong
+pub connectClears-fails : StaysShut connectClears → ⊥
+unfolding computed
+connectClears-fails d = let e : 4 ≤ 3 = d .atMost device 1 (answering (tries 4)) refl in omega arith
+
+-- GET_SEED of its code alone is answered 25
+pub shutsFirst-fails : StaysShut shutsFirst → ⊥
+unfolding computed
+shutsFirst-fails d =
+    let s : List ℕ = reached shutsFirst (askAll [] [] (tries 3 ++ connect ∷ []) ++ begun [] [] (0xF8 ∷ [])) in
+    let e : _≡_ {A = ℕ} 0x25 0x21 = ap (λ a. getD a 1 0) (d .tooShort s [] [] (lastByte (0xF8 ∷ [])) (0xF8 ∷ []) refl (record { ends = refl; opened = refl; free = refl }) refl (lit< tt)) in omega arith

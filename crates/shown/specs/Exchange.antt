@@ -3,9 +3,11 @@ use Prim.Native.Nat.{ℕ, zero, suc, _-_}
 use mathlib.Core.List.{List, [], _∷_, _++_, map}
 use lib.ListN.{length, getD, take, replicate}
 use Rattle.line.specs.Message.{room, frame}
+use Rattle.state.specs.Layout.{size}
 use Rattle.session.specs.PowerUp.{powered}
 use Rattle.demands.specs.Slave.{AnySlave, ours}
 use Rattle.demands.specs.Runs.{Call, Byte, Event, SendingSlot, run}
+use Rattle.demands.specs.Life.{Device, Moment, PowerOn, Hears, Serves}
 
 -- a slot with just the room
 abbrev pub slot : Call
@@ -34,6 +36,17 @@ begun cal meas p = bytes cal meas (take (length (frame 0 p) - 1) (frame 0 p))
 abbrev pub lastByte : List ℕ → ℕ
 lastByte p = getD (frame 0 p) (length (frame 0 p) - 1) 0
 
+-- ---- the same in a life: a state of zeros and a memory of one byte, 0; the power comes on, and commands come, each with a slot for its answer
+abbrev pub device : Device
+device = record { state = replicate size 0; cal = 0 ∷ [] }
+
+abbrev pub answering : List (List ℕ) → List Moment
+answering [] = []
+answering (p ∷ ps) = map (λ b. Hears [] b) (frame 0 p) ++ Serves (replicate room 0) ∷ answering ps
+
+abbrev pub poweredOn : List (List ℕ) → List Moment
+poweredOn ps = PowerOn 1 ∷ answering ps
+
 -- the state after calls from power-up
 abbrev pub reached : AnySlave → List Call → List ℕ
 reached v cs = run v (powered 1) cs
@@ -60,6 +73,14 @@ keyOfCalibration = 0xF7 ∷ 4 ∷ 0x00 ∷ 0x7F ∷ 0xF0 ∷ 0x04 ∷ []
 
 abbrev pub keyOfLists : List ℕ
 keyOfLists = 0xF7 ∷ 4 ∷ 0x00 ∷ 0x21 ∷ 0xFA ∷ 0x04 ∷ []
+
+-- a key that is wrong to each seed in these exchanges; a script that tries it n times, each in a session of its own
+abbrev pub keyOfNone : List ℕ
+keyOfNone = 0xF7 ∷ 4 ∷ 0 ∷ 0 ∷ 0 ∷ 0 ∷ []
+
+abbrev pub tries : ℕ → List (List ℕ)
+tries zero = []
+tries (suc n) = connect ∷ seedOfCalibration ∷ keyOfNone ∷ tries n
 
 -- calibration memory, from the byte whose address has these two low bytes
 abbrev pub mtaTo : ℕ → ℕ → List ℕ

@@ -9,8 +9,9 @@ use Rattle.line.specs.Stuffing.{stuff, onWire}
 use Rattle.line.specs.Message.{sum}
 use Rattle.line.specs.Writer.{atFront}
 use Rattle.line.specs.Number.{outcomeNumber}
-use Rattle.state.specs.Layout.{calibrationAt, listsAt, firstOdt, entryCount}
-use Rattle.state.specs.State.{consistent, ctrOf, openOf, maskOf, mtaOf, setMta, waits, answered}
+use Rattle.state.specs.Layout.{wrongKeysAt, calibrationAt, listsAt, firstOdt, entryCount}
+use Rattle.state.specs.Generator.{staysShut}
+use Rattle.state.specs.State.{consistent, wrongKeysOf, ctrOf, openOf, maskOf, mtaOf, setMta, waits, answered}
 use Rattle.state.specs.Lists.{storedLength}
 use Rattle.session.specs.Receive.{Step, only, obeyed, heeded, fedOf, receiveOf}
 use Rattle.model.specs.Heed.{goodConnect}
@@ -21,7 +22,7 @@ use Rattle.lists.specs.Slot.{Slot, turnOf, slotOf}
 use Rattle.words.specs.Number.{slottedValue}
 use Rattle.session.specs.PowerUp.{powerUpOf}
 use Rattle.model.specs.declared.Deed.the-variants.{Refuse}
-use Rattle.words.specs.declared.Reason.the-variants.{Unknown}
+use Rattle.words.specs.declared.Reason.the-variants.{Unknown, Locked}
 use Rattle.words.specs.declared.Mta.{Mta}
 use Rattle.words.specs.declared.Mta.the-variants.{Unset, At}
 use Rattle.words.specs.declared.Received.the-variants.{Silent, BadChecksum}
@@ -199,3 +200,14 @@ bothOpen s o = record { received = o .received; state = cond (ltb (maskOf (o .st
 -- a key opens both locks
 abbrev pub opensBoth : AnySlave
 opensBoth = heeding (λ p s cal meas. bothOpen s (heeded p s cal meas))
+
+-- CONNECT clears the count of wrong keys
+abbrev pub uncounted : Step → Step
+uncounted o = record { received = o .received; state = set (o .state) wrongKeysAt 0; cal = o .cal }
+
+abbrev pub connectClears : AnySlave
+connectClears = heeding (λ p s cal meas. cond (goodConnect p) (uncounted (heeded p s cal meas)) (heeded p s cal meas))
+
+-- after three wrong keys GET_SEED is answered 25 before its length is looked at
+abbrev pub shutsFirst : AnySlave
+shutsFirst = heeding (λ p s cal meas. cond (eqb (getD p 0 0) 0xF8) (cond (openOf s) (cond (staysShut (wrongKeysOf s)) (obeyed (Refuse Locked) p s cal meas) (heeded p s cal meas)) (heeded p s cal meas)) (heeded p s cal meas))

@@ -1,8 +1,9 @@
--- The generator of seeds, Marsaglia's 32-bit xorshift, and the keys.
+-- The generator of seeds, Marsaglia's 32-bit xorshift; the keys; and how many of them may be wrong.
 use Prim.Native.Nat.{ℕ, _+_, _*_, _/_, _%_, _^_}
-use mathlib.Core.Bool.{cond}
+use mathlib.Core.Bool.{Bool, cond}
 use lib.Bits.{bitXor}
-use lib.Dec.{eqb}
+use lib.Dec.{eqb, leb}
+use Rattle.state.specs.Layout.{wrongMost}
 use Rattle.words.specs.declared.Resource.{Resource}
 use Rattle.words.specs.declared.Resource.the-variants.{Calibration, Lists}
 
@@ -36,3 +37,11 @@ rotatedLeft8 x = left x 8 + right x 24
 -- seed plus the resource's number, modulo 2 ^ 32, rotated left 8
 unfoldable pub keyOf : Resource → ℕ → ℕ
 keyOf r seed = rotatedLeft8 ((seed + addend r) % 2 ^ 32)
+
+-- with n wrong keys it stays shut: no seed is given any more
+abbrev pub staysShut : ℕ → Bool
+staysShut n = leb wrongMost n
+
+-- one wrong key more, at most 3
+abbrev pub oneWrongMore : ℕ → ℕ
+oneWrongMore n = cond (staysShut n) wrongMost (n + 1)

@@ -50,6 +50,10 @@ uploadMost = packetMost - 1
 abbrev pub downloadMost : ℕ
 downloadMost = packetMost - 2
 
+-- after so many wrong keys it stays shut
+abbrev pub wrongMost : ℕ
+wrongMost = 3
+
 -- the first 4,096 bytes of a memory at most can be addressed
 abbrev pub addressable : ℕ
 addressable = 4096
@@ -76,7 +80,7 @@ odtMost k = cond (isFirst k) (storedMost - clockSize) storedMost
 
 -- ---- the mark that power-up writes; it changes with every layout
 abbrev pub mark : ℕ
-mark = 0x32504358
+mark = 0x33504358
 
 abbrev pub markAt : ℕ
 markAt = 0
@@ -85,8 +89,12 @@ markAt = 0
 abbrev pub generatorAt : ℕ
 generatorAt = markAt + 4
 
+-- how many keys were wrong
+abbrev pub wrongKeysAt : ℕ
+wrongKeysAt = generatorAt + 4
+
 abbrev pub ctrAt : ℕ
-ctrAt = generatorAt + 4
+ctrAt = wrongKeysAt + 1
 
 abbrev pub servedAt : ℕ
 servedAt = ctrAt + 1

@@ -8,9 +8,9 @@ use lib.Seq.{sets}
 use Rattle.line.specs.Message.{longest}
 use Rattle.line.specs.declared.Place.{Place}
 use Rattle.line.specs.declared.Place.the-variants.{Outside, Inside, Escaped}
-use Rattle.state.specs.Layout.{allOdts, entryCount, packetMost, mark, markAt, generatorAt, ctrAt, openAt, calibrationAt, listsAt, seedAt, mtaAt, addressAt, pointerAt, pointerEntryAt, placeAt, countAt, messageAt, answerAt, answerBytesAt, sessionAt, sessionSize, size}
+use Rattle.state.specs.Layout.{allOdts, entryCount, packetMost, wrongMost, mark, markAt, generatorAt, wrongKeysAt, ctrAt, openAt, calibrationAt, listsAt, seedAt, mtaAt, addressAt, pointerAt, pointerEntryAt, placeAt, countAt, messageAt, answerAt, answerBytesAt, sessionAt, sessionSize, size}
 use Rattle.state.specs.Bytes.{u32At, put32, block, cleared}
-use Rattle.state.specs.Generator.{startOf}
+use Rattle.state.specs.Generator.{startOf, staysShut, oneWrongMore}
 use Rattle.words.specs.declared.Resource.{Resource}
 use Rattle.words.specs.declared.Resource.the-variants.{Calibration, Lists}
 use Rattle.words.specs.declared.Extension.{Extension}
@@ -38,6 +38,14 @@ generatorOf s = startOf (u32At s generatorAt)
 unfoldable pub setGenerator : List ℕ → ℕ → List ℕ
 setGenerator s x = put32 s generatorAt x
 
+-- wrong keys since power-up; above 3 reads as 3
+unfoldable pub wrongKeysOf : List ℕ → ℕ
+wrongKeysOf s = cond (staysShut (getD s wrongKeysAt 0)) wrongMost (getD s wrongKeysAt 0)
+
+-- one more is counted
+unfoldable pub countedWrong : List ℕ → List ℕ
+countedWrong s = set s wrongKeysAt (oneWrongMore (wrongKeysOf s))
+
 abbrev pub ctrOf : List ℕ → ℕ
 ctrOf s = getD s ctrAt 0
 
@@ -63,9 +71,13 @@ maskBy unlocked = cond (unlocked Calibration) 0 (bitOf Calibration) + cond (unlo
 unfoldable pub maskOf : List ℕ → ℕ
 maskOf s = maskBy (unlockedOf s)
 
--- the resource of the seed that is out
+-- the resource of the seed that is out; once it stays shut, none is
 unfoldable pub seedOf : List ℕ → Seed
-seedOf s = cond (eqb (getD s seedAt 0) (bitOf Calibration)) (For Calibration) (cond (eqb (getD s seedAt 0) (bitOf Lists)) (For Lists) None)
+seedOf s =
+    cond (staysShut (wrongKeysOf s)) None
+    (cond (eqb (getD s seedAt 0) (bitOf Calibration)) (For Calibration)
+    (cond (eqb (getD s seedAt 0) (bitOf Lists)) (For Lists)
+    None))
 
 unfoldable pub setSeed : List ℕ → Seed → List ℕ
 setSeed s None = set s seedAt 0

@@ -4,7 +4,7 @@ ghost use Prim.Native.Nat.{_≤_};
 ghost use lib.ListN.{length, set};
 ghost use Rattle.state.specs.Layout.{packetMost, size, markAt};
 ghost use Rattle.state.specs.Bytes.{u32At};
-ghost use Rattle.state.specs.State.{consistent, flagOf, generatorOf, setGenerator, lockAt, bitOf, maskOf, seedOf, setSeed, mtaTag, mtaOf, setMta, pointerOf, setPointer, closed, fresh, answerLength, answerKind};
+ghost use Rattle.state.specs.State.{consistent, flagOf, generatorOf, setGenerator, wrongKeysOf, countedWrong, lockAt, bitOf, maskOf, seedOf, setSeed, mtaTag, mtaOf, setMta, pointerOf, setPointer, closed, fresh, answerLength, answerKind};
 use crate::Generator;
 use crate::bytes::clear;
 use crate::bytes::get;
@@ -13,6 +13,8 @@ use crate::bytes::put;
 use crate::bytes::store32;
 use crate::bytes::wide;
 use crate::layout;
+use crate::seeds::one_wrong_more;
+use crate::seeds::stays_shut;
 use words::Extension;
 use words::Mta;
 use words::Pointer;
@@ -56,6 +58,24 @@ pub fn set_generator(s: &mut [u8], g: Generator)
     ensures { λ _. ⌜ now (s .exit) ≡ setGenerator (now (s .entry)) (g .x) ⌝ }
 {
     store32(s, layout::GENERATOR, g.x);
+}
+
+// Wrong keys since power-up; above 3 reads as 3.
+pub fn wrong_keys(s: &[u8]) -> u8
+    ensures { λ r. ⌜ r ≡ wrongKeysOf (now (s .entry)) ⌝ }
+{
+    let n = get(s, layout::WRONG_KEYS);
+    if stays_shut(n) {
+        return layout::WRONG_MOST;
+    }
+    n
+}
+
+pub fn count_wrong(s: &mut [u8])
+    ensures { λ _. ⌜ now (s .exit) ≡ countedWrong (now (s .entry)) ⌝ }
+{
+    let n = one_wrong_more(wrong_keys(s));
+    put(s, layout::WRONG_KEYS, n);
 }
 
 fn lock_at(resource: Resource) -> usize
@@ -108,6 +128,9 @@ pub fn mask(s: &[u8]) -> u8
 pub fn seed(s: &[u8]) -> Seed
     ensures { λ r. ⌜ r ≡ seedOf (now (s .entry)) ⌝ }
 {
+    if stays_shut(wrong_keys(s)) {
+        return Seed::None;
+    }
     let resource = get(s, layout::SEED);
     if resource == 0x01 {
         return Seed::For(Resource::Calibration);

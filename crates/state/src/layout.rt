@@ -41,6 +41,9 @@ pub const UPLOAD_MOST: u8 = PACKET_MOST - 1;
 
 pub const DOWNLOAD_MOST: u8 = PACKET_MOST - 2;
 
+// After so many wrong keys it stays shut.
+pub const WRONG_MOST: u8 = 3;
+
 // The first 4,096 bytes of a memory at most can be addressed.
 pub const ADDRESSABLE: usize = 4096;
 
@@ -50,14 +53,17 @@ pub const CHECKSUM_MOST: u32 = ADDRESSABLE as u32;
 pub const ROOM: usize = line::ROOM;
 
 // The mark that power-up writes; it changes with every layout.
-pub const MARK: u32 = 0x3250_4358;
+pub const MARK: u32 = 0x3350_4358;
 
 pub const MARK_AT: usize = 0;
 
 // What runs on across sessions.
 pub const GENERATOR: usize = MARK_AT + 4;
 
-pub const CTR: usize = GENERATOR + 4;
+// How many keys were wrong.
+pub const WRONG_KEYS: usize = GENERATOR + 4;
+
+pub const CTR: usize = WRONG_KEYS + 1;
 
 pub const SERVED: usize = CTR + 1;
 

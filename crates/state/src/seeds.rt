@@ -1,7 +1,8 @@
-// The generator of seeds, and the keys: a guard against mistakes, not thieves.
+// The generator of seeds, the keys, and how many of them may be wrong: a guard against mistakes, not thieves.
 ghost use mathlib.Core.Path.{_≡_};
-ghost use Rattle.state.specs.Generator.{nextOf, startOf, keyOf, addend};
+ghost use Rattle.state.specs.Generator.{nextOf, startOf, keyOf, addend, staysShut, oneWrongMore};
 use crate::Generator;
+use crate::layout;
 use words::Resource;
 
 impl Generator {
@@ -43,4 +44,21 @@ pub fn key_for(resource: Resource, seed: u32) -> u32
 {
     let x = std::num::wrapping_add_u32(seed, addend_for(resource));
     std::num::wrapping_add_u32(x << 8, x >> 24)
+}
+
+// Whether with n wrong keys no seed is given any more.
+pub fn stays_shut(n: u8) -> bool
+    ensures { λ r. ⌜ r ≡ staysShut n ⌝ }
+{
+    layout::WRONG_MOST <= n
+}
+
+pub fn one_wrong_more(n: u8) -> u8
+    ensures { λ r. ⌜ r ≡ oneWrongMore n ⌝ }
+{
+    if stays_shut(n) {
+        layout::WRONG_MOST
+    } else {
+        n + 1
+    }
 }

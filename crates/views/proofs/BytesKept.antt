@@ -21,7 +21,7 @@ use Rattle.state.specs.Layout.{size, lists, lastList, events, allOdts, odtCount
 use Rattle.state.specs.Bytes.{put32, bytes32, block}
 use Rattle.state.specs.Generator.{nextOf, startOf}
 use Rattle.state.specs.Memory.{pick, reach, byteOf, bytesOf, blockSum}
-use Rattle.state.specs.State.{consistent, generatorOf, setGenerator, ctrOf, lockAt, bitOf, maskBy, answerLength, answerKind, answerOf, waits}
+use Rattle.state.specs.State.{consistent, generatorOf, setGenerator, wrongKeysOf, closed, ctrOf, lockAt, bitOf, maskBy, answerLength, answerKind, answerOf, waits}
 use Rattle.state.specs.Lists.{storedLength}
 use Rattle.words.specs.Command.{codeOf}
 use Rattle.words.specs.declared.Resource.{Resource}
@@ -62,40 +62,40 @@ use Rattle.fields.proofs.Effects.{answering}
 use Rattle.views.proofs.Bytes.{bytes-cons, bytes-four, bytes-set, bytes-block, fed-bytes}
 use Rattle.views.proofs.Effect.{next-pointed}
 use Rattle.views.proofs.Fit.{Fit, generator-fits, judged-fits}
-use Rattle.views.proofs.BytesStored.{no-bytes, literal, one-byte, bytes-append, bytes-zeros, bytes-sets, bytes-modulo, bytes-put32, bytes-seed, bytes-generator, bytes-mta, bytes-pointer, bytes-closed, bytes-fresh, bytes-readOn, bytes-answered, bytes-switched, bytes-listCleared, bytes-modeSet, bytes-entryCleared, bytes-entrySet, bytes-selected, bytes-stopEach, bytes-startSelected, bytes-stopSelected}
+use Rattle.views.proofs.BytesStored.{no-bytes, literal, one-byte, bytes-append, bytes-zeros, bytes-sets, bytes-modulo, bytes-put32, bytes-seed, bytes-generator, bytes-mta, bytes-pointer, bytes-counted, bytes-closed, bytes-fresh, bytes-readOn, bytes-answered, bytes-switched, bytes-listCleared, bytes-modeSet, bytes-entryCleared, bytes-entrySet, bytes-selected, bytes-stopEach, bytes-startSelected, bytes-stopSelected}
 
 -- ---- a deed
-bytes-effect : (d : Deed) (s : List ℕ) (n nc nm g : ℕ) → Doable d n nc nm → Fit d g → Bytes s → Bytes (effect d s)
+bytes-effect : (d : Deed) (s : List ℕ) (n nc nm g i : ℕ) → Doable d n nc nm → Fit d g i → Bytes s → Bytes (effect d s)
 unfolding effect
-bytes-effect (Refuse r) s n nc nm g h f w = w
-bytes-effect RefuseSize s n nc nm g h f w = w
-bytes-effect WrongKey s n nc nm g h f w = bytes-closed s w
-bytes-effect Connect s n nc nm g h f w = bytes-fresh s w
-bytes-effect Disconnect s n nc nm g h f w = bytes-closed s w
-bytes-effect Status s n nc nm g h f w = w
-bytes-effect Synch s n nc nm g h f w = w
-bytes-effect NoSeed s n nc nm g h f w = w
-bytes-effect (GiveSeed r) s n nc nm g h f w = bytes-seed (setGenerator s (nextOf (generatorOf s))) (For r) (bytes-generator s (nextOf (generatorOf s)) w)
-bytes-effect (Unlock r) s n nc nm g h f w = bytes-seed (set s (lockAt r) 1) None (bytes-set s (lockAt r) 1 w (lit< tt))
-bytes-effect (SetMta e a) s n nc nm g h f w = bytes-mta s (At e a) w
-bytes-effect (Upload e a m) s n nc nm g h f w = bytes-mta s _ w
-bytes-effect (Checksum e a m) s n nc nm g h f w = bytes-mta s (At e (a + m)) w
-bytes-effect (Download a m) s n nc nm g h f w = bytes-mta s (At CalibrationMemory (a + m)) w
-bytes-effect (ClearList l) s n nc nm g h f w = bytes-listCleared s l w
-bytes-effect (SetPointer k e) s n nc nm g h f w = bytes-pointer s (Points k e) h w
-bytes-effect (ClearEntry k e) s n nc nm g h f w = bytes-pointer (entryCleared s (listOf k) k e) (nextEntry k e) (next-pointed k e (h .0) (h .1)) (bytes-entryCleared s (listOf k) k e w)
-bytes-effect (WriteEntry k e m x a) s n nc nm g h f w =
+bytes-effect (Refuse r) s n nc nm g i h f w = w
+bytes-effect RefuseSize s n nc nm g i h f w = w
+bytes-effect WrongKey s n nc nm g i h f w = bytes-counted (closed s) (bytes-closed s w)
+bytes-effect Connect s n nc nm g i h f w = bytes-fresh s w
+bytes-effect Disconnect s n nc nm g i h f w = bytes-closed s w
+bytes-effect Status s n nc nm g i h f w = w
+bytes-effect Synch s n nc nm g i h f w = w
+bytes-effect NoSeed s n nc nm g i h f w = w
+bytes-effect (GiveSeed r) s n nc nm g i h f w = bytes-seed (setGenerator s (nextOf (generatorOf s))) (For r) (bytes-generator s (nextOf (generatorOf s)) w)
+bytes-effect (Unlock r) s n nc nm g i h f w = bytes-seed (set s (lockAt r) 1) None (bytes-set s (lockAt r) 1 w (lit< tt))
+bytes-effect (SetMta e a) s n nc nm g i h f w = bytes-mta s (At e a) w
+bytes-effect (Upload e a m) s n nc nm g i h f w = bytes-mta s _ w
+bytes-effect (Checksum e a m) s n nc nm g i h f w = bytes-mta s (At e (a + m)) w
+bytes-effect (Download a m) s n nc nm g i h f w = bytes-mta s (At CalibrationMemory (a + m)) w
+bytes-effect (ClearList l) s n nc nm g i h f w = bytes-listCleared s l w
+bytes-effect (SetPointer k e) s n nc nm g i h f w = bytes-pointer s (Points k e) h w
+bytes-effect (ClearEntry k e) s n nc nm g i h f w = bytes-pointer (entryCleared s (listOf k) k e) (nextEntry k e) (next-pointed k e (h .0) (h .1)) (bytes-entryCleared s (listOf k) k e w)
+bytes-effect (WriteEntry k e m x a) s n nc nm g i h f w =
     bytes-pointer (entrySet s (listOf k) k e m x a) (nextEntry k e) (next-pointed k e (h .0) (h .1)) (bytes-entrySet s (listOf k) k e m x a (f .0) w)
-bytes-effect (SetMode l event) s n nc nm g h f w = bytes-modeSet s l event w
-bytes-effect (Stop l) s n nc nm g h f w = bytes-switched s l 0 (lit< tt) w
-bytes-effect (Start l) s n nc nm g h f w = bytes-switched s l 1 (lit< tt) w
-bytes-effect (KeepRunning l) s n nc nm g h f w = w
-bytes-effect (Select l) s n nc nm g h f w = bytes-selected s l 1 (lit< tt) w
-bytes-effect StopAll s n nc nm g h f w = bytes-stopEach s lists w
-bytes-effect StartSelected s n nc nm g h f w = bytes-startSelected s lists w
-bytes-effect StopSelected s n nc nm g h f w = bytes-stopSelected s lists w
-bytes-effect ProcessorInfo s n nc nm g h f w = w
-bytes-effect ResolutionInfo s n nc nm g h f w = w
+bytes-effect (SetMode l event) s n nc nm g i h f w = bytes-modeSet s l event w
+bytes-effect (Stop l) s n nc nm g i h f w = bytes-switched s l 0 (lit< tt) w
+bytes-effect (Start l) s n nc nm g i h f w = bytes-switched s l 1 (lit< tt) w
+bytes-effect (KeepRunning l) s n nc nm g i h f w = w
+bytes-effect (Select l) s n nc nm g i h f w = bytes-selected s l 1 (lit< tt) w
+bytes-effect StopAll s n nc nm g i h f w = bytes-stopEach s lists w
+bytes-effect StartSelected s n nc nm g i h f w = bytes-startSelected s lists w
+bytes-effect StopSelected s n nc nm g i h f w = bytes-stopSelected s lists w
+bytes-effect ProcessorInfo s n nc nm g i h f w = w
+bytes-effect ResolutionInfo s n nc nm g i h f w = w
 
 -- its answer
 code-low : (r : Reason) → codeOf r < 256
@@ -193,9 +193,9 @@ abbrev Low : Step → Type 0
 Low o = Bytes (o .state) × Bytes (o .cal)
 
 module _ (cal meas : List ℕ) (wc : Bytes cal) (wm : Bytes meas) where
-  bytes-obeyed : (d : Deed) (p s : List ℕ) (n g : ℕ) → Doable d n (length cal) (length meas) → Fit d g → Bytes p → Bytes s → Low (obeyed d p s cal meas)
-  bytes-obeyed d p s n g h f v w = (
-    bytes-answered (effect d s) (reply d s cal meas) (bytes-effect d s n (length cal) (length meas) g h f w) (bytes-reply cal meas wc wm d (sessionOf s) n (length cal) (length meas) h) (answering d s cal meas n h .few),
+  bytes-obeyed : (d : Deed) (p s : List ℕ) (n g i : ℕ) → Doable d n (length cal) (length meas) → Fit d g i → Bytes p → Bytes s → Low (obeyed d p s cal meas)
+  bytes-obeyed d p s n g i h f v w = (
+    bytes-answered (effect d s) (reply d s cal meas) (bytes-effect d s n (length cal) (length meas) g i h f w) (bytes-reply cal meas wc wm d (sessionOf s) n (length cal) (length meas) h) (answering d s cal meas n h .few),
     bytes-written (writes d) p cal v wc,
   )
 
@@ -205,8 +205,8 @@ module _ (cal meas : List ℕ) (wc : Bytes cal) (wm : Bytes meas) where
       let P : Heeding → Type 0 = λ (x : Heeding). Low (heededBy x p s cal meas) in
       cond-ind P (waits s) (λ _. (w, wc))
       (λ _. cond-ind P (sessionOf s .opened)
-      (λ _. bytes-obeyed (judgeOf p s (length cal) (length meas)) p s (length p) (generatorOf s) (judged-doable p s (length cal) (length meas)) (judged-fits p s (length cal) (length meas) v (generator-fits s w)) v w)
-      (λ _. cond-ind P (goodConnect p) (λ _. bytes-obeyed Connect p s (length p) (generatorOf s) tt tt v w) (λ _. (w, wc))))
+      (λ _. bytes-obeyed (judgeOf p s (length cal) (length meas)) p s (length p) (generatorOf s) (wrongKeysOf s) (judged-doable p s (length cal) (length meas)) (judged-fits p s (length cal) (length meas) v (generator-fits s w)) v w)
+      (λ _. cond-ind P (goodConnect p) (λ _. bytes-obeyed Connect p s (length p) (generatorOf s) (wrongKeysOf s) tt tt v w) (λ _. (w, wc))))
 
   bytes-meant : (o : Outcome) (m s : List ℕ) → Bytes m → Bytes s → Low (meant o m s cal meas)
   unfolding meant

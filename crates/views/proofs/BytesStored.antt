@@ -15,9 +15,10 @@ use Rattle.line.specs.declared.Place.{Place}
 use Rattle.line.specs.declared.Place.the-variants.{Outside, Inside, Escaped}
 use Rattle.line.specs.declared.Outcome.the-variants as line
 use Rattle.line.proofs.Laws.{cond-ind}
-use Rattle.state.specs.Layout.{odtCount, firstOdt, entryCount, entriesAt, listSize, entrySize, entryMost, packetMost, generatorAt, placeAt, countAt, messageAt, answerAt, sessionAt, sessionSize, openAt, seedAt, mtaAt, addressAt, pointerAt, pointerEntryAt, modeAt, selectedAt, runningAt, entryAt, sampleAt}
+use Rattle.state.specs.Layout.{odtCount, firstOdt, entryCount, entriesAt, listSize, entrySize, entryMost, packetMost, wrongMost, generatorAt, wrongKeysAt, placeAt, countAt, messageAt, answerAt, sessionAt, sessionSize, openAt, seedAt, mtaAt, addressAt, pointerAt, pointerEntryAt, modeAt, selectedAt, runningAt, entryAt, sampleAt}
 use Rattle.state.specs.Bytes.{put16, put32, cleared}
-use Rattle.state.specs.State.{setGenerator, bitOf, setSeed, mtaTag, setMta, setPointer, Pointed, closed, fresh, setPlace, setMessage, answered}
+use Rattle.state.specs.Generator.{oneWrongMore}
+use Rattle.state.specs.State.{setGenerator, wrongKeysOf, countedWrong, bitOf, setSeed, mtaTag, setMta, setPointer, Pointed, closed, fresh, setPlace, setMessage, answered}
 use Rattle.state.specs.Lists.{selectedOf}
 use Rattle.words.specs.declared.Resource.{Resource}
 use Rattle.words.specs.declared.Resource.the-variants.{Calibration, Lists}
@@ -33,6 +34,7 @@ use Rattle.words.specs.declared.Reason.the-variants as reason
 use Rattle.model.specs.Model.{Bytes}
 use Rattle.lists.specs.Lists.{runsOf, tagOf, dropped, switched, stopped, listCleared, modeSet, entryCleared, entrySet, stopEach, startOne, startSelected, stopOne, stopSelected}
 use Rattle.session.specs.Receive.{readOn}
+use Rattle.fields.proofs.Fields.{more-few}
 use Rattle.views.proofs.Bytes.{bytes-cons, bytes-set, bytes-take, bytes-drop}
 
 -- ---- bytes written out, put together, and stored
@@ -114,6 +116,10 @@ pub bytes-pointer : (s : List ℕ) (p : Pointer) → Pointed p → Bytes s → B
 unfolding setPointer
 bytes-pointer s NoEntry h w = bytes-set s pointerAt 0 w (lit< tt)
 bytes-pointer s (Points k e) h w = let few : e < entryCount k = h .1 in bytes-set (set s pointerAt ((k + 1) % 256)) pointerEntryAt e (bytes-modulo s pointerAt (k + 1) w) (omega arith)
+
+pub bytes-counted : (s : List ℕ) → Bytes s → Bytes (countedWrong s)
+unfolding countedWrong
+bytes-counted s w = bytes-set s wrongKeysAt _ w (let few : oneWrongMore (wrongKeysOf s) ≤ wrongMost = more-few (wrongKeysOf s) in omega arith)
 
 pub bytes-closed : (s : List ℕ) → Bytes s → Bytes (closed s)
 unfolding closed

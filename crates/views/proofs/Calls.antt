@@ -8,17 +8,17 @@ use native.Mathlib.Nat.{add-zero}
 use native.Mathlib.Numerals.{add-one}
 use native.Mathlib.Omega.{arith}
 use borrow.Author.Tests.{lt-ltb, le-ltb, eqb-true, eqb-false}
-use lib.Dec.{eqb, lit<, lit≤}
+use lib.Dec.{T, eqb, lit<, lit≤}
 use lib.ListN.{take, drop, length, getD, set, replicate, length-set, length-replicate, getD-replicate}
 use lib.Seq.{length-take-le, take-at, drop-at, getD-set-same, getD-set-other}
 use Rattle.line.specs.Message.{longest}
 use Rattle.line.specs.Unstuffing.{Fed}
 use Rattle.line.specs.declared.Place.the-variants.{Outside}
 use Rattle.line.proofs.Laws.{cond-ind}
-use Rattle.state.specs.Layout.{size, lists, firstOdt, odtCount, allOdts, entryCount, listOf, isFirst, storedMost, clockSize, lastList, mark, markAt, generatorAt, ctrAt, servedAt, lastAt, placeAt, messageAt, answerAt, answerBytesAt, sessionAt, openAt, modeAt, selectedAt, runningAt, sampleAt}
+use Rattle.state.specs.Layout.{size, lists, firstOdt, odtCount, allOdts, entryCount, listOf, isFirst, storedMost, clockSize, lastList, mark, markAt, generatorAt, wrongKeysAt, ctrAt, servedAt, lastAt, placeAt, messageAt, answerAt, answerBytesAt, sessionAt, openAt, modeAt, selectedAt, runningAt, sampleAt}
 use Rattle.state.specs.Bytes.{put32, block}
 use Rattle.state.specs.Generator.{startOf}
-use Rattle.state.specs.State.{flagOf, generatorOf, setGenerator, placeOf, messageOf, setMessage, answerLength, answerKind, answerOf, answered}
+use Rattle.state.specs.State.{flagOf, generatorOf, setGenerator, wrongKeysOf, placeOf, messageOf, setMessage, answerLength, answerKind, answerOf, answered}
 use Rattle.state.specs.Lists.{leastOf, storedLength}
 use Rattle.lists.specs.Event.{contentsOf, stored, capturedOdts, captured}
 use Rattle.lists.specs.Slot.{ctrNext, answerSent, packetSent}
@@ -28,9 +28,9 @@ use Rattle.session.specs.Receive.{readOn}
 use Rattle.session.specs.PowerUp.{powered}
 use Rattle.state.proofs.Xorshift.{start-some, start-same}
 use Rattle.fields.proofs.Fields.{Counted, place-same, generator-same, Answering, answer-same, Bare}
-use Rattle.fields.proofs.Stores.{block-sets, sets-in}
+use Rattle.fields.proofs.Stores.{out, block-sets, sets-in}
 use Rattle.fields.proofs.Frames.{Only, out-above, only-none, only-then, only-wider, only-set, only-sets, only-put32, only-generator, only-readOn, only-message, only-place, only-answered}
-use Rattle.fields.proofs.Readers.{Same, apart, same-part, flag-reads, generator-reads, open-reads, seed-reads, mta-reads, pointer-reads, place-reads, message-reads, answer-reads, entries-own, store-own}
+use Rattle.fields.proofs.Readers.{Same, apart, same-part, flag-reads, generator-reads, wrongKeys-reads, open-reads, seed-reads, mta-reads, pointer-reads, place-reads, message-reads, answer-reads, entries-own, store-own}
 use Rattle.fields.proofs.Served.{answerSent-front, answerSent-session, answerSent-reader}
 use Rattle.model.specs.Model.{noOdt, blank, eachFits}
 use Rattle.model.specs.Step.{withSession, withLists, at, emptied, odtIn}
@@ -43,10 +43,11 @@ use Rattle.views.proofs.Shows.{flag-zero, Changes, changes, as-odt, sto
 pub session-reads : {s t : List ℕ} → Same generatorAt ctrAt s t → Same sessionAt size s t → sessionOf t ≡ sessionOf s
 unfolding sessionOf
 session-reads w v = λ i. record {
-  generator = generator-reads w i;
+  generator = generator-reads (same-part (lit≤ tt) (lit≤ tt) w) i;
+  wrongKeys = wrongKeys-reads (same-part (lit≤ tt) (lit≤ tt) w) i;
   opened = open-reads (same-part (lit≤ tt) (lit≤ tt) v) i;
   unlocked = locks-reads (same-part (lit≤ tt) (lit≤ tt) v) i;
-  seed = seed-reads (same-part (lit≤ tt) (lit≤ tt) v) i;
+  seed = seed-reads (same-part (lit≤ tt) (lit≤ tt) w) (same-part (lit≤ tt) (lit≤ tt) v) i;
   mta = mta-reads (same-part (lit≤ tt) (lit≤ tt) v) i;
   pointer = pointer-reads (same-part (lit≤ tt) (lit≤ tt) v) i;
   list = lists-reads (same-part (lit≤ tt) (lit≤ tt) v) i;
@@ -274,7 +275,7 @@ start-fits : (x : ℕ) → x < 2 ^ 32 → startOf x < 2 ^ 32
 unfolding startOf
 start-fits x h = cond-ind (λ (n : ℕ). n < 2 ^ 32) (eqb x 0) (λ _. omega arith) (λ _. h)
 
-module _ (start : ℕ) (low : start < 2 ^ 32) where
+module _ (start : ℕ) where
   abbrev zeros : List ℕ
   zeros = replicate size 0
 
@@ -299,36 +300,35 @@ module _ (start : ℕ) (low : start < 2 ^ 32) where
   powered-bare : Bare (powered start)
   powered-bare j p q = powered-zero j (omega arith) q
 
-  powered-generator : generatorOf (powered start) ≡ startOf start
+  powered-generator : start < 2 ^ 32 → generatorOf (powered start) ≡ startOf start
   unfolding powered
-  powered-generator =
+  powered-generator low =
       generator-reads (apart {lo = servedAt} {hi = lastAt} tt (only-set seeded servedAt lastList (lit≤ tt) (lit< tt)))
       ∙ generator-same marked (startOf start) long-marked (start-fits start low) ∙ start-same (startOf start) (start-some start)
 
-  powered-ctr : getD (powered start) ctrAt 0 ≡ 0
+  -- what is neither the mark, the generator nor the list served last
+  powered-nought : (j : ℕ) → T (out markAt generatorAt j) → T (out generatorAt wrongKeysAt j) → j ≢ servedAt → j < size → getD (powered start) j 0 ≡ 0
   unfolding powered
-  powered-ctr =
-      getD-set-other seeded servedAt ctrAt lastList 0 (omega arith) ∙ only-generator marked (startOf start) .bytes ctrAt tt
-      ∙ only-put32 {lo = markAt} {hi = generatorAt} zeros markAt mark (lit≤ tt) (lit≤ tt) .bytes ctrAt tt ∙ getD-replicate size ctrAt 0 0 (lit< tt)
+  powered-nought j p q n l =
+      getD-set-other seeded servedAt j lastList 0 n ∙ only-generator marked (startOf start) .bytes j q
+      ∙ only-put32 {lo = markAt} {hi = generatorAt} zeros markAt mark (lit≤ tt) (lit≤ tt) .bytes j p ∙ getD-replicate size j 0 0 l
 
-  powered-last : getD (powered start) lastAt 0 ≡ 0
-  unfolding powered
-  powered-last =
-      getD-set-other seeded servedAt lastAt lastList 0 (omega arith) ∙ only-generator marked (startOf start) .bytes lastAt tt
-      ∙ only-put32 {lo = markAt} {hi = generatorAt} zeros markAt mark (lit≤ tt) (lit≤ tt) .bytes lastAt tt ∙ getD-replicate size lastAt 0 0 (lit< tt)
+  pub powered-wrongKeys : wrongKeysOf (powered start) ≡ 0
+  unfolding wrongKeysOf
+  powered-wrongKeys = rw (powered-nought wrongKeysAt tt tt (λ e. omega arith) (lit< tt))
 
   powered-served : getD (powered start) servedAt 0 ≡ lastList
   unfolding powered
   powered-served = getD-set-same seeded servedAt lastList 0 (let e : length seeded ≡ size = only-generator marked (startOf start) .long ∙ long-marked in omega arith)
 
-  pub view-powered : viewOf (powered start) ≡ poweredUp start
+  pub view-powered : start < 2 ^ 32 → viewOf (powered start) ≡ poweredUp start
   unfolding viewOf
-  view-powered = λ i. record {
-    session = (bare-session (powered start) powered-bare ∙ ap₂ blank powered-generator (flag-zero (powered start) openAt (powered-zero openAt (lit≤ tt) (lit< tt)))) i;
+  view-powered low = λ i. record {
+    session = (bare-session (powered start) powered-bare ∙ λ k. blank (powered-generator low k) (powered-wrongKeys k) (flag-zero (powered start) openAt (powered-zero openAt (lit≤ tt) (lit< tt)) k)) i;
     place = place-outside (powered start) (powered-zero placeAt (lit≤ tt) (lit< tt)) i;
     message = (message-reads (apart tt powered-only) ∙ empty-message) i;
     answer = no-answer (powered start) (powered-zero answerAt (lit≤ tt) (lit< tt)) i;
-    ctr = powered-ctr i;
+    ctr = powered-nought ctrAt tt tt (λ e. omega arith) (lit< tt) i;
     served = powered-served i;
-    lastAnswer = flag-zero (powered start) lastAt powered-last i;
+    lastAnswer = flag-zero (powered start) lastAt (powered-nought lastAt tt tt (λ e. omega arith) (lit< tt)) i;
   }

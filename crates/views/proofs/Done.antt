@@ -4,7 +4,7 @@ use mathlib.Core.Path.{_≡_, ap, _∙_}
 use mathlib.Core.List.{List}
 use lib.ListN.{length}
 use Rattle.state.specs.Layout.{size}
-use Rattle.state.specs.State.{generatorOf}
+use Rattle.state.specs.State.{generatorOf, wrongKeysOf}
 use Rattle.judge.specs.Doable.{Doable}
 use Rattle.model.specs.declared.Deed.{Deed}
 use Rattle.session.specs.Perform.{effect, reply, after}
@@ -18,7 +18,7 @@ use Rattle.views.proofs.Fit.{Fit}
 use Rattle.views.proofs.Effect.{view-effect}
 use Rattle.views.proofs.Calls.{view-answered}
 
-module _ (d : Deed) (s cal meas : List ℕ) (n : ℕ) (h : length s ≡ size) (can : Doable d n (length cal) (length meas)) (fit : Fit d (generatorOf s)) where
+module _ (d : Deed) (s cal meas : List ℕ) (n : ℕ) (h : length s ≡ size) (can : Doable d n (length cal) (length meas)) (fit : Fit d (generatorOf s) (wrongKeysOf s)) where
   pub view-after : viewOf (after d s cal meas) ≡ withAnswer (step d (viewOf s)) (replyIn d (sessionOf s) cal meas)
   view-after =
       view-answered (effect d s) (reply d s cal meas) (effected d s n (length cal) (length meas) can .range .long ∙ h) (answering d s cal meas n can)

@@ -12,7 +12,7 @@ use Rattle.line.proofs.Laws.{cond-ind}
 use Rattle.state.specs.Layout.{size, lists, allOdts, entryCount, listOf, lastEntry, modeAt, selectedAt, sampleAt}
 use Rattle.state.specs.Generator.{nextOf}
 use Rattle.state.specs.Memory.{pick, insideOf}
-use Rattle.state.specs.State.{openOf, generatorOf, setGenerator, lockAt, setPointer, Pointed}
+use Rattle.state.specs.State.{openOf, wrongKeysOf, generatorOf, setGenerator, lockAt, setPointer, Pointed}
 use Rattle.lists.specs.Lists.{runsOf, switched, stopEach, startOne, startSelected, stopOne, stopSelected}
 use Rattle.state.specs.Lists.{selectedOf}
 use Rattle.judge.specs.Doable.{Doable}
@@ -23,7 +23,8 @@ use Rattle.model.specs.declared.Deed.{Deed}
 use Rattle.model.specs.declared.Deed.the-variants.{Refuse, RefuseSize, WrongKey, Connect, Disconnect, Status, Synch, NoSeed, GiveSeed, Unlock, SetMta, Upload, Checksum, Download, ClearList, SetPointer, ClearEntry, WriteEntry, SetMode, Stop, Start, KeepRunning, Select, StopAll, StartSelected, StopSelected, ProcessorInfo, ResolutionInfo}
 use Rattle.state.proofs.Inside.{inside-le}
 use Rattle.fields.proofs.Frames.{Only, only-none, only-set, only-wider, only-generator, only-lock}
-use Rattle.fields.proofs.Readers.{apart, open-reads}
+use Rattle.fields.proofs.Fields.{Given}
+use Rattle.fields.proofs.Readers.{apart, wrongKeys-reads, open-reads}
 use Rattle.fields.proofs.Effects.{effected, only-switched, only-listCleared, only-modeSet, only-entryCleared, only-entrySet, only-stopEach, only-startSelected, only-stopSelected}
 use Rattle.model.specs.Model.{put, DaqList, noList, Session, runs}
 use Rattle.model.specs.View.{daqOf, listsOf, sessionOf, viewOf}
@@ -31,7 +32,7 @@ use Rattle.views.proofs.Fit.{Fit}
 use Rattle.model.proofs.Shown.{selected-at}
 use Rattle.model.proofs.Bounded.{either, upTo-above}
 use Rattle.views.proofs.Parts.{put-here, in-session, in-lists}
-use Rattle.views.proofs.Shows.{shows-seed, shows-generator, shows-mta, shows-pointer, shows-lock, shows-closed, shows-fresh, Changes, changes-switched, changes-selected, changes-mode, changes-cleared, changes-entryCleared, changes-entrySet}
+use Rattle.views.proofs.Shows.{shows-seed, shows-generator, shows-mta, shows-pointer, shows-lock, shows-closed, shows-fresh, shows-counted, Changes, changes-switched, changes-selected, changes-mode, changes-cleared, changes-entryCleared, changes-entrySet}
 
 -- ---- one list changed
 shows-lists : {s t : List ℕ} {f : ℕ → DaqList} → Only (modeAt 0) size s t → listsOf t ≡ f → sessionOf t ≡ withLists (sessionOf s) f
@@ -162,11 +163,11 @@ then-next : {s t : List ℕ} {f : ℕ → DaqList} (k e : ℕ) → length s ≡ 
 then-next {s} {t} k e h p q w r =
     shows-pointer t (w .long ∙ h) (nextEntry k e) (next-pointed k e p q) ∙ ap (λ (c : Session). withPointer c (nextEntry k e)) (shows-lists (only-wider (lit≤ tt) (lit≤ tt) w) r)
 
-pub session-effect : (d : Deed) (s : List ℕ) (n nc nm : ℕ) → length s ≡ size → Doable d n nc nm → Fit d (generatorOf s) → sessionOf (effect d s) ≡ stepIn d (sessionOf s)
+pub session-effect : (d : Deed) (s : List ℕ) (n nc nm : ℕ) → length s ≡ size → Doable d n nc nm → Fit d (generatorOf s) (wrongKeysOf s) → sessionOf (effect d s) ≡ stepIn d (sessionOf s)
 unfolding effect stepIn sessionOf
 session-effect (Refuse r) s n nc nm h can fit = refl
 session-effect RefuseSize s n nc nm h can fit = refl
-session-effect WrongKey s n nc nm h can fit = shows-closed s h
+session-effect WrongKey s n nc nm h can fit = shows-counted s h
 session-effect Connect s n nc nm h can fit = shows-fresh s h
 session-effect Disconnect s n nc nm h can fit = shows-closed s h
 session-effect Status s n nc nm h can fit = refl
@@ -174,9 +175,10 @@ session-effect Synch s n nc nm h can fit = refl
 session-effect NoSeed s n nc nm h can fit = refl
 session-effect (GiveSeed r) s n nc nm h can fit =
     let x : ℕ = nextOf (generatorOf s) in
-    shows-seed (setGenerator s x) (only-generator s x .long ∙ h) (For r) ∙ ap (λ (c : Session). withSeed c (For r)) (shows-generator s h x (fit .0) (fit .1))
+    let few : Given (For r) (wrongKeysOf (setGenerator s x)) = rw (wrongKeys-reads (apart tt (only-generator s x))) (fit .2) in
+    shows-seed (setGenerator s x) (only-generator s x .long ∙ h) (For r) few ∙ ap (λ (c : Session). withSeed c (For r)) (shows-generator s h x (fit .0) (fit .1))
 session-effect (Unlock r) s n nc nm h can fit =
-    shows-seed (set s (lockAt r) 1) (only-lock s r 1 .long ∙ h) None ∙ ap (λ (c : Session). withSeed c None) (shows-lock s h r)
+    shows-seed (set s (lockAt r) 1) (only-lock s r 1 .long ∙ h) None tt ∙ ap (λ (c : Session). withSeed c None) (shows-lock s h r)
 session-effect (SetMta e a) s n nc nm h can fit = shows-mta s h _ fit
 session-effect (Upload e a m) s n nc nm h can fit = shows-mta s h _ (low a m (pick e nc nm) (can .1))
 session-effect (Checksum e a m) s n nc nm h can fit = shows-mta s h _ (low a m (pick e nc nm) (can .1))
@@ -199,6 +201,6 @@ session-effect StopSelected s n nc nm h can fit = shows-lists (only-stopSelected
 session-effect ProcessorInfo s n nc nm h can fit = refl
 session-effect ResolutionInfo s n nc nm h can fit = refl
 
-pub view-effect : (d : Deed) (s : List ℕ) (n nc nm : ℕ) → length s ≡ size → Doable d n nc nm → Fit d (generatorOf s) → viewOf (effect d s) ≡ step d (viewOf s)
+pub view-effect : (d : Deed) (s : List ℕ) (n nc nm : ℕ) → length s ≡ size → Doable d n nc nm → Fit d (generatorOf s) (wrongKeysOf s) → viewOf (effect d s) ≡ step d (viewOf s)
 unfolding viewOf
 view-effect d s n nc nm h can fit = in-session (effected d s n nc nm can) ∙ ap (withSession (viewOf s)) (session-effect d s n nc nm h can fit)

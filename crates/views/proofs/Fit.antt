@@ -3,7 +3,7 @@ use Prim.{tt}
 use Prim.Native.Nat.{ℕ, _+_, _*_, _^_, _≤_, _<_}
 use mathlib.Core.Path.{_≡_}
 use mathlib.Core.Logic.{_≢_}
-use mathlib.Core.Bool.{true}
+use mathlib.Core.Bool.{true, false}
 use mathlib.Core.List.{List}
 use native.Mathlib.Omega.{arith}
 use lib.Dec.{eqb}
@@ -12,9 +12,9 @@ use Rattle.model.specs.View.{sessionOf}
 use Rattle.line.proofs.Laws.{cond-ind}
 use Rattle.state.specs.Layout.{entryMost, generatorAt}
 use Rattle.state.specs.Bytes.{u16At, u32At}
-use Rattle.state.specs.Generator.{nextOf, startOf}
+use Rattle.state.specs.Generator.{nextOf, startOf, staysShut}
 use Rattle.state.specs.Memory.{pick, insideOf}
-use Rattle.state.specs.State.{generatorOf}
+use Rattle.state.specs.State.{generatorOf, wrongKeysOf}
 use Rattle.state.proofs.Inside.{inside-le}
 use Rattle.state.proofs.Xorshift.{next-fits, next-some, generator-some}
 use Rattle.words.specs.Command.{commandOf}
@@ -27,36 +27,37 @@ use Rattle.look.specs.Look.{judgeOf}
 use Rattle.model.specs.Model.{Bytes}
 use Rattle.views.proofs.Verdict.{Verdict, refused, connects, disconnects, tells, synchs, no-seed, gives, unlocks, wrong, sets, uploads, shorts, no-size, sums, downloads, clears, points, zeroes, writes, modes, stops, starts, goes-on, selects, stops-all, starts-all, stops-some, processor, resolution, found}
 
--- a seed, an address and an entry fit in the bytes that they are stored in; g is the generator
-abbrev pub Fit : Deed → ℕ → Type 0
-Fit (Refuse r) g = Unit
-Fit RefuseSize g = Unit
-Fit WrongKey g = Unit
-Fit Connect g = Unit
-Fit Disconnect g = Unit
-Fit Status g = Unit
-Fit Synch g = Unit
-Fit NoSeed g = Unit
-Fit (GiveSeed r) g = (nextOf g ≢ 0) × (nextOf g < 2 ^ 32)
-Fit (Unlock r) g = Unit
-Fit (SetMta e a) g = a < 2 ^ 32
-Fit (Upload e a n) g = Unit
-Fit (Checksum e a n) g = Unit
-Fit (Download a n) g = Unit
-Fit (ClearList l) g = Unit
-Fit (SetPointer k e) g = Unit
-Fit (ClearEntry k e) g = Unit
-Fit (WriteEntry k e n x a) g = (n ≤ entryMost) × (a < 2 ^ 16)
-Fit (SetMode l event) g = Unit
-Fit (Stop l) g = Unit
-Fit (Start l) g = Unit
-Fit (KeepRunning l) g = Unit
-Fit (Select l) g = Unit
-Fit StopAll g = Unit
-Fit StartSelected g = Unit
-Fit StopSelected g = Unit
-Fit ProcessorInfo g = Unit
-Fit ResolutionInfo g = Unit
+-- a seed, an address and an entry fit in the bytes that they are stored in, and a seed is given while fewer than three keys were wrong; g is the
+-- generator, w the count of wrong keys
+abbrev pub Fit : Deed → ℕ → ℕ → Type 0
+Fit (Refuse r) g w = Unit
+Fit RefuseSize g w = Unit
+Fit WrongKey g w = Unit
+Fit Connect g w = Unit
+Fit Disconnect g w = Unit
+Fit Status g w = Unit
+Fit Synch g w = Unit
+Fit NoSeed g w = Unit
+Fit (GiveSeed r) g w = (nextOf g ≢ 0) × (nextOf g < 2 ^ 32) × (staysShut w ≡ false)
+Fit (Unlock r) g w = Unit
+Fit (SetMta e a) g w = a < 2 ^ 32
+Fit (Upload e a n) g w = Unit
+Fit (Checksum e a n) g w = Unit
+Fit (Download a n) g w = Unit
+Fit (ClearList l) g w = Unit
+Fit (SetPointer k e) g w = Unit
+Fit (ClearEntry k e) g w = Unit
+Fit (WriteEntry k e n x a) g w = (n ≤ entryMost) × (a < 2 ^ 16)
+Fit (SetMode l event) g w = Unit
+Fit (Stop l) g w = Unit
+Fit (Start l) g w = Unit
+Fit (KeepRunning l) g w = Unit
+Fit (Select l) g w = Unit
+Fit StopAll g w = Unit
+Fit StartSelected g w = Unit
+Fit StopSelected g w = Unit
+Fit ProcessorInfo g w = Unit
+Fit ResolutionInfo g w = Unit
 
 -- ---- numbers in bytes
 four-bytes : (a b c d : ℕ) → a < 256 → b < 256 → c < 256 → d < 256 → a + 256 * b + 65536 * c + 16777216 * d < 2 ^ 32
@@ -76,14 +77,14 @@ entry-low a n len e = omega (arith, inside-le a n len e)
 -- ---- command by command
 -- ---- what is judged fits
 module _ (p : Packet) (v : Seen) (nc nm : ℕ) (low : p .d4 < 2 ^ 32) (few : v .generator < 2 ^ 32) (some : v .generator ≢ 0) where
-  by-verdict : (c : Command) (d : Deed) → Verdict p v nc nm c d → Fit d (v .generator)
+  by-verdict : (c : Command) (d : Deed) → Verdict p v nc nm c d → Fit d (v .generator) (v .wrongKeys)
   by-verdict _ _ (refused c r) = tt
   by-verdict _ _ connects = tt
   by-verdict _ _ disconnects = tt
   by-verdict _ _ tells = tt
   by-verdict _ _ synchs = tt
   by-verdict _ _ no-seed = tt
-  by-verdict _ _ (gives r) = (next-some (v .generator) few some, next-fits (v .generator) few)
+  by-verdict _ _ (gives r still) = (next-some (v .generator) few some, next-fits (v .generator) few, still)
   by-verdict _ _ (unlocks r w k) = tt
   by-verdict _ _ (wrong r w k) = tt
   by-verdict _ _ sets = low
@@ -107,9 +108,9 @@ module _ (p : Packet) (v : Seen) (nc nm : ℕ) (low : p .d4 < 2 ^ 32) (few : v .
   by-verdict _ _ processor = tt
   by-verdict _ _ resolution = tt
 
-  judge-fits : Fit (judge p v nc nm) (v .generator)
+  judge-fits : Fit (judge p v nc nm) (v .generator) (v .wrongKeys)
   judge-fits = by-verdict (commandOf (p .b0)) (judge p v nc nm) (found p v nc nm)
 
-pub judged-fits : (p s : List ℕ) (nc nm : ℕ) → Bytes p → generatorOf s < 2 ^ 32 → Fit (judgeOf p s nc nm) (generatorOf s)
+pub judged-fits : (p s : List ℕ) (nc nm : ℕ) → Bytes p → generatorOf s < 2 ^ 32 → Fit (judgeOf p s nc nm) (generatorOf s) (wrongKeysOf s)
 unfolding judgeIn sessionOf
 judged-fits p s nc nm w h = judge-fits (numbersOf p) (seenIn (u16At p 2) (sessionOf s)) nc nm (number-fits p 4 w) h (generator-some s)

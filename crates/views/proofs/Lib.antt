@@ -18,6 +18,7 @@ pub mod Sending
 pub mod Taken
 pub mod MemoryLaws
 pub mod SessionLaws
+pub mod WrongKeys
 pub mod ListLaws
 pub mod SampleLaws
 pub mod Obeys

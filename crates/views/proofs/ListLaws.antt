@@ -28,7 +28,7 @@ use Rattle.model.specs.Model.{byte, put, Entry, noEntry, Odt, DaqList, Session,
 use Rattle.model.proofs.Bounded.{either}
 use Rattle.model.proofs.Fits.{fits-same, runs-same}
 use Rattle.lists.proofs.Counting.{all-stays}
-use Rattle.views.specs.Commands.{two, four, extensionNumber, TheGenerator, Whether-open, TheLocks, TheSeed, TheMta, ThePointer, TheLists, AllBut, AllButBoth, CLEAR-DAQ-LIST, SET-DAQ-PTR, WRITE-DAQ, SET-DAQ-LIST-MODE, Switched, Unswitched, START-STOP-DAQ-LIST, START-STOP-SYNCH}
+use Rattle.views.specs.Commands.{two, four, extensionNumber, TheGenerator, TheWrongKeys, Whether-open, TheLocks, TheSeed, TheMta, ThePointer, TheLists, AllBut, AllButBoth, CLEAR-DAQ-LIST, SET-DAQ-PTR, WRITE-DAQ, SET-DAQ-LIST-MODE, Switched, Unswitched, START-STOP-DAQ-LIST, START-STOP-SYNCH}
 use Rattle.views.proofs.Shows.{as-odt}
 use Rattle.views.proofs.Parts.{put-by, put-here, put-there}
 use Rattle.views.proofs.Taken.{four-is, named-by, fe-ff, Taken, unless, provided, branch, judged, Leads}
@@ -36,6 +36,7 @@ use Rattle.views.proofs.Taken.{four-is, named-by, fe-ff, Taken, unless,
 -- ---- what is left
 but-pointer : (c : Session) (x : Pointer) → AllBut ThePointer c (withPointer c x)
 but-pointer c x TheGenerator n = refl
+but-pointer c x TheWrongKeys n = refl
 but-pointer c x Whether-open n = refl
 but-pointer c x TheLocks n = λ r. refl
 but-pointer c x TheSeed n = refl
@@ -45,6 +46,7 @@ but-pointer c x TheLists n = λ l. refl
 
 but-lists : (c : Session) (f : ℕ → DaqList) → AllBut TheLists c (withLists c f)
 but-lists c f TheGenerator n = refl
+but-lists c f TheWrongKeys n = refl
 but-lists c f Whether-open n = refl
 but-lists c f TheLocks n = λ r. refl
 but-lists c f TheSeed n = refl
@@ -54,6 +56,7 @@ but-lists c f TheLists n = absurd (n refl)
 
 but-both : (c : Session) (f : ℕ → DaqList) (x : Pointer) → AllButBoth ThePointer TheLists c (withPointer (withLists c f) x)
 but-both c f x TheGenerator n m = refl
+but-both c f x TheWrongKeys n m = refl
 but-both c f x Whether-open n m = refl
 but-both c f x TheLocks n m = λ r. refl
 but-both c f x TheSeed n m = refl

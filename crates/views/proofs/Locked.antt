@@ -9,7 +9,7 @@ use lib.ListN.{length}
 use Rattle.line.proofs.Laws.{cond-ind}
 use Rattle.line.proofs.Stuffed.{false-true}
 use Rattle.state.specs.Bytes.{u16At, u32At}
-use Rattle.state.specs.Generator.{keyOf}
+use Rattle.state.specs.Generator.{keyOf, oneWrongMore}
 use Rattle.state.specs.State.{bitOf}
 use Rattle.words.specs.Command.{commandOf}
 use Rattle.words.specs.declared.Command.{Command}
@@ -41,9 +41,9 @@ module _ (p : List ℕ) (c : Session) (cal meas : List ℕ) where
   as-was : SettingsKept c c
   as-was = record { pointer = refl; modes = λ l. refl; selected = λ l. refl; started = λ l. refl; entries = λ l o e. refl }
 
-  -- generator, locks, seed and MTA are no settings of the lists
-  other-parts : {g : ℕ} {o : Bool} {u : Resource → Bool} {s : Seed} {m : Mta}
-      → SettingsKept c (record { generator = g; opened = o; unlocked = u; seed = s; mta = m; pointer = c .pointer; list = c .list })
+  -- generator, wrong keys, locks, seed and MTA are no settings of the lists
+  other-parts : {g n : ℕ} {o : Bool} {u : Resource → Bool} {s : Seed} {m : Mta}
+      → SettingsKept c (record { generator = g; wrongKeys = n; opened = o; unlocked = u; seed = s; mta = m; pointer = c .pointer; list = c .list })
   other-parts = record { pointer = refl; modes = λ l. refl; selected = λ l. refl; started = λ l. refl; entries = λ l o e. refl }
 
   -- ---- every command but three
@@ -64,7 +64,7 @@ module _ (p : List ℕ) (c : Session) (cal meas : List ℕ) where
     by-verdict _ _ o tells = as-was
     by-verdict _ _ o synchs = as-was
     by-verdict _ _ o no-seed = as-was
-    by-verdict _ _ o (gives r) = other-parts
+    by-verdict _ _ o (gives r still) = other-parts
     by-verdict _ _ o (unlocks r w k) = other 0xF7 f7 o
     by-verdict _ _ o (wrong r w k) = other 0xF7 f7 o
     by-verdict _ _ o sets = other-parts
@@ -128,13 +128,13 @@ module _ (p : List ℕ) (c : Session) (cal meas : List ℕ) where
   connect-shields code nc nm =
       by-code 0xFF command.Connect refl code nc nm
       (cond-ind Shielded (ltb (length p) 2) (λ _. shield-kept done (ends-connect code) (Refuse TooShort) refl as-was) (λ _.
-      cond-ind Shielded (eqb (byte p 1) 0) (λ _. shield-fresh done (ends-connect code) Connect refl (blank-fresh c true)) (λ _. shield-kept done (ends-connect code) (Refuse OutOfRange) refl as-was)))
+      cond-ind Shielded (eqb (byte p 1) 0) (λ _. shield-fresh done (ends-connect code) Connect refl (blank-fresh c (c .wrongKeys) true)) (λ _. shield-kept done (ends-connect code) (Refuse OutOfRange) refl as-was)))
 
   disconnect-shields : byte p 0 ≡ 0xFE → (nc nm : ℕ) → Shielded (judgeIn p c nc nm)
   unfolding judgeBy judgeThe commandOf stepIn replyIn
   disconnect-shields code nc nm =
       by-code 0xFE command.Disconnect refl code nc nm
-      (cond-ind Shielded (ltb (length p) 1) (λ _. shield-kept done (ends-disconnect code) (Refuse TooShort) refl as-was) (λ _. shield-fresh done (ends-disconnect code) Disconnect refl (blank-fresh c false)))
+      (cond-ind Shielded (ltb (length p) 1) (λ _. shield-kept done (ends-disconnect code) (Refuse TooShort) refl as-was) (λ _. shield-fresh done (ends-disconnect code) Disconnect refl (blank-fresh c (c .wrongKeys) false)))
 
   -- no mask is 25
   mask-low : (a b : Bool) → eqb (cond a 0 (bitOf Calibration) + cond b 0 (bitOf Lists)) 0x25 ≡ false
@@ -155,7 +155,7 @@ module _ (p : List ℕ) (c : Session) (cal meas : List ℕ) where
             (λ _. cond-ind Shielded (ltb (length p) 6) (λ _. shield-kept wrong-answer (ends-unlock code) (Refuse DataMissing) refl as-was)
             (λ _. cond-ind Shielded (eqb (u32At p 2) (keyOf r (c .generator)))
             (λ _. shield-kept wrong-answer (ends-unlock code) (Unlock r) (mask-low (unlock r (c .unlocked) Calibration) (unlock r (c .unlocked) Lists)) other-parts)
-            (λ _. shield-fresh wrong-answer (ends-unlock code) WrongKey refl (blank-fresh c false))))
+            (λ _. shield-fresh wrong-answer (ends-unlock code) WrongKey refl (blank-fresh c (oneWrongMore (c .wrongKeys)) false))))
             (λ _. shield-kept wrong-answer (ends-unlock code) (Refuse OutOfRange) refl as-was)
 
   -- ---- all of them

@@ -32,7 +32,7 @@ use Rattle.fields.proofs.Stores.{sets-in, put32-same}
 use Rattle.fields.proofs.Frames.{only-sets}
 use Rattle.model.specs.Model.{byte, Session}
 use Rattle.model.specs.Step.{withMta, stepIn}
-use Rattle.views.specs.Commands.{four, extensionNumber, memoryOf, sumFrom, TheGenerator, Whether-open, TheLocks, TheSeed, TheMta, ThePointer, TheLists, AllBut, SET-MTA, Carries, UPLOAD, SHORT-UPLOAD, BUILD-CHECKSUM, DOWNLOAD}
+use Rattle.views.specs.Commands.{four, extensionNumber, memoryOf, sumFrom, TheGenerator, TheWrongKeys, Whether-open, TheLocks, TheSeed, TheMta, ThePointer, TheLists, AllBut, SET-MTA, Carries, UPLOAD, SHORT-UPLOAD, BUILD-CHECKSUM, DOWNLOAD}
 use Rattle.model.proofs.Bounded.{either}
 use Rattle.views.proofs.Parts.{aside}
 use Rattle.views.proofs.Bytes.{bytes-cons, bytes-four}
@@ -40,6 +40,7 @@ use Rattle.views.proofs.Taken.{four-is, named-by, fe-ff, Taken, unless,
 
 but-mta : (c : Session) (x : Mta) → AllBut TheMta c (withMta c x)
 but-mta c x TheGenerator n = refl
+but-mta c x TheWrongKeys n = refl
 but-mta c x Whether-open n = refl
 but-mta c x TheLocks n = λ r. refl
 but-mta c x TheSeed n = refl

@@ -6,9 +6,10 @@ use lib.ListN.{length}
 use Rattle.model.specs.Model.{byte, Session}
 use Rattle.model.specs.Judge.{judgeIn}
 use Rattle.model.specs.Answers.{Done, commandIn}
-use Rattle.views.specs.Commands.{Way, Law, SYNCH, Obeys}
+use Rattle.views.specs.Commands.{Way, Law, SYNCH, STAYS-SHUT, WRONG-KEY, Obeys}
 use Rattle.views.proofs.Taken.{Taken, Leads}
 use Rattle.views.proofs.SessionLaws.{connect, disconnect, get-status, synch, get-seed, unlock-law, processor-info, resolution-info}
+use Rattle.views.proofs.WrongKeys.{stays-shut, wrong-key}
 use Rattle.views.proofs.MemoryLaws.{set-mta, upload, short-upload, build-checksum, download}
 use Rattle.views.proofs.ListLaws.{clear-daq-list, set-daq-ptr, write-daq, set-daq-list-mode, start-stop-daq-list, start-stop-synch}
 
@@ -30,7 +31,11 @@ module _ (R : Way) (same : AsModel R) where
     getStatus = law 0xFD _ get-status;
     synch = λ p c cal meas o r e. subst (SYNCH p c cal meas) (sym (same p c cal meas o r)) (synch p c cal meas e);
     getSeed = law 0xF8 _ get-seed;
+    staysShut = λ p c cal meas o r e. subst (STAYS-SHUT p c cal meas) (sym (same p c cal meas o r)) (stays-shut p c cal meas e);
     unlock = law 0xF7 _ unlock-law;
+    wrongKey = λ p c cal meas o r e f t.
+        let said : (i : ℕ) → byte (commandIn p c cal meas .answer) i ≡ byte (o .answer) i = λ i. ap (λ (x : Done). byte (x .answer) i) (sym (same p c cal meas o r)) in
+        subst (WRONG-KEY p c cal meas) (sym (same p c cal meas o r)) (wrong-key p c cal meas e (said 0 ∙ f) (said 1 ∙ t));
     setMta = law 0xF6 _ set-mta;
     upload = law 0xF5 _ upload;
     shortUpload = law 0xF4 _ short-upload;

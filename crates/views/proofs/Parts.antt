@@ -8,13 +8,13 @@ use native.Mathlib.Omega.{arith}
 use borrow.Author.Tests.{ltb-false, eqb-true, eqb-false, eq-eqb, ne-eqb}
 use lib.Dec.{T, eqb, ltb, leb, le→leb, lit<, lit≤}
 use Rattle.line.proofs.Laws.{cond-ind}
-use Rattle.state.specs.Layout.{size, lists, firstOdt, odtCount, generatorAt, ctrAt, servedAt, lastAt, calibrationAt, seedAt, mtaAt, pointerAt, modeAt, selectedAt, runningAt, entriesAt, sampleAt}
+use Rattle.state.specs.Layout.{size, lists, firstOdt, odtCount, generatorAt, wrongKeysAt, ctrAt, servedAt, lastAt, calibrationAt, seedAt, mtaAt, pointerAt, modeAt, selectedAt, runningAt, entriesAt, sampleAt}
 use Rattle.state.specs.State.{generatorOf, unlockedOf, mtaOf, seedOf, pointerOf}
 use Rattle.state.specs.Lists.{modeOf}
 use Rattle.fields.proofs.Stores.{out}
 use Rattle.fields.proofs.Frames.{Only}
 use Rattle.fields.proofs.Effects.{Effected}
-use Rattle.fields.proofs.Readers.{Same, apart, same-part, same-then, flag-reads, generator-reads, open-reads, lock-reads, seed-reads, mta-reads, pointer-reads, place-reads, message-reads, answer-reads, entries-own, store-own}
+use Rattle.fields.proofs.Readers.{Same, apart, same-part, same-then, flag-reads, generator-reads, wrongKeys-reads, open-reads, lock-reads, seed-reads, mta-reads, pointer-reads, place-reads, message-reads, answer-reads, entries-own, store-own}
 use Rattle.model.specs.Model.{put, Odt, noOdt, DaqList, noList}
 use Rattle.model.specs.Step.{withSession, withGenerator, withSeed, withMta, withPointer, withLists}
 use Rattle.model.specs.View.{odtOf, daqOf, listsOf, sessionOf, viewOf}
@@ -122,13 +122,14 @@ module _ {s t : List ℕ} where
   }
 
   -- a change of one field's bytes leaves the rest of the session
-  pub in-generator : Only generatorAt ctrAt s t → sessionOf t ≡ withGenerator (sessionOf s) (generatorOf t)
+  pub in-generator : Only generatorAt wrongKeysAt s t → sessionOf t ≡ withGenerator (sessionOf s) (generatorOf t)
   unfolding sessionOf
   in-generator w = λ i. record {
     generator = generatorOf t;
+    wrongKeys = wrongKeys-reads (apart tt w) i;
     opened = open-reads (apart tt w) i;
     unlocked = locks-reads (apart tt w) i;
-    seed = seed-reads (apart tt w) i;
+    seed = seed-reads (apart tt w) (apart tt w) i;
     mta = mta-reads (apart tt w) i;
     pointer = pointer-reads (apart tt w) i;
     list = lists-reads (apart tt w) i;
@@ -138,6 +139,7 @@ module _ {s t : List ℕ} where
   unfolding sessionOf
   in-seed w = λ i. record {
     generator = generator-reads (apart tt w) i;
+    wrongKeys = wrongKeys-reads (apart tt w) i;
     opened = open-reads (apart tt w) i;
     unlocked = locks-reads (apart tt w) i;
     seed = seedOf t;
@@ -150,9 +152,10 @@ module _ {s t : List ℕ} where
   unfolding sessionOf
   in-mta w = λ i. record {
     generator = generator-reads (apart tt w) i;
+    wrongKeys = wrongKeys-reads (apart tt w) i;
     opened = open-reads (apart tt w) i;
     unlocked = locks-reads (apart tt w) i;
-    seed = seed-reads (apart tt w) i;
+    seed = seed-reads (apart tt w) (apart tt w) i;
     mta = mtaOf t;
     pointer = pointer-reads (apart tt w) i;
     list = lists-reads (apart tt w) i;
@@ -162,9 +165,10 @@ module _ {s t : List ℕ} where
   unfolding sessionOf
   in-pointer w = λ i. record {
     generator = generator-reads (apart tt w) i;
+    wrongKeys = wrongKeys-reads (apart tt w) i;
     opened = open-reads (apart tt w) i;
     unlocked = locks-reads (apart tt w) i;
-    seed = seed-reads (apart tt w) i;
+    seed = seed-reads (apart tt w) (apart tt w) i;
     mta = mta-reads (apart tt w) i;
     pointer = pointerOf t;
     list = lists-reads (apart tt w) i;
@@ -174,9 +178,10 @@ module _ {s t : List ℕ} where
   unfolding sessionOf
   in-lists w = λ i. record {
     generator = generator-reads (apart tt w) i;
+    wrongKeys = wrongKeys-reads (apart tt w) i;
     opened = open-reads (apart tt w) i;
     unlocked = locks-reads (apart tt w) i;
-    seed = seed-reads (apart tt w) i;
+    seed = seed-reads (apart tt w) (apart tt w) i;
     mta = mta-reads (apart tt w) i;
     pointer = pointer-reads (apart tt w) i;
     list = listsOf t;

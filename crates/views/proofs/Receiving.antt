@@ -18,7 +18,7 @@ use Rattle.line.proofs.Begun.{inside-begun, escaped-begun}
 use Rattle.line.proofs.Steps.{put-within}
 use Rattle.state.specs.Layout.{size, placeAt, messageAt, answerAt}
 use Rattle.state.specs.Bytes.{block}
-use Rattle.state.specs.State.{consistent, generatorOf, placeOf, messageOf, waits}
+use Rattle.state.specs.State.{consistent, generatorOf, wrongKeysOf, placeOf, messageOf, waits}
 use Rattle.state.proofs.Sets.{block-length}
 use Rattle.state.proofs.Consistent.{consistent-size}
 use Rattle.words.specs.declared.Received.the-variants.{Answered}
@@ -70,7 +70,7 @@ module _ (p s cal meas : List ℕ) (h : length s ≡ size) (w : Bytes p) (low : 
   -- a deed that is done can be done, and what it stores fits
   abbrev Done : Heeding → Type 0
   Done Dropped = Unit
-  Done (Obeyed d) = Doable d (length p) (length cal) (length meas) × Fit d (generatorOf s)
+  Done (Obeyed d) = Doable d (length p) (length cal) (length meas) × Fit d (generatorOf s) (wrongKeysOf s)
   Done Ignored = Unit
 
   heeding-done : (waiting : Bool) → Done (heedingIn waiting p (sessionOf s) (length cal) (length meas))

@@ -5,13 +5,13 @@ use mathlib.Core.Logic.{_≢_}
 use mathlib.Core.Bool.{Bool, true, false, cond}
 use mathlib.Core.List.{List, [], _∷_}
 use native.Mathlib.Omega.{arith}
-use borrow.Author.Tests.{eqb-true, eqb-false, le-ltb, ne-eqb}
+use borrow.Author.Tests.{leb-false, eqb-true, eqb-false, le-ltb, ne-eqb}
 use lib.Dec.{eqb, ltb, lit<}
 use lib.ListN.{length}
 use Rattle.line.proofs.Stuffed.{false-true}
 use Rattle.state.specs.Layout.{lists}
 use Rattle.state.specs.Bytes.{u32At, bytes32}
-use Rattle.state.specs.Generator.{nextOf, startOf, keyOf}
+use Rattle.state.specs.Generator.{nextOf, startOf, keyOf, staysShut}
 use Rattle.state.specs.State.{bitOf}
 use Rattle.state.proofs.Xorshift.{next-fits}
 use Rattle.words.specs.Command.{commandOf}
@@ -20,7 +20,7 @@ use Rattle.words.specs.declared.Resource.{Resource}
 use Rattle.words.specs.declared.Resource.the-variants.{Calibration, Lists}
 use Rattle.words.specs.declared.Seed.{Seed}
 use Rattle.words.specs.declared.Seed.the-variants.{None, For}
-use Rattle.words.specs.declared.Reason.the-variants.{OutOfRange, Sequence, DataMissing}
+use Rattle.words.specs.declared.Reason.the-variants.{Locked, OutOfRange, Sequence, DataMissing}
 use Rattle.model.specs.Judge.{connectDeed, seedDeed, getSeedDeed, unlockBy, judgeThe, judgeBy, judge, judgeIn}
 use Rattle.model.specs.declared.Deed.{Deed}
 use Rattle.model.specs.declared.Deed.the-variants.{Synch, GiveSeed, Unlock}
@@ -29,15 +29,15 @@ use Rattle.model.specs.Model.{byte, Session, blank, runsIn, someRuns}
 use Rattle.model.specs.Step.{unlock, withGenerator, withLock, withSeed, stepIn}
 use Rattle.model.specs.Calls.{poweredUp}
 use Rattle.views.specs.PoweredUp.{PowerUpLeaves}
-use Rattle.views.specs.Commands.{resourceNumber, maskFor, TheGenerator, Whether-open, TheLocks, TheSeed, TheMta, ThePointer, TheLists, AllButBoth, Fresh, CONNECT, DISCONNECT, GET-STATUS, SYNCH, Seeds, GET-SEED, UNLOCK, GET-DAQ-PROCESSOR-INFO, GET-DAQ-RESOLUTION-INFO}
+use Rattle.views.specs.Commands.{resourceNumber, maskFor, TheGenerator, TheWrongKeys, Whether-open, TheLocks, TheSeed, TheMta, ThePointer, TheLists, AllButBoth, Fresh, CONNECT, DISCONNECT, GET-STATUS, SYNCH, Seeds, GET-SEED, UNLOCK, GET-DAQ-PROCESSOR-INFO, GET-DAQ-RESOLUTION-INFO}
 use Rattle.model.proofs.Bounded.{either}
 use Rattle.views.proofs.Taken.{four-is, fe-ff, Taken, unless, provided, branch, judged, Leads}
 use Rattle.views.proofs.Bytes.{bytes-cons, bytes-four}
 use Rattle.views.proofs.MemoryLaws.{four-back}
 
 -- ---- FF CONNECT, FE DISCONNECT
-pub blank-fresh : (c : Session) (o : Bool) → Fresh c (blank (c .generator) o)
-blank-fresh c o = record {
+pub blank-fresh : (c : Session) (n : ℕ) (o : Bool) → Fresh c (blank (c .generator) n o)
+blank-fresh c n o = record {
   generator = refl;
   locked = λ r. refl;
   noSeed = refl;
@@ -56,9 +56,10 @@ pub powered-up : (start : ℕ) → PowerUpLeaves start (poweredUp start)
 unfolding startOf
 powered-up start = record {
   closed = refl;
-  fresh = blank-fresh (poweredUp start .session) false;
+  fresh = blank-fresh (poweredUp start .session) 0 false;
   started = λ n. rw (ne-eqb start 0 n);
   default = λ e. rw e;
+  wrongKeys = refl;
   ctr = refl;
   served = refl;
   lastAnswer = refl;
@@ -98,6 +99,7 @@ module _ (c : Session) where
 -- ---- F8 GET_SEED, F7 UNLOCK: what is left
 but-seed : (c : Session) (g : ℕ) (x : Seed) → AllButBoth TheGenerator TheSeed c (withSeed (withGenerator c g) x)
 but-seed c g x TheGenerator n m = absurd (n refl)
+but-seed c g x TheWrongKeys n m = refl
 but-seed c g x Whether-open n m = refl
 but-seed c g x TheLocks n m = λ r. refl
 but-seed c g x TheSeed n m = absurd (m refl)
@@ -107,6 +109,7 @@ but-seed c g x TheLists n m = λ l. refl
 
 but-locks : (c : Session) (r : Resource) (x : Seed) → AllButBoth TheLocks TheSeed c (withSeed (withLock c r) x)
 but-locks c r x TheGenerator n m = refl
+but-locks c r x TheWrongKeys n m = refl
 but-locks c r x Whether-open n m = refl
 but-locks c r x TheLocks n m = absurd (n refl)
 but-locks c r x TheSeed n m = absurd (m refl)
@@ -130,11 +133,11 @@ module _ (p : List ℕ) (c : Session) (cal meas : List ℕ) where
   connect code =
       let P : Deed → Type 0 = Leads CONNECT p c cal meas in
       judged p c cal meas P 0xFF command.Connect refl code
-      (provided p c cal meas P (eqb (byte p 1) 0) OutOfRange (λ _ _. record { opened = refl; fresh = blank-fresh c true; memory = refl; answer = refl }))
+      (provided p c cal meas P (eqb (byte p 1) 0) OutOfRange (λ _ _. record { opened = refl; fresh = blank-fresh c (c .wrongKeys) true; wrongKeys = refl; memory = refl; answer = refl }))
 
   pub disconnect : byte p 0 ≡ 0xFE → Taken p c cal meas (judgeIn p c (length cal) (length meas)) → Leads DISCONNECT p c cal meas (judgeIn p c (length cal) (length meas))
   unfolding judgeThe commandOf stepIn writes replyIn
-  disconnect code = judged p c cal meas (Leads DISCONNECT p c cal meas) 0xFE command.Disconnect refl code (λ _. record { closed = refl; fresh = blank-fresh c false; memory = refl; answer = refl })
+  disconnect code = judged p c cal meas (Leads DISCONNECT p c cal meas) 0xFE command.Disconnect refl code (λ _. record { closed = refl; fresh = blank-fresh c (c .wrongKeys) false; wrongKeys = refl; memory = refl; answer = refl })
 
   pub get-status : byte p 0 ≡ 0xFD → Taken p c cal meas (judgeIn p c (length cal) (length meas)) → Leads GET-STATUS p c cal meas (judgeIn p c (length cal) (length meas))
   unfolding judgeThe commandOf stepIn writes replyIn
@@ -174,20 +177,22 @@ module _ (p : List ℕ) (c : Session) (cal meas : List ℕ) where
         carries = λ h. four-back x (next-fits (c .generator) h);
       }
 
-  seed-for : (r : Resource) (u : Bool) → c .unlocked r ≡ u → byte p 2 ≡ resourceNumber r → Leads GET-SEED p c cal meas (seedDeed u r)
+  seed-for : c .wrongKeys < 3 → (r : Resource) (u : Bool) → c .unlocked r ≡ u → byte p 2 ≡ resourceNumber r → Leads GET-SEED p c cal meas (seedDeed u r)
   unfolding stepIn writes replyIn
-  seed-for r true e n = record { resource = r; named = n; already = λ _. record { session = refl; memory = refl; answer = refl }; gives = λ f. absurd (false-true (sym f ∙ e)) }
-  seed-for r false e n = record { resource = r; named = n; already = λ t. absurd (false-true (sym e ∙ t)); gives = λ _. given r }
+  seed-for few r true e n = record { few = few; resource = r; named = n; already = λ _. record { session = refl; memory = refl; answer = refl }; gives = λ f. absurd (false-true (sym f ∙ e)) }
+  seed-for few r false e n = record { few = few; resource = r; named = n; already = λ t. absurd (false-true (sym e ∙ t)); gives = λ _. given r }
 
   pub get-seed : byte p 0 ≡ 0xF8 → Taken p c cal meas (judgeIn p c (length cal) (length meas)) → Leads GET-SEED p c cal meas (judgeIn p c (length cal) (length meas))
   unfolding judgeThe commandOf getSeedDeed
   get-seed code =
       let P : Deed → Type 0 = Leads GET-SEED p c cal meas in
       judged p c cal meas P 0xF8 command.GetSeed refl code
-      (unless p c cal meas P (eqb (byte p 1) 1) Sequence (λ _.
+      (unless p c cal meas P (staysShut (c .wrongKeys)) Locked (λ still.
+      let few : c .wrongKeys < 3 = leb-false 3 (c .wrongKeys) still in
+      unless p c cal meas P (eqb (byte p 1) 1) Sequence (λ _.
       unless p c cal meas P (ltb 1 (byte p 1)) OutOfRange (λ _.
-      branch p c cal meas P (eqb (byte p 2) 0x01) (λ n _. seed-for Calibration (c .unlocked Calibration) refl (eqb-true (byte p 2) 0x01 n)) (λ _.
-      provided p c cal meas P (eqb (byte p 2) 0x04) OutOfRange (λ n _. seed-for Lists (c .unlocked Lists) refl (eqb-true (byte p 2) 0x04 n))))))
+      branch p c cal meas P (eqb (byte p 2) 0x01) (λ n _. seed-for few Calibration (c .unlocked Calibration) refl (eqb-true (byte p 2) 0x01 n)) (λ _.
+      provided p c cal meas P (eqb (byte p 2) 0x04) OutOfRange (λ n _. seed-for few Lists (c .unlocked Lists) refl (eqb-true (byte p 2) 0x04 n)))))))
 
   -- ---- F7 UNLOCK
   opened : (r : Resource) → c .seed ≡ For r → u32At p 2 ≡ keyOf r (c .generator) → Leads UNLOCK p c cal meas (Unlock r)

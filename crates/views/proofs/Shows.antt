@@ -12,9 +12,10 @@ use lib.ListN.{length, getD, set, length-set}
 use lib.Seq.{getD-set-same, getD-set-other}
 use Rattle.state.specs.Layout.{size, lists, firstOdt, odtCount, allOdts, entryCount, listOf, events, listSize, entrySize, odtSize, entryMost, modeAt, selectedAt, runningAt, entriesAt, entryAt, sampleAt}
 use Rattle.state.specs.Bytes.{u16At, cleared, put16}
-use Rattle.state.specs.State.{flagOf, generatorOf, setGenerator, openOf, unlockedOf, lockAt, setSeed, setMta, setPointer, Pointed, closed, fresh}
+use Rattle.state.specs.State.{flagOf, generatorOf, setGenerator, wrongKeysOf, countedWrong, openOf, unlockedOf, lockAt, setSeed, setMta, setPointer, Pointed, closed, fresh}
 use Rattle.state.specs.Lists.{sizeOf, extensionOf, addressOf, modeOf}
 use Rattle.lists.specs.Lists.{dropped, switched, listCleared, modeSet, tagOf, entryCleared, entrySet}
+use Rattle.state.specs.Generator.{oneWrongMore}
 use Rattle.words.specs.declared.Resource.{Resource}
 use Rattle.words.specs.declared.Resource.the-variants.{Calibration, Lists}
 use Rattle.words.specs.declared.Extension.{Extension}
@@ -24,9 +25,9 @@ use Rattle.words.specs.declared.Mta.{Mta}
 use Rattle.words.specs.declared.Pointer.{Pointer}
 use Rattle.state.proofs.Xorshift.{start-same}
 use Rattle.fields.proofs.Stores.{cleared-in, put16-same}
-use Rattle.fields.proofs.Fields.{Addressed, mta-same, pointer-same, seed-same, generator-same, lock-same, lock-other, Bare, bare-locked, bare-seed, bare-mta, bare-pointer, empty-stored, closed-open, closed-bare, fresh-open, fresh-bare}
-use Rattle.fields.proofs.Frames.{Only, only-none, only-then, only-wider, only-generator, only-set, only-put16, only-cleared, only-seed, only-mta, only-pointer, only-lock, only-closed, only-fresh}
-use Rattle.fields.proofs.Readers.{apart, flag-reads, generator-reads, open-reads, seed-reads, mta-reads, pointer-reads, entry-own, entries-own, store-own}
+use Rattle.fields.proofs.Fields.{Addressed, mta-same, pointer-same, Given, wrongKeys-counted, seed-same, generator-same, lock-same, lock-other, Bare, bare-locked, bare-seed, bare-mta, bare-pointer, empty-stored, closed-open, closed-bare, counted-bare, fresh-open, fresh-bare}
+use Rattle.fields.proofs.Frames.{Only, only-none, only-then, only-wider, only-generator, only-counted, only-set, only-put16, only-cleared, only-seed, only-mta, only-pointer, only-lock, only-closed, only-fresh}
+use Rattle.fields.proofs.Readers.{apart, flag-reads, generator-reads, wrongKeys-reads, open-reads, seed-reads, mta-reads, pointer-reads, entry-own, entries-own, store-own}
 use Rattle.model.specs.Model.{put, Entry, noEntry, noOdt, DaqList, noList, blank}
 use Rattle.model.specs.Step.{unlock, withGenerator, withLock, withSeed, withMta, withPointer, emptied, switch, select, unset, clear, setMode, withEntry, setEntry, odtIn}
 use Rattle.model.specs.View.{entryOf, odtOf, daqOf, listsOf, sessionOf}
@@ -35,8 +36,8 @@ use Rattle.views.proofs.Parts.{spared, both, odt-from, list-from, mode-
 
 -- ---- single fields
 module _ (s : List ℕ) (h : length s ≡ size) where
-  pub shows-seed : (x : Seed) → sessionOf (setSeed s x) ≡ withSeed (sessionOf s) x
-  shows-seed x = in-seed (only-seed s x) ∙ ap (withSeed (sessionOf s)) (seed-same s x h)
+  pub shows-seed : (x : Seed) → Given x (wrongKeysOf s) → sessionOf (setSeed s x) ≡ withSeed (sessionOf s) x
+  shows-seed x g = in-seed (only-seed s x) ∙ ap (withSeed (sessionOf s)) (seed-same s x h g)
 
   pub shows-generator : (x : ℕ) → x ≢ 0 → x < 2 ^ 32 → sessionOf (setGenerator s x) ≡ withGenerator (sessionOf s) x
   shows-generator x n l = in-generator (only-generator s x) ∙ ap (withGenerator (sessionOf s)) (generator-same s x h l ∙ start-same x n)
@@ -52,9 +53,10 @@ module _ (s : List ℕ) (h : length s ≡ size) where
   shows-lock r = let w = only-lock s r 1 in
       λ i. record {
         generator = generator-reads (apart tt w) i;
+        wrongKeys = wrongKeys-reads (apart tt w) i;
         opened = open-reads (apart tt w) i;
         unlocked = fun-ext (locks r) i;
-        seed = seed-reads (apart tt w) i;
+        seed = seed-reads (apart tt w) (apart tt w) i;
         mta = mta-reads (apart tt w) i;
         pointer = pointer-reads (apart tt w) i;
         list = lists-reads (apart tt w) i;
@@ -96,10 +98,11 @@ module _ (s : List ℕ) (z : Bare s) where
   unfolding listsOf
   bare-lists = upTo-is lists noList bare-list (λ l p. refl)
 
-  pub bare-session : sessionOf s ≡ blank (generatorOf s) (openOf s)
+  pub bare-session : sessionOf s ≡ blank (generatorOf s) (wrongKeysOf s) (openOf s)
   unfolding sessionOf
   bare-session = λ i. record {
     generator = generatorOf s;
+    wrongKeys = wrongKeysOf s;
     opened = openOf s;
     unlocked = fun-ext (λ r. bare-locked s r z) i;
     seed = bare-seed s z i;
@@ -108,11 +111,24 @@ module _ (s : List ℕ) (z : Bare s) where
     list = bare-lists i;
   }
 
-pub shows-closed : (s : List ℕ) → length s ≡ size → sessionOf (closed s) ≡ blank (generatorOf s) false
-shows-closed s h = bare-session (closed s) (closed-bare s h) ∙ ap₂ blank (generator-reads (apart tt (only-closed s))) (closed-open s h)
+pub shows-closed : (s : List ℕ) → length s ≡ size → sessionOf (closed s) ≡ blank (generatorOf s) (wrongKeysOf s) false
+shows-closed s h =
+    let w = only-closed s in
+    bare-session (closed s) (closed-bare s h) ∙ λ i. blank (generator-reads (apart tt w) i) (wrongKeys-reads (apart tt w) i) (closed-open s h i)
 
-pub shows-fresh : (s : List ℕ) → length s ≡ size → sessionOf (fresh s) ≡ blank (generatorOf s) true
-shows-fresh s h = bare-session (fresh s) (fresh-bare s h) ∙ ap₂ blank (generator-reads (apart tt (only-fresh s))) (fresh-open s h)
+pub shows-fresh : (s : List ℕ) → length s ≡ size → sessionOf (fresh s) ≡ blank (generatorOf s) (wrongKeysOf s) true
+shows-fresh s h =
+    let w = only-fresh s in
+    bare-session (fresh s) (fresh-bare s h) ∙ λ i. blank (generator-reads (apart tt w) i) (wrongKeys-reads (apart tt w) i) (fresh-open s h i)
+
+-- a wrong key
+pub shows-counted : (s : List ℕ) → length s ≡ size → sessionOf (countedWrong (closed s)) ≡ blank (generatorOf s) (oneWrongMore (wrongKeysOf s)) false
+shows-counted s h =
+    let w = only-closed s in
+    let v = only-counted (closed s) in
+    bare-session (countedWrong (closed s)) (counted-bare (closed s) (closed-bare s h)) ∙ λ i.
+    blank ((generator-reads (apart tt v) ∙ generator-reads (apart tt w)) i)
+    ((wrongKeys-counted (closed s) (w .long ∙ h) ∙ ap oneWrongMore (wrongKeys-reads (apart tt w))) i) ((open-reads (apart tt v) ∙ closed-open s h) i)
 
 -- ---- one list changed: what it then is, and the others as they were
 abbrev pub Changes : ℕ → (DaqList → DaqList) → List ℕ → List ℕ → Type 0

@@ -1,4 +1,4 @@
--- What a deed leaves of the lists and the locks shows what it makes of them, whatever numbers the state holds: a generator or an address of more than
+-- What a deed leaves of the lists, the locks and the count of wrong keys shows what it makes of them, whatever numbers the state holds: a generator or an address of more than
 -- its bytes would read as another, but no list and no lock looks at these. Assumes nothing.
 use Prim.{tt}
 use Prim.Native.Nat.{ℕ, _^_, _≤_, _<_}
@@ -23,14 +23,15 @@ use Rattle.fields.proofs.Frames.{only-generator, only-seed, only-mta}
 use Rattle.views.proofs.Parts.{in-generator, in-seed, in-mta}
 use Rattle.views.proofs.Effect.{session-effect}
 
--- d has the lists and the locks of c, and is open if c is
+-- d has the lists, the locks and the count of wrong keys of c, and is open if c is
 pub record Steps (c d : Session) : Type 0 where
   pub opened : d .opened ≡ c .opened
+  pub wrongKeys : d .wrongKeys ≡ c .wrongKeys
   pub unlocked : d .unlocked ≡ c .unlocked
   pub list : d .list ≡ c .list
 
 steps : {c d : Session} → d ≡ c → Steps c d
-steps e = record { opened = ap (λ (x : Session). x .opened) e; unlocked = ap (λ (x : Session). x .unlocked) e; list = ap (λ (x : Session). x .list) e }
+steps e = record { opened = ap (λ (x : Session). x .opened) e; wrongKeys = ap (λ (x : Session). x .wrongKeys) e; unlocked = ap (λ (x : Session). x .unlocked) e; list = ap (λ (x : Session). x .list) e }
 
 -- an entry fits in the bytes that it is stored in
 abbrev pub Entered : Deed → Type 0
@@ -43,13 +44,13 @@ given r s =
     let t : List ℕ = setGenerator s (nextOf (generatorOf s)) in
     let w : sessionOf (setSeed t (For r)) ≡ withSeed (withGenerator (sessionOf s) (generatorOf t)) (seedOf (setSeed t (For r))) =
     in-seed (only-seed t (For r)) ∙ ap (λ (c : Session). withSeed c (seedOf (setSeed t (For r)))) (in-generator (only-generator s (nextOf (generatorOf s)))) in
-    record { opened = ap (λ (c : Session). c .opened) w; unlocked = ap (λ (c : Session). c .unlocked) w; list = ap (λ (c : Session). c .list) w }
+    record { opened = ap (λ (c : Session). c .opened) w; wrongKeys = ap (λ (c : Session). c .wrongKeys) w; unlocked = ap (λ (c : Session). c .unlocked) w; list = ap (λ (c : Session). c .list) w }
 
 moved : (x : Extension) (a : ℕ) (s : List ℕ) → Steps (stepIn (SetMta x a) (sessionOf s)) (sessionOf (effect (SetMta x a) s))
 unfolding effect stepIn
 moved x a s =
     let w : sessionOf (setMta s (At x a)) ≡ withMta (sessionOf s) (mtaOf (setMta s (At x a))) = in-mta (only-mta s (At x a)) in
-    record { opened = ap (λ (c : Session). c .opened) w; unlocked = ap (λ (c : Session). c .unlocked) w; list = ap (λ (c : Session). c .list) w }
+    record { opened = ap (λ (c : Session). c .opened) w; wrongKeys = ap (λ (c : Session). c .wrongKeys) w; unlocked = ap (λ (c : Session). c .unlocked) w; list = ap (λ (c : Session). c .list) w }
 
 pub stepped : (d : Deed) (s : List ℕ) (n nc nm : ℕ) → length s ≡ size → Doable d n nc nm → Entered d → Steps (stepIn d (sessionOf s)) (sessionOf (effect d s))
 stepped (Refuse r) s n nc nm h can enter = steps (session-effect (Refuse r) s n nc nm h can tt)

@@ -7,7 +7,7 @@ use borrow.Author.Tests.{eqb-true, ltb-false, leb-false, not-false}
 use lib.Dec.{eqb, ltb, leb}
 use Rattle.line.proofs.Laws.{cond-ind}
 use Rattle.state.specs.Layout.{lists, odtCount, firstOdt, entryCount, events, entryMost, uploadMost, downloadMost, addressable}
-use Rattle.state.specs.Generator.{keyOf}
+use Rattle.state.specs.Generator.{keyOf, staysShut}
 use Rattle.state.specs.Memory.{pick, insideOf}
 use Rattle.words.specs.Command.{commandOf, fewest, needsOf}
 use Rattle.model.specs.Judge.{extensionFrom, connectDeed, seedDeed, getSeedDeed, unlockBy, setMtaDeed, uploadDeed, shortUploadDeed, checksumDeed, downloadTo, downloadDeed, clearDeed, pointerDeed, writeBlock, writeDeed, modeDeed, startDeed, startStopDeed, synchDeed, lockedBy, judgeThe, judgeBy, judge}
@@ -48,7 +48,7 @@ pub data Verdict (p : Packet) (v : Seen) (nc nm : ℕ) : Command → Deed → Ty
   tells : Verdict p v nc nm GetStatus deed.Status
   synchs : Verdict p v nc nm Synch deed.Synch
   no-seed : Verdict p v nc nm GetSeed deed.NoSeed
-  gives : (r : Resource) → Verdict p v nc nm GetSeed (deed.GiveSeed r)
+  gives : (r : Resource) → staysShut (v .wrongKeys) ≡ false → Verdict p v nc nm GetSeed (deed.GiveSeed r)
   unlocks : (r : Resource) → Keyed p v r → eqb (p .d2) (keyOf r (v .generator)) ≡ true → Verdict p v nc nm Unlock (deed.Unlock r)
   wrong : (r : Resource) → Keyed p v r → eqb (p .d2) (keyOf r (v .generator)) ≡ false → Verdict p v nc nm Unlock deed.WrongKey
   sets : Verdict p v nc nm SetMta (deed.SetMta (extensionFrom (p .b3)) (p .d4))
@@ -81,16 +81,17 @@ module _ (p : Packet) (v : Seen) (nc nm : ℕ) where
   unfolding connectDeed
   connect-found = cond-ind (Led Connect) (eqb (p .b1) 0) (λ _. connects) (λ _. refused Connect _)
 
-  seed-found : (unlocked : Bool) (r : Resource) → Led GetSeed (seedDeed unlocked r)
-  seed-found unlocked r = cond-ind (Led GetSeed) unlocked (λ _. no-seed) (λ _. gives r)
+  seed-found : staysShut (v .wrongKeys) ≡ false → (unlocked : Bool) (r : Resource) → Led GetSeed (seedDeed unlocked r)
+  seed-found still unlocked r = cond-ind (Led GetSeed) unlocked (λ _. no-seed) (λ _. gives r still)
 
-  get-seed-found : Led GetSeed (getSeedDeed (v .calibration) (v .lists) (p .b1) (p .b2))
+  get-seed-found : Led GetSeed (getSeedDeed (v .wrongKeys) (v .calibration) (v .lists) (p .b1) (p .b2))
   unfolding getSeedDeed
   get-seed-found =
+      cond-ind (Led GetSeed) (staysShut (v .wrongKeys)) (λ _. refused GetSeed _) (λ still.
       cond-ind (Led GetSeed) (eqb (p .b1) 1) (λ _. refused GetSeed _) (λ _.
       cond-ind (Led GetSeed) (ltb 1 (p .b1)) (λ _. refused GetSeed _) (λ _.
-      cond-ind (Led GetSeed) (eqb (p .b2) 0x01) (λ _. seed-found (v .calibration) Calibration) (λ _.
-      cond-ind (Led GetSeed) (eqb (p .b2) 0x04) (λ _. seed-found (v .lists) Lists) (λ _. refused GetSeed _))))
+      cond-ind (Led GetSeed) (eqb (p .b2) 0x01) (λ _. seed-found still (v .calibration) Calibration) (λ _.
+      cond-ind (Led GetSeed) (eqb (p .b2) 0x04) (λ _. seed-found still (v .lists) Lists) (λ _. refused GetSeed _)))))
 
   unlock-found : (s : Seed) → v .seed ≡ s → Led Unlock (unlockBy s (v .generator) (p .b1) (p .n) (p .d2))
   unfolding unlockBy

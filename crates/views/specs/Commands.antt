@@ -1,6 +1,6 @@
 -- What stands once a command is done, in document 01's words and order: of the session c, the memories cal and meas and the packet p before it, and
 -- of the session, the calibration memory and the answer after it. The packet's numbers are said by their bytes.
-use Prim.Native.Nat.{ℕ, zero, suc, _+_, _*_, _%_, _^_, _<_}
+use Prim.Native.Nat.{ℕ, zero, suc, _+_, _*_, _%_, _^_, _≤_, _<_}
 use mathlib.Core.Path.{_≡_}
 use mathlib.Core.Logic.{_≢_}
 use mathlib.Core.Bool.{Bool, true, false}
@@ -54,6 +54,7 @@ maskFor false false = 0x05
 -- ---- the parts of a session
 pub data Part : Type 0 where
   TheGenerator : Part
+  TheWrongKeys : Part
   Whether-open : Part
   TheLocks : Part
   TheSeed : Part
@@ -64,6 +65,7 @@ pub data Part : Type 0 where
 -- a part of d is as it is in c
 abbrev pub Kept : Part → Session → Session → Type 0
 Kept TheGenerator c d = d .generator ≡ c .generator
+Kept TheWrongKeys c d = d .wrongKeys ≡ c .wrongKeys
 Kept Whether-open c d = d .opened ≡ c .opened
 Kept TheLocks c d = (r : Resource) → d .unlocked r ≡ c .unlocked r
 Kept TheSeed c d = d .seed ≡ c .seed
@@ -97,10 +99,11 @@ pub record Tells (c : Session) (cal : List ℕ) (o : Done) (answer′ : List ℕ
   pub memory : o .memory ≡ cal
   pub answer : o .answer ≡ answer′
 
--- ---- FF CONNECT
+-- ---- FF CONNECT: the count of wrong keys stays
 pub record CONNECT (p : List ℕ) (c : Session) (cal meas : List ℕ) (o : Done) : Type 0 where
   pub opened : o .session .opened ≡ true
   pub fresh : Fresh c (o .session)
+  pub wrongKeys : o .session .wrongKeys ≡ c .wrongKeys
   pub memory : o .memory ≡ cal
   pub answer : o .answer ≡ 0xFF ∷ 0x05 ∷ 0x00 ∷ 0x08 ∷ 0x08 ∷ 0x00 ∷ 0x01 ∷ 0x01 ∷ []
 
@@ -108,6 +111,7 @@ pub record CONNECT (p : List ℕ) (c : Session) (cal meas : List ℕ) (o : Done)
 pub record DISCONNECT (p : List ℕ) (c : Session) (cal meas : List ℕ) (o : Done) : Type 0 where
   pub closed : o .session .opened ≡ false
   pub fresh : Fresh c (o .session)
+  pub wrongKeys : o .session .wrongKeys ≡ c .wrongKeys
   pub memory : o .memory ≡ cal
   pub answer : o .answer ≡ 0xFF ∷ []
 
@@ -121,7 +125,7 @@ pub record GET-STATUS (p : List ℕ) (c : Session) (cal meas : List ℕ) (o : Do
 abbrev pub SYNCH : List ℕ → Session → List ℕ → List ℕ → Done → Type 0
 SYNCH p c cal meas o = Tells c cal o (0xFE ∷ 0x00 ∷ [])
 
--- ---- F8 GET_SEED: the generator moves on, and the answer carries it
+-- ---- F8 GET_SEED, while fewer than three keys were wrong: the generator moves on, and the answer carries it
 pub record Seeds (r : Resource) (c : Session) (cal : List ℕ) (o : Done) : Type 0 where
   pub seed : o .session .seed ≡ For r
   pub generator : o .session .generator ≡ nextOf (c .generator)
@@ -132,10 +136,16 @@ pub record Seeds (r : Resource) (c : Session) (cal : List ℕ) (o : Done) : Type
   pub carries : c .generator < 2 ^ 32 → four (o .answer) 2 ≡ o .session .generator
 
 pub record GET-SEED (p : List ℕ) (c : Session) (cal meas : List ℕ) (o : Done) : Type 0 where
+  pub few : c .wrongKeys < 3
   pub resource : Resource
   pub named : byte p 2 ≡ resourceNumber resource
   pub already : c .unlocked resource ≡ true → Tells c cal o (0xFF ∷ 0x00 ∷ [])
   pub gives : c .unlocked resource ≡ false → Seeds resource c cal o
+
+-- too short it is refused for that, whatever the count; else, after three wrong keys, whatever its mode and resource
+pub record STAYS-SHUT (p : List ℕ) (c : Session) (cal meas : List ℕ) (o : Done) : Type 0 where
+  pub short : length p < 3 → Tells c cal o (0xFE ∷ 0x21 ∷ [])
+  pub shut : 3 ≤ length p → 3 ≤ c .wrongKeys → Tells c cal o (0xFE ∷ 0x25 ∷ [])
 
 -- ---- F7 UNLOCK: the key in bytes 2 to 5 is that of the seed that was out
 pub record UNLOCK (p : List ℕ) (c : Session) (cal meas : List ℕ) (o : Done) : Type 0 where
@@ -148,6 +158,18 @@ pub record UNLOCK (p : List ℕ) (c : Session) (cal meas : List ℕ) (o : Done) 
   pub rest : AllButBoth TheLocks TheSeed c (o .session)
   pub memory : o .memory ≡ cal
   pub answer : o .answer ≡ 0xFF ∷ maskFor (o .session .unlocked Calibration) (o .session .unlocked Lists) ∷ []
+
+-- answered FE 25: the key is wrong. The session ends, and one wrong key more is counted, at most three
+pub record WRONG-KEY (p : List ℕ) (c : Session) (cal meas : List ℕ) (o : Done) : Type 0 where
+  pub resource : Resource
+  pub seeded : c .seed ≡ For resource
+  pub wrong : four p 2 ≢ keyOf resource (c .generator)
+  pub counted : c .wrongKeys < 3 → o .session .wrongKeys ≡ c .wrongKeys + 1
+  pub most : 3 ≤ c .wrongKeys → o .session .wrongKeys ≡ 3
+  pub closed : o .session .opened ≡ false
+  pub fresh : Fresh c (o .session)
+  pub memory : o .memory ≡ cal
+  pub answer : o .answer ≡ 0xFE ∷ 0x25 ∷ []
 
 -- ---- F6 SET_MTA
 pub record SET-MTA (p : List ℕ) (c : Session) (cal meas : List ℕ) (o : Done) : Type 0 where
@@ -320,7 +342,9 @@ pub record Obeys (R : Way) : Type 0 where
   pub getStatus : Law R 0xFD GET-STATUS
   pub synch : (p : List ℕ) (c : Session) (cal meas : List ℕ) (o : Done) → R p c cal meas o → byte p 0 ≡ 0xFC → SYNCH p c cal meas o
   pub getSeed : Law R 0xF8 GET-SEED
+  pub staysShut : (p : List ℕ) (c : Session) (cal meas : List ℕ) (o : Done) → R p c cal meas o → byte p 0 ≡ 0xF8 → STAYS-SHUT p c cal meas o
   pub unlock : Law R 0xF7 UNLOCK
+  pub wrongKey : (p : List ℕ) (c : Session) (cal meas : List ℕ) (o : Done) → R p c cal meas o → byte p 0 ≡ 0xF7 → byte (o .answer) 0 ≡ 0xFE → byte (o .answer) 1 ≡ 0x25 → WRONG-KEY p c cal meas o
   pub setMta : Law R 0xF6 SET-MTA
   pub upload : Law R 0xF5 UPLOAD
   pub shortUpload : Law R 0xF4 SHORT-UPLOAD

@@ -42,6 +42,8 @@ enum Situation {
     Set,
     /// The address at measured bytes, the pointer at a list that runs.
     Running,
+    /// After three wrong keys.
+    Shut,
 }
 
 pub fn run(rig: &mut Rig) {
@@ -50,6 +52,7 @@ pub fn run(rig: &mut Rig) {
         Situation::Unlocked,
         Situation::Set,
         Situation::Running,
+        Situation::Shut,
     ];
     for situation in situations {
         for good in GOOD {
@@ -84,6 +87,15 @@ fn prepare(rig: &mut Rig, situation: Situation) {
             rig.turn(1, 1);
             rig.turn(2, 0);
         }
+        Situation::Shut => {
+            for resource in [CALIBRATION, LISTS, CALIBRATION] {
+                // None comes where it is shut already.
+                if rig.seed(resource).is_some() {
+                    rig.wrong_key(resource);
+                    rig.connect();
+                }
+            }
+        }
     }
     aim(rig, situation);
 }
@@ -91,7 +103,7 @@ fn prepare(rig: &mut Rig, situation: Situation) {
 /// Sets address and pointer anew, since done commands move them.
 fn aim(rig: &mut Rig, situation: Situation) {
     match situation {
-        Situation::Locked | Situation::Unlocked => {}
+        Situation::Locked | Situation::Unlocked | Situation::Shut => {}
         Situation::Set => {
             rig.set_mta(0, 0x20);
             rig.point(1, 1, 3);
@@ -147,8 +159,15 @@ fn other_codes(rig: &mut Rig, situation: Situation) {
 
 /// One packet; then the situation is made again where the packet may have ended it.
 fn attempt(rig: &mut Rig, situation: Situation, packet: &[u8]) {
-    let refused = matches!(rig.ask(packet), Some(answer) if answer[0] == 0xFE);
+    let answer = rig.ask(packet).unwrap_or_default();
+    let refused = answer.starts_with(&[0xFE]);
     match packet[0] {
+        0xF7 if answer == [0xFE, 0x25] => {
+            // A wrong key: a third one would leave it shut, whatever the situation.
+            let start = rig.dice.number();
+            rig.power_up(start);
+            prepare(rig, situation);
+        }
         0xFF | 0xFE | 0xF7 | 0xDE | 0xDD => prepare(rig, situation),
         0xF6 | 0xF5 | 0xF3 | 0xF0 | 0xE2 | 0xE1 if !refused => {
             aim(rig, situation);

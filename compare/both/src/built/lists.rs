@@ -154,6 +154,8 @@ fn turns(rig: &mut Rig) {
         rig.fill(list, [5, 7], 1, u32::from(list));
         rig.set_mode(list, list % 2);
         rig.turn(1, list);
+        // It runs, so its mode stays.
+        rig.set_mode(list, 1 - list % 2);
     }
     for slots in 0..20 {
         rig.measure(0, &[slots, 0x9A, 0x9B, 3, 4, 5, 6, 7, 8, 9]);

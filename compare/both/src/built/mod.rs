@@ -5,12 +5,14 @@ mod commands;
 mod lists;
 mod session;
 mod wire;
+mod wrong_keys;
 
 use crate::rig::Rig;
 
 pub fn run(rig: &mut Rig) {
     without_state(rig);
     session::run(rig);
+    wrong_keys::run(rig);
     access::run(rig);
     lists::run(rig);
     wire::run(rig);

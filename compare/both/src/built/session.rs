@@ -63,6 +63,10 @@ fn wrong_keys(rig: &mut Rig, start: u32) {
     rig.begin(start, false);
     for resource in [CALIBRATION, LISTS] {
         for bit in 0..33 {
+            // After three wrong keys no seed comes before the next power-up.
+            if bit % 3 == 0 {
+                rig.power_up(start);
+            }
             rig.connect();
             // The first seed is replaced, so that its key is wrong too.
             let first = rig.seed(resource).unwrap_or(0);
@@ -79,6 +83,7 @@ fn wrong_keys(rig: &mut Rig, start: u32) {
             rig.send(&[0xFD]);
         }
         // An unlocked resource is lost with the session that a wrong key ends.
+        rig.power_up(start);
         rig.open();
         rig.seed(resource);
         rig.connect();

@@ -1,17 +1,20 @@
 //! What was covered: each number of each call, each kind of frame, each command with each answer.
 
 mod answers;
+mod keys;
 mod past;
 
 use crate::effect::Effect;
+use crate::proved::STATE;
 use crate::step::{Call, Step};
 use crate::wire;
 use answers::Answers;
+use keys::Keys;
 use past::{Asked, Past};
 
 pub const LENGTHS: [usize; 5] = [0, 1, 4095, 4096, 5000];
 pub const ROOMS: usize = 31;
-pub const WRONG_SIZES: [usize; 5] = [0, 3, 4, 247, 249];
+pub const WRONG_SIZES: [usize; 5] = [0, 3, 4, STATE - 1, STATE + 1];
 
 /// What a memory's length can do to a call.
 const USES: [&str; 3] = ["inside", "not inside", "sampled"];
@@ -23,6 +26,7 @@ const SAMPLED: usize = 2;
 pub struct Seen {
     answers: Answers,
     past: Past,
+    keys: Keys,
     /// The command whose answer waits, where it is known.
     asked: Option<Asked>,
     byte: [u64; 11],
@@ -46,6 +50,11 @@ pub struct Seen {
 }
 
 impl Seen {
+    /// Two new slaves, which have no past.
+    pub fn begin(&mut self) {
+        self.keys.begin();
+    }
+
     pub fn call(&mut self, step: &Step, effect: &Effect) {
         let number = (effect.result >> 16) as usize;
         match &step.call {
@@ -59,13 +68,19 @@ impl Seen {
             }
         }
         match (&step.call, number) {
-            (_, 10) => match WRONG_SIZES.iter().position(|size| *size == step.state) {
-                Some(at) => self.wrong_size[at] += 1,
-                None => self.never_powered += 1,
-            },
+            (call, 10) => {
+                match WRONG_SIZES.iter().position(|size| *size == step.state) {
+                    Some(at) => self.wrong_size[at] += 1,
+                    None => self.never_powered += 1,
+                }
+                if let Call::PowerUp(_) = call {
+                    self.keys.power_up_refused();
+                }
+            }
             (Call::PowerUp(_), _) => {
                 self.asked = None;
                 self.past.forget();
+                self.keys.power_up();
             }
             // Which command that was is known only where a whole packet was sent.
             (Call::Byte(_), 1) => self.asked = None,
@@ -106,7 +121,10 @@ impl Seen {
                 self.answer_frame += 1;
                 match self.asked.take() {
                     Some(asked) => self.answered(&asked, packet),
-                    None => self.past.forget(),
+                    None => {
+                        self.past.forget();
+                        self.keys.unknown(packet);
+                    }
                 }
             }
         }
@@ -139,6 +157,7 @@ impl Seen {
             self.memory(extension, asked.lent[extension], what);
         }
         self.past.answered(asked, answer);
+        self.keys.answered(&asked.packet, answer);
     }
 
     /// Prints all of it and returns how much is wrong: not covered, or not in the paper.
@@ -234,6 +253,7 @@ impl Seen {
             ("Calibration bytes lent, and a block", self.blocks(0)),
             ("Measured bytes lent, and a block", self.blocks(1)),
             ("Sessions with", self.past.cells()),
+            ("Lives with", self.keys.cells()),
             (
                 "Wrong sizes of the state",
                 each(&WRONG_SIZES, &self.wrong_size),

@@ -2,7 +2,7 @@
 
 use super::{at_least, check, done, number32, refusal, Answer, LOCKED, RANGE, SEQUENCE, SHORT};
 use crate::packet::Packet;
-use crate::seed::{Generator, Resource};
+use crate::seed::{Generator, Resource, WrongKeys};
 use crate::session::Session;
 
 const KEY_LENGTH: u8 = 4;
@@ -33,8 +33,15 @@ impl Session {
         Ok(Packet::new(&[0xFE, 0x00]))
     }
 
-    pub(super) fn get_seed(&mut self, packet: &[u8], generator: &mut Generator) -> Answer {
+    pub(super) fn get_seed(
+        &mut self,
+        packet: &[u8],
+        generator: &mut Generator,
+        wrong_keys: WrongKeys,
+    ) -> Answer {
         at_least(packet, 3)?;
+        // It stays shut whatever is asked for, so this comes before the mode.
+        check(!wrong_keys.shut(), LOCKED)?;
         check(packet[1] != 1, SEQUENCE)?;
         check(packet[1] == 0, RANGE)?;
         let resource = Resource::from_mask(packet[2]).ok_or_else(|| refusal(RANGE))?;
@@ -48,13 +55,14 @@ impl Session {
         Ok(answer)
     }
 
-    pub(super) fn unlock(&mut self, packet: &[u8]) -> Answer {
+    pub(super) fn unlock(&mut self, packet: &[u8], wrong_keys: &mut WrongKeys) -> Answer {
         at_least(packet, 2)?;
         let (resource, seed) = self.seed.ok_or_else(|| refusal(SEQUENCE))?;
         check(packet[1] == KEY_LENGTH, RANGE)?;
         check(packet.len() >= 2 + KEY_LENGTH as usize, SHORT)?;
         if number32(packet, 2) != resource.key(seed) {
-            // The one refusal that changes something: a wrong key ends the session.
+            // The one refusal that changes something: a wrong key counts and ends the session.
+            wrong_keys.count();
             *self = Session::closed();
             return Err(refusal(LOCKED));
         }

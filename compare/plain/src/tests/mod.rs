@@ -6,7 +6,9 @@ mod random;
 mod seeds;
 mod table;
 mod wire;
+mod wrong_keys;
 
+use crate::session::Session;
 use crate::Slave;
 
 pub const CONNECT: &str = "FF 00";
@@ -61,6 +63,17 @@ pub fn unframe(frame: &[u8]) -> (u8, Vec<u8>) {
     assert_eq!(packet.len(), message[0] as usize);
     assert_eq!(self::frame(message[1], &packet), frame);
     (message[1], packet)
+}
+
+/// The key to a seed, reckoned here by the paper.
+pub fn key(resource: u8, seed: u32) -> u32 {
+    let offset = if resource == 0x01 { 0xD05E } else { 0xDA00 };
+    let sum = (u64::from(seed) + offset) % (1 << 32);
+    ((sum << 8) % (1 << 32) + (sum >> 24)) as u32
+}
+
+pub fn unlock_packet(key: u32) -> String {
+    format!("F7 04 {}", hex(&key.to_le_bytes()))
 }
 
 impl Bench {
@@ -153,6 +166,7 @@ impl Bench {
         assert_eq!(self.ask(packet), answer, "{}", packet);
         assert_eq!(self.slave.session, before.session, "{}", packet);
         assert_eq!(self.slave.generator, before.generator, "{}", packet);
+        assert_eq!(self.slave.wrong_keys, before.wrong_keys, "{}", packet);
         assert_eq!(self.slave.last_served, before.last_served);
         assert_eq!((&self.cal, &self.meas), (&cal, &meas), "{}", packet);
     }
@@ -169,13 +183,18 @@ impl Bench {
         u32::from_le_bytes([answer[2], answer[3], answer[4], answer[5]])
     }
 
-    /// Asks for a seed and sends the right key, reckoned here by the paper.
+    /// Asks for a seed and sends the right key.
     pub fn unlock(&mut self, resource: u8) -> String {
-        let seed = u64::from(self.seed(resource));
-        let offset = if resource == 0x01 { 0xD05E } else { 0xDA00 };
-        let sum = (seed + offset) % (1 << 32);
-        let key = ((sum << 8) % (1 << 32) + (sum >> 24)) as u32;
-        self.ask(&format!("F7 04 {}", hex(&key.to_le_bytes())))
+        let key = key(resource, self.seed(resource));
+        self.ask(&unlock_packet(key))
+    }
+
+    /// In a session of its own asks for a seed and sends a wrong key.
+    pub fn wrong_key(&mut self, resource: u8) {
+        self.ask(CONNECT);
+        let key = key(resource, self.seed(resource));
+        assert_eq!(self.ask(&unlock_packet(key ^ 1)), "FE 25");
+        assert_eq!(self.slave.session, Session::closed());
     }
 
     /// Points at the list's ODT and writes entries of these sizes from measured address 0 on.

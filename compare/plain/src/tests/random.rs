@@ -27,9 +27,7 @@ impl Dice {
     /// A command that is likely to be done, with one byte spoilt now and then.
     fn packet(&mut self, slave: &Slave) -> Vec<u8> {
         let mut packet = self.good_packet(slave);
-        // A wrong key ends everything, so keys are spoilt less often.
-        let spoil = if packet[0] == 0xF7 { 60 } else { 10 };
-        if self.below(spoil) == 0 {
+        if self.below(10) == 0 {
             let at = self.below(packet.len());
             packet[at] = self.byte();
         }
@@ -93,12 +91,16 @@ struct Trial {
     taken: u32,
     sampled: u32,
     written: u32,
+    /// How often a third wrong key shut it.
+    shut: u32,
 }
 
 impl Trial {
-    /// One byte: nothing is written but by a command, with calibration unlocked, and below 4,096.
+    /// One byte: nothing is written but by a command, with calibration unlocked, and below 4,096. What
+    /// is shut stays shut, with no seed out and both resources locked.
     fn byte(&mut self, byte: u8) {
         let before = self.cal.clone();
+        let was_shut = self.slave.wrong_keys.shut();
         let locked = self.slave.session.calibration_locked;
         let (cal, meas) = (&mut self.cal[..self.lent.0], &self.meas[..self.lent.1]);
         let number = self.slave.receive_byte(cal, meas, byte);
@@ -109,6 +111,10 @@ impl Trial {
             assert_eq!(self.cal[4096..], before[4096..]);
             self.written += 1;
         }
+        let (session, shut) = (&self.slave.session, self.slave.wrong_keys.shut());
+        assert!(shut || !was_shut);
+        assert!(!shut || (session.seed.is_none() && session.locked_mask() == 0x05));
+        self.shut += u32::from(shut && !was_shut);
     }
 
     fn event(&mut self, event: u32) {
@@ -148,8 +154,13 @@ fn any_calls_in_any_order() {
         taken: 0,
         sampled: 0,
         written: 0,
+        shut: 0,
     };
     for _ in 0..250_000 {
+        // Behind shut locks little can be tried, so that does not last.
+        if trial.slave.wrong_keys.shut() && dice.below(100) == 0 {
+            trial.slave = Slave::power_up(dice.0.step());
+        }
         trial.lent = match dice.below(4) {
             0 => (LENGTHS[dice.below(8)], LENGTHS[dice.below(8)]),
             _ => (4096, 4096),
@@ -169,4 +180,5 @@ fn any_calls_in_any_order() {
     assert!(trial.taken > 5_000, "{}", trial.taken);
     assert!(trial.sampled > 500, "{}", trial.sampled);
     assert!(trial.written > 100, "{}", trial.written);
+    assert!(trial.shut > 10, "{}", trial.shut);
 }

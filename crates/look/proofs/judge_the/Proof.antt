@@ -28,6 +28,9 @@ enum-told-5 c = search needs
 enum-told-6 : tie.Need-enum-told-6
 enum-told-6 c = search needs
 
+wrong-keys-requires : tie.Need-wrong-keys-requires
+wrong-keys-requires c κs = search needs
+
 unlocked-requires : tie.Need-unlocked-requires
 unlocked-requires c κs = search needs
 
@@ -230,7 +233,7 @@ returns-5 c = rw (c .enum-told5 .given .1)
 
 returns-6 : tie.Need-returns-6
 unfolding judgeThe
-returns-6 c = rw (c .before .before .before .before .before .enum-told6 .given .1) (c .get-seed .ensures ∙ rw (c .before .before .before .before .unlocked .ensures, c .before .before .before .unlocked2 .ensures, c .before .before .get2 .ensures, c .before .get3 .ensures))
+returns-6 c = rw (c .before .before .before .before .before .before .enum-told6 .given .1) (c .get-seed .ensures ∙ rw (c .before .before .before .before .before .wrong-keys .ensures, c .before .before .before .before .unlocked .ensures, c .before .before .before .unlocked2 .ensures, c .before .before .get2 .ensures, c .before .get3 .ensures))
 
 returns-7 : tie.Need-returns-7
 unfolding judgeThe
@@ -300,6 +303,7 @@ judge-the-spec =
     enum-told-4
     enum-told-5
     enum-told-6
+    wrong-keys-requires
     unlocked-requires
     unlocked-requires-2
     get-requires-2
