@@ -1,8 +1,9 @@
 """A setting tool at the controller of host.c: it unlocks, writes the unit byte, reads it back while samples pour out, and
-leaves it as it was.
+leaves it as it was. Then a script tries keys until the controller stays shut, and the power switch opens it.
 
     tool.py HOST WORDS...                   runs the host by these words, which names its line first, and talks to it
-    tool.py --port DEVICE [--baud N]        talks to a controller at a serial port of this computer
+    tool.py --port DEVICE [--baud N]        talks to a controller at a serial port of this computer; no script is let near
+                                            it, because its power switch is not the tool's
 
 Each packet that comes is checked. Ends with 0 if all were right; else with a line that says what was not.
 """
@@ -16,10 +17,14 @@ from wire import PATIENCE, Wire, Wrong, hexed
 
 CALIBRATION, LISTS = 0x01, 0x04
 ADDENDS = {CALIBRATION: 0xD05E, LISTS: 0xDA00}
-# The controller's memory, as in docs/controller.a2l: the unit byte is a setting, the others are measured values.
-UNIT, WEIGHINGS, WEIGHT = 0x10, 0x00, 0x04
+# The controller's memory, as in docs/controller.a2l: unit byte and dose are settings, the others are measured values.
+UNIT, DOSE, WEIGHINGS, WEIGHT = 0x10, 0x20, 0x00, 0x04
 UNITS = ["kilograms", "pounds"]
+FIRST_DOSE, OTHER_DOSE = 25, 30  # tenths of a millilitre: the host's own, and one that is written
 CONNECTED = "FF 05 00 08 08 00 01 01"
+LOCKED = "FE 25"
+SHUT = "three wrong keys since power-up; switch the gun off and on"
+WRONG_KEY = "a wrong key; take the tool for this gun: three wrong keys shut it until it is switched off and on"
 # An answer may come where no sample waits; it is asked for again until one was overtaken.
 ATTEMPTS = 50
 
@@ -81,16 +86,25 @@ class Tool:
                 return packet, samples
             samples.append(self.sampled(packet))
 
-    def ask(self, command, expected="FF"):
+    def ask(self, command, expected="FF", locked=None):
+        """The answer, which must be the expected one, if there is one; locked says what to do about a 25."""
         self.wire.send(bytes.fromhex(command))
         packet, _ = self.answer()
+        if locked and packet == bytes.fromhex(LOCKED):
+            raise Wrong(locked)
         if expected is not None and packet != bytes.fromhex(expected):
             raise Wrong(f"{command} was answered {hexed(packet)}, and {expected} is right")
         return packet
 
-    def show(self, what, command, expected="FF", more=""):
-        words("tool", what, bytes.fromhex(command))
+    def show(self, what, command, expected="FF", more="", who="tool"):
+        words(who, what, bytes.fromhex(command))
         words("slave", "   answers", self.ask(command, expected), more)
+
+    def plug_in(self, name):
+        """At a line anew, where the slave's CTR and the weighings begin again."""
+        self.wire.close()
+        self.wire = Wire(name)
+        self.last = [None] * 8
 
     def connect(self):
         words("tool", "connects", b"\xff\x00")
@@ -111,13 +125,20 @@ class Tool:
         words("slave", "   answers", answer, UNITS[answer[1]])
         return answer[1]
 
-    def unlock(self, resource, left):
-        answer = self.ask(f"F8 00 {resource:02X}", None)
+    def seed(self, resource):
+        answer = self.ask(f"F8 00 {resource:02X}", None, f"GET_SEED: refused, 25: {SHUT}")
         if len(answer) != 6 or answer[:2] != b"\xff\x04":
             raise Wrong(f"GET_SEED was answered {hexed(answer)}")
-        summed = (int.from_bytes(answer[2:], "little") + ADDENDS[resource]) % 2**32
+        return int.from_bytes(answer[2:], "little")
+
+    def unlock(self, resource, left):
+        summed = (self.seed(resource) + ADDENDS[resource]) % 2**32
         key = (summed << 8 | summed >> 24) % 2**32
-        self.ask("F7 04 " + hexed(key.to_bytes(4, "little")), f"FF {left:02X}")
+        self.ask(unlocking(key), f"FF {left:02X}", f"UNLOCK: refused, 25: {WRONG_KEY}")
+
+
+def unlocking(key):
+    return "F7 04 " + hexed(key.to_bytes(4, "little"))
 
 
 def set_up(tool, number):
@@ -185,7 +206,7 @@ def exchange(tool):
     print("tool    is unplugged in the middle of a frame, and plugged in again")
     tool.connect()
     tool.show("points at the unit byte", f"F6 00 00 00 {UNIT:02X} 00 00 00")
-    tool.show("writes 1, with the lock still on", "F0 01 01", "FE 25", "refused, locked")
+    tool.show("writes 1, with the lock still on", "F0 01 01", LOCKED, "refused, locked")
     found = tool.read_found()
     other = 1 - found
     tool.unlock(CALIBRATION, LISTS)
@@ -206,28 +227,85 @@ def exchange(tool):
     tool.wire.send(b"\xfd")
     tool.ask("FF 00", CONNECTED)
     tool.ask("FE")
-    return f"\n{tool.answers} answers and {sum(tool.samples)} samples came, each as it should be."
 
 
-def name_of_line(host):
-    """The host prints the name alone, an emulator a sentence around it."""
-    ready, _, _ = select.select([host.stdout], [], [], PATIENCE)
-    name = re.search(r"/dev/\S+", host.stdout.readline()) if ready else None
-    if not name:
-        raise Wrong("the host has not named its line")
-    return name.group()
+def write_dose(tool, expected, more=""):
+    tool.ask(f"F6 00 00 00 {DOSE:02X} 00 00 00")
+    tool.show(f"writes the dose, {OTHER_DOSE / 10} ml", f"F0 02 {OTHER_DOSE:02X} 00", expected, more)
 
 
-def talk(options):
-    """The exchange at a port or with a host that is run for it; the line to end with."""
-    if options.port:
-        return exchange(Tool(options.port, options.baud, started=False))
-    host = subprocess.Popen(options.host, stdin=subprocess.DEVNULL, stdout=subprocess.PIPE, text=True)
+def read_dose(tool, dose, more):
+    tool.show("reads the dose", f"F4 02 00 00 {DOSE:02X} 00 00 00", f"FF {dose:02X} 00", f"{dose / 10} ml, {more}")
+
+
+def try_keys(tool):
+    """A script that has no key tries some, each in a session of its own, because a wrong one ends it."""
+    print("script  is at the plug all night, and tries keys")
+    for key, more in enumerate(["wrong, the session ends", "wrong, the session ends", "wrong: from now on it stays shut"]):
+        tool.ask("FF 00", CONNECTED)
+        tool.seed(CALIBRATION)
+        tool.show("connects, and tries a key", unlocking(key), LOCKED, more, who="script")
+
+
+def find_shut(tool):
+    """The right key is of no use without a seed; reading goes on."""
+    tool.connect()
+    tool.show("has the key, and wants a seed", f"F8 00 {CALIBRATION:02X}", LOCKED, f"refused: {SHUT}")
+    write_dose(tool, LOCKED, "refused, locked")
+    read_dose(tool, FIRST_DOSE, "as it was")
+
+
+def find_open(tool):
+    tool.connect()
+    tool.unlock(CALIBRATION, LISTS)
+    print("tool    gets a seed, and unlocks with its key")
+    write_dose(tool, "FF")
+    read_dose(tool, OTHER_DOSE, "written")
+    tool.show("disconnects", "FE")
+
+
+class Gun:
+    """A host that is run for the tool, with a power switch."""
+
+    def __init__(self, host):
+        self.words, self.host = host, None
+
+    def switch_on(self):
+        """The name of its line, which the host prints alone, and an emulator with a sentence around it."""
+        self.host = subprocess.Popen(self.words, stdin=subprocess.DEVNULL, stdout=subprocess.PIPE, text=True)
+        ready, _, _ = select.select([self.host.stdout], [], [], PATIENCE)
+        name = re.search(r"/dev/\S+", self.host.stdout.readline()) if ready else None
+        if not name:
+            raise Wrong("the host has not named its line")
+        return name.group()
+
+    def switch_off(self):
+        if self.host:
+            self.host.terminate()
+            self.host.wait()
+            self.host.stdout.close()
+
+
+def talk_at_port(options):
+    tool = Tool(options.port, options.baud, started=False)
+    exchange(tool)
+    return tool
+
+
+def talk_to_host(options):
+    gun = Gun(options.host)
     try:
-        return exchange(Tool(name_of_line(host)))
+        tool = Tool(gun.switch_on())
+        exchange(tool)
+        try_keys(tool)
+        find_shut(tool)
+        gun.switch_off()
+        tool.plug_in(gun.switch_on())
+        print("gun     is switched off and on")
+        find_open(tool)
     finally:
-        host.terminate()
-        host.wait()
+        gun.switch_off()
+    return tool
 
 
 def arguments():
@@ -244,7 +322,8 @@ def arguments():
 def main():
     options = arguments()
     try:
-        print(talk(options))
+        tool = talk_at_port(options) if options.port else talk_to_host(options)
+        print(f"\n{tool.answers} answers and {sum(tool.samples)} samples came, each as it should be.")
     except (Wrong, OSError) as why:
         print(f"tool: {why}", flush=True)
         sys.exit(1)

@@ -54,6 +54,9 @@ class Wire:
         self.from_slave = 0
         self.waiting = b""
 
+    def close(self):
+        os.close(self.line)
+
     def send(self, packet):
         os.write(self.line, frame(self.to_slave, packet))
         self.to_slave = (self.to_slave + 1) % 256
