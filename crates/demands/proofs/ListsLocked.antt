@@ -2,11 +2,10 @@
 use Prim.{tt}
 use Prim.Native.Nat.{ℕ, _<_}
 use mathlib.Core.Path.{_≡_, refl, sym, subst, _∙_}
-use mathlib.Core.Logic.{_≢_}
 use mathlib.Core.Bool.{Bool, true, false, cond}
-use mathlib.Core.Option.{Option, some}
+use mathlib.Core.Option.{Option}
 use mathlib.Core.List.{List}
-use borrow.Author.Tests.{eqb-true, ne-eqb}
+use borrow.Author.Tests.{eqb-true}
 use lib.Dec.{eqb, ltb, lit≤}
 use lib.ListN.{length}
 use Rattle.line.specs.Message.{room}
@@ -16,14 +15,12 @@ use Rattle.state.specs.State.{consistent}
 use Rattle.lists.specs.Slot.{Slot, turnOf, sentBy, slotOf}
 use Rattle.model.specs.declared.Turn.{Turn}
 use Rattle.model.specs.declared.Turn.the-variants.{Nobody, Answer, Packet}
-use Rattle.words.specs.Number.{receivedNumber}
-use Rattle.words.specs.declared.Received.{Received}
 use Rattle.words.specs.declared.Resource.the-variants.{Lists}
 use Rattle.model.specs.declared.Deed.{Deed}
 use Rattle.model.specs.declared.Deed.the-variants.{Connect}
 use Rattle.model.specs.Answers.{written, replyIn, doneBy}
 use Rattle.session.specs.Perform.{after}
-use Rattle.session.specs.Receive.{Step, only, obeyed, receiveOf}
+use Rattle.session.specs.Receive.{Step, receiveOf}
 use Rattle.model.specs.Heed.{goodConnect}
 use Rattle.fields.proofs.Readers.{before, same-part}
 use Rattle.fields.proofs.Captures.{only-event}
@@ -37,9 +34,9 @@ use Rattle.views.proofs.SessionLaws.{blank-fresh}
 use Rattle.views.proofs.Settings.{settings-read}
 use Rattle.views.proofs.Locked.{locked-shields}
 use Rattle.demands.specs.Slave.{ours}
-use Rattle.demands.specs.Heard.{packetEnded, readBy}
+use Rattle.demands.specs.Heard.{readBy}
 use Rattle.demands.specs.ListsLocked.{endsAt, ListsLocked}
-use Rattle.demands.proofs.Received.{Does, Reads, rests, acts, received}
+use Rattle.demands.proofs.Received.{Does, Reads, rests, acts, received, resting, acting}
 use Rattle.demands.proofs.ReadBy.{read-session}
 use Rattle.demands.proofs.Obeyed.{ended-bytes, shown-done, command-done}
 
@@ -76,18 +73,13 @@ module _ (s cal meas : List ℕ) (b : ℕ) (c : consistent s ≡ true) (w : Byte
     kept : endsAt o s b ≡ false → SettingsKept (sessionOf s) (sessionOf (o .state))
     fresh : endsAt o s b ≡ true → Fresh (sessionOf s) (sessionOf (o .state))
 
-  resting : (r : Received) → receivedNumber r ≢ 1 → endsAt (only r (readBy s b) cal) s b ≡ false
-  resting r n = rw (ne-eqb (receivedNumber r) 1 n)
-
-  acting : (d : Deed) (p : List ℕ) → packetEnded s b ≡ some p → endsAt (obeyed d p (readBy s b) cal meas) s b ≡ endsSession p (viewOf (after d (readBy s b) cal meas) .answer)
-  acting d p e = rw e
-
   guarded-by : {o : Step} {x : Option Deed} → Reads s cal meas b o x → Guarded o
   unfolding viewOf
-  guarded-by (rests r n few) = record { kept = λ _. settings-same (read-session s b c); fresh = λ t. absurd (false-true (sym (resting r n) ∙ t)) }
+  guarded-by (rests r n few) = record { kept = λ _. settings-same (read-session s b c); fresh = λ t. absurd (false-true (sym (resting endsSession s cal b r n) ∙ t)) }
   guarded-by (acts d p does) =
       let h : Shields p (sessionOf s) (shown (after d (readBy s b) cal meas) (written d p cal)) = deed-shields d p does in
-      record { kept = λ n. h .kept (sym (acting d p (does .ended)) ∙ n); fresh = λ t. h .fresh (sym (acting d p (does .ended)) ∙ t) }
+      let is = acting endsSession s cal meas b d p (does .ended) in
+      record { kept = λ n. h .kept (sym is ∙ n); fresh = λ t. h .fresh (sym is ∙ t) }
 
   guarded : Guarded (receiveOf s cal meas b)
   guarded = guarded-by (received s cal meas b c)

@@ -7,6 +7,7 @@ use mathlib.Core.Bool.{Bool, true, false, cond}
 use mathlib.Core.Option.{Option, none, some}
 use mathlib.Core.List.{List}
 use native.Mathlib.Omega.{arith}
+use borrow.Author.Tests.{ne-eqb}
 use lib.Dec.{ltb}
 use lib.ListN.{length}
 use Rattle.line.specs.declared.Outcome.{Outcome}
@@ -29,7 +30,7 @@ use Rattle.words.specs.declared.Received.{Received}
 use Rattle.words.specs.declared.Received.the-variants.{Nothing, Silent, BadLength, BadEscape, BadChecksum, Unread, CutOff}
 use Rattle.look.proofs.Looked.{judged-doable}
 use Rattle.fields.proofs.Effects.{after-answer}
-use Rattle.demands.specs.Heard.{packetBy, packetEnded, readBy, Commands, deedIn, answerTo, deedBy, heeds, doneAt}
+use Rattle.demands.specs.Heard.{packetBy, packetEnded, readBy, Commands, deedIn, answerTo, deedBy, heeds, doneAt, ofAnswered}
 use Rattle.demands.proofs.Judged.{Found, judged}
 use Rattle.demands.proofs.ReadBy.{waits-shown, Roomy, read-roomy, read-length, read-session, read-answer}
 
@@ -153,6 +154,14 @@ pub done-answer : (s cal meas : List ℕ) (b : ℕ) (d : Deed) (n : ℕ) → con
 unfolding viewOf
 done-answer s cal meas b d n c can =
     after-answer d (readBy s b) cal meas n (read-length s b c) can ∙ ap (λ (x : Session). replyIn d x cal meas) (read-session s b c)
+
+-- a test of the command and of its answer: where nothing is done it fails, and where a deed is done it is of that packet and that answer
+pub resting : (test : List ℕ → List ℕ → Bool) (s cal : List ℕ) (b : ℕ) (r : Received) → receivedNumber r ≢ 1 → ofAnswered test (only r (readBy s b) cal) s b ≡ false
+resting test s cal b r n = rw (ne-eqb (receivedNumber r) 1 n)
+
+pub acting : (test : List ℕ → List ℕ → Bool) (s cal meas : List ℕ) (b : ℕ) (d : Deed) (p : List ℕ) → packetEnded s b ≡ some p
+    → ofAnswered test (obeyed d p (readBy s b) cal meas) s b ≡ test p (viewOf (after d (readBy s b) cal meas) .answer)
+acting test s cal meas b d p e = rw e
 
 pub command-answer : (s cal meas : List ℕ) (b : ℕ) (p : List ℕ) → consistent s ≡ true → Commands s b p
     → viewOf (receiveOf s cal meas b .state) .answer ≡ answerTo p (sessionOf s) cal meas

@@ -4,22 +4,18 @@ use Prim.Native.Nat.{ℕ, suc, _+_, _≤_, _<_}
 use mathlib.Core.Path.{_≡_, refl, sym, ap, subst, _∙_}
 use mathlib.Core.Logic.{_≢_}
 use mathlib.Core.Bool.{Bool, true, false, cond}
-use mathlib.Core.Option.{Option, some}
+use mathlib.Core.Option.{Option}
 use mathlib.Core.List.{List, [], _∷_}
 use native.Mathlib.Omega.{arith}
-use borrow.Author.Tests.{eqb-true, ne-eqb, leb-false}
+use borrow.Author.Tests.{eqb-true, leb-false}
 use lib.Dec.{eqb}
 use lib.ListN.{length}
 use Rattle.line.proofs.Laws.{cond-ind}
 use Rattle.line.proofs.Stuffed.{false-true}
 use Rattle.state.specs.Layout.{size}
-use Rattle.state.specs.Generator.{staysShut}
-use Rattle.state.specs.State.{consistent, wrongKeysOf, seedOf}
-use Rattle.words.specs.Number.{receivedNumber}
-use Rattle.words.specs.declared.Received.{Received}
+use Rattle.state.specs.State.{consistent, wrongKeysOf}
 use Rattle.words.specs.declared.Resource.{Resource}
 use Rattle.words.specs.declared.Resource.the-variants.{Calibration}
-use Rattle.words.specs.declared.Seed.{Seed}
 use Rattle.words.specs.declared.Seed.the-variants.{None, For}
 use Rattle.session.specs.Perform.{after}
 use Rattle.session.specs.PowerUp.{powered}
@@ -37,17 +33,17 @@ use Rattle.fields.proofs.Kept.{power-consistent}
 use Rattle.views.proofs.Calls.{powered-wrongKeys}
 use Rattle.views.proofs.WrongKeys.{one-more, short-judged, shut-judged, seedless-judged, told-wrong}
 use Rattle.demands.specs.Slave.{ours}
-use Rattle.demands.specs.Heard.{packetEnded, readBy, Commands, deedIn, wrongKey}
+use Rattle.demands.specs.Heard.{readBy, Commands, deedIn, wrongKey}
 use Rattle.demands.specs.Life.{Device, Moment, PowerOn, Hears, Samples, Serves, passed, lived, OfBytes}
 use Rattle.demands.specs.Demand2.{shut, RightKeyEnds, Keyless}
 use Rattle.demands.specs.StaysShut.{saysWrong, judgedWrong, wrongAt, wrongIn, PoweredOn, StaysShut}
 use Rattle.demands.proofs.ReadBy.{read-session}
-use Rattle.demands.proofs.Received.{Does, Reads, rests, acts, received, done-answer, command-answer}
+use Rattle.demands.proofs.Received.{Does, Reads, rests, acts, received, done-answer, resting, acting, command-answer}
 use Rattle.demands.proofs.Refusals.{keyed, Wrong, wrong-by}
 use Rattle.demands.proofs.ByteKeeps.{done-steps}
 use Rattle.demands.proofs.Keys.{event-alike, slot-alike}
 use Rattle.demands.proofs.Numbering.{power-up-is}
-use Rattle.demands.proofs.Life.{passed-kept, life-kept}
+use Rattle.demands.proofs.Life.{passed-kept}
 use Rattle.demands.proofs.Opening.{opens-by-key, shut-locked, life-keyless}
 
 -- ---- a deed that is done: a wrong key is answered FE 25 to UNLOCK, and nothing else is
@@ -125,12 +121,9 @@ module _ (s cal meas : List ℕ) (b : ℕ) (c : consistent s ≡ true) where
     locked : judgedWrong o s b ≡ true → (r : Resource) → sessionOf (o .state) .unlocked r ≡ false
     same : judgedWrong o s b ≡ false → sessionOf (o .state) .wrongKeys ≡ sessionOf s .wrongKeys
 
-  resting : (r : Received) → receivedNumber r ≢ 1 → judgedWrong (only r (readBy s b) cal) s b ≡ false
-  resting r n = rw (ne-eqb (receivedNumber r) 1 n)
-
   module _ (d : Deed) (p : List ℕ) (w : Does s cal meas b d p) where
-    acting : judgedWrong (obeyed d p (readBy s b) cal meas) s b ≡ saysWrong p (replyIn d (sessionOf s) cal meas)
-    acting = rw (w .ended) (ap (saysWrong p) (done-answer s cal meas b d (length p) c (w .can)))
+    answers : judgedWrong (obeyed d p (readBy s b) cal meas) s b ≡ saysWrong p (replyIn d (sessionOf s) cal meas)
+    answers = acting saysWrong s cal meas b d p (w .ended) ∙ ap (saysWrong p) (done-answer s cal meas b d (length p) c (w .can))
 
     is-wrong : saysWrong p (replyIn d (sessionOf s) cal meas) ≡ true → d ≡ WrongKey
     is-wrong t = go (sessionOf s .opened) refl where
@@ -159,17 +152,19 @@ module _ (s cal meas : List ℕ) (b : ℕ) (c : consistent s ≡ true) where
     wrong-locked e r = ap (λ (f : Resource → Bool). f r) (done-steps s cal meas b c d p w .unlocked ∙ ap (λ (x : Deed). stepIn x (sessionOf s) .unlocked) e)
 
   counted-by : {o : Step} {x : Option Deed} → Reads s cal meas b o x → Counted o
-  counted-by (rests r n f) = record {
-    few = λ t. absurd (false-true (sym (resting r n) ∙ t));
-    more = λ t. absurd (false-true (sym (resting r n) ∙ t));
-    locked = λ t. absurd (false-true (sym (resting r n) ∙ t));
-    same = λ _. ap (λ (x : Session). x .wrongKeys) (read-session s b c);
-  }
+  counted-by (rests r n f) =
+      let still : judgedWrong (only r (readBy s b) cal) s b ≡ false = resting saysWrong s cal b r n in
+      record {
+        few = λ t. absurd (false-true (sym still ∙ t));
+        more = λ t. absurd (false-true (sym still ∙ t));
+        locked = λ t. absurd (false-true (sym still ∙ t));
+        same = λ _. ap (λ (x : Session). x .wrongKeys) (read-session s b c);
+      }
   counted-by (acts d p w) = record {
-    few = λ t. wrong-few d p w (is-wrong d p w (sym (acting d p w) ∙ t));
-    more = λ t. wrong-more d p w (is-wrong d p w (sym (acting d p w) ∙ t));
-    locked = λ t. wrong-locked d p w (is-wrong d p w (sym (acting d p w) ∙ t));
-    same = λ f. done-steps s cal meas b c d p w .wrongKeys ∙ step-count d (sessionOf s) (not-wrong d p w (sym (acting d p w) ∙ f));
+    few = λ t. wrong-few d p w (is-wrong d p w (sym (answers d p w) ∙ t));
+    more = λ t. wrong-more d p w (is-wrong d p w (sym (answers d p w) ∙ t));
+    locked = λ t. wrong-locked d p w (is-wrong d p w (sym (answers d p w) ∙ t));
+    same = λ f. done-steps s cal meas b c d p w .wrongKeys ∙ step-count d (sessionOf s) (not-wrong d p w (sym (answers d p w) ∙ f));
   }
 
   counted : Counted (receiveOf s cal meas b)

@@ -10,7 +10,8 @@ use Rattle.line.specs.declared.Outcome.{Outcome}
 use Rattle.line.specs.declared.Outcome.the-variants.{Nothing, Good, BadLength, BadEscape, BadChecksum, CutOff, ShortBuffer}
 use Rattle.state.specs.Bytes.{block, u32At}
 use Rattle.state.specs.Generator.{keyOf}
-use Rattle.session.specs.Receive.{fedOf, readOn}
+use Rattle.session.specs.Receive.{Step, fedOf, readOn}
+use Rattle.words.specs.Number.{receivedNumber}
 use Rattle.model.specs.Model.{byte, Session, Slave, hasAnswer}
 use Rattle.model.specs.Judge.{judgeIn}
 use Rattle.model.specs.Heed.{Heeding, Dropped, Obeyed, Ignored, heedingIn}
@@ -65,6 +66,14 @@ heeds (some p) v nc nm = deedBy (heedingIn (hasAnswer v) p (v .session) nc nm)
 
 abbrev pub doneAt : List ℕ → List ℕ → List ℕ → ℕ → Option Deed
 doneAt s cal meas b = heeds (packetEnded s b) (viewOf s) (length cal) (length meas)
+
+-- ---- a test of the command that byte b ended and of its answer, by what the call did; of no other byte it holds
+abbrev pub ofEnded : (List ℕ → List ℕ → Bool) → Option (List ℕ) → List ℕ → Bool
+ofEnded test none answer = false
+ofEnded test (some p) answer = test p answer
+
+abbrev pub ofAnswered : (List ℕ → List ℕ → Bool) → Step → List ℕ → ℕ → Bool
+ofAnswered test o s b = cond (eqb (receivedNumber (o .received)) 1) (ofEnded test (packetEnded s b) (viewOf (o .state) .answer)) false
 
 -- ---- keys: UNLOCK with four key bytes, for the seed that is out
 unfoldable pub bringsKey : List ℕ → Bool

@@ -2,29 +2,21 @@
 -- all of them as in a fresh one. Samples come and go by events and slots.
 use Prim.Native.Nat.{ℕ, _<_}
 use mathlib.Core.Path.{_≡_}
-use mathlib.Core.Bool.{Bool, true, false, cond}
-use mathlib.Core.Option.{Option, none, some}
+use mathlib.Core.Bool.{Bool, true, false}
 use mathlib.Core.List.{List}
-use lib.Dec.{eqb}
 use Rattle.state.specs.State.{consistent}
-use Rattle.words.specs.Number.{receivedNumber}
 use Rattle.words.specs.declared.Resource.the-variants.{Lists}
 use Rattle.session.specs.Receive.{Step}
 use Rattle.model.specs.Model.{Bytes}
 use Rattle.views.specs.Commands.{Fresh}
 use Rattle.views.specs.Locked.{SettingsKept, endsSession}
-use Rattle.model.specs.View.{sessionOf, viewOf}
+use Rattle.model.specs.View.{sessionOf}
 use Rattle.demands.specs.Slave.{AnySlave}
-use Rattle.demands.specs.Heard.{packetEnded}
-
--- a packet, if one ended, with that answer
-abbrev pub endsBy : Option (List ℕ) → List ℕ → Bool
-endsBy none answer = false
-endsBy (some p) answer = endsSession p answer
+use Rattle.demands.specs.Heard.{ofAnswered}
 
 -- byte b ends a command that is answered, and that ends or renews the session
 abbrev pub endsAt : Step → List ℕ → ℕ → Bool
-endsAt o s b = cond (eqb (receivedNumber (o .received)) 1) (endsBy (packetEnded s b) (viewOf (o .state) .answer)) false
+endsAt = ofAnswered endsSession
 
 pub record ListsLocked (v : AnySlave) : Type 0 where
   -- a byte, while lists are locked or no session is open

@@ -2,33 +2,26 @@
 use Prim.Native.Nat.{ℕ, suc, _+_, _≤_, _<_}
 use mathlib.Core.Path.{_≡_}
 use mathlib.Core.Bool.{Bool, true, false, cond}
-use mathlib.Core.Option.{Option, none, some}
 use mathlib.Core.List.{List, [], _∷_}
 use lib.Dec.{eqb}
 use lib.ListN.{length}
 use Rattle.state.specs.Layout.{size}
 use Rattle.state.specs.State.{consistent}
-use Rattle.words.specs.Number.{receivedNumber}
 use Rattle.words.specs.declared.Resource.{Resource}
 use Rattle.session.specs.Receive.{Step}
 use Rattle.model.specs.Model.{byte}
 use Rattle.model.specs.View.{sessionOf, viewOf}
 use Rattle.demands.specs.Slave.{AnySlave}
-use Rattle.demands.specs.Heard.{packetEnded, Commands}
+use Rattle.demands.specs.Heard.{Commands, ofAnswered}
 use Rattle.demands.specs.Life.{Device, Moment, PowerOn, Hears, Samples, Serves, passed, lived}
 
 -- ---- a key is judged wrong: UNLOCK is answered FE 25
 abbrev pub saysWrong : List ℕ → List ℕ → Bool
 saysWrong p answer = cond (eqb (byte p 0) 0xF7) (cond (eqb (byte answer 0) 0xFE) (eqb (byte answer 1) 0x25) false) false
 
--- a packet, if one ended, with that answer
-abbrev pub saysWrongTo : Option (List ℕ) → List ℕ → Bool
-saysWrongTo none answer = false
-saysWrongTo (some p) answer = saysWrong p answer
-
--- by what the call with byte b did
+-- so it is at byte b
 abbrev pub judgedWrong : Step → List ℕ → ℕ → Bool
-judgedWrong o s b = cond (eqb (receivedNumber (o .received)) 1) (saysWrongTo (packetEnded s b) (viewOf (o .state) .answer)) false
+judgedWrong = ofAnswered saysWrong
 
 -- ---- how many keys have been judged wrong since the last power-up: once a moment has passed, and once a life has, with n of them before it
 abbrev pub wrongAt : AnySlave → Device → Moment → ℕ → ℕ

@@ -9,11 +9,11 @@ use lib.ListN.{length, getD, set, length-take}
 use Rattle.model.specs.Answers.{replyIn}
 use Rattle.model.specs.View.{sessionOf}
 use Rattle.line.proofs.Laws.{cond-ind}
-use Rattle.state.specs.Layout.{size, generatorAt, ctrAt, sessionAt, seedAt, mtaAt, modeAt, selectedAt, runningAt, entriesAt, entryAt, sampleAt, firstOdt, odtCount, listOf, lists, entryCount, allOdts, packetMost, uploadMost, listSize, entrySize, odtSize}
+use Rattle.state.specs.Layout.{size, generatorAt, ctrAt, sessionAt, modeAt, selectedAt, runningAt, entriesAt, entryAt, sampleAt, firstOdt, odtCount, listOf, lists, entryCount, allOdts, packetMost, uploadMost, listSize, entrySize, odtSize}
 use Rattle.state.specs.Bytes.{block, cleared}
 use Rattle.state.specs.Generator.{nextOf}
 use Rattle.state.specs.Memory.{pick}
-use Rattle.state.specs.State.{flagOf, generatorOf, setGenerator, lockAt, setSeed, setMta, setPointer, closed, placeOf, messageOf, waits, answerOf}
+use Rattle.state.specs.State.{flagOf, generatorOf, setGenerator, lockAt, setMta, setPointer, closed, placeOf, messageOf, waits, answerOf}
 use Rattle.lists.specs.Lists.{runsOf, dropped, switched, listCleared, modeSet, tagOf, entryCleared, entrySet, stopEach, startOne, startSelected, stopSelected}
 use Rattle.judge.specs.Doable.{Doable}
 use Rattle.model.specs.Step.{nextEntry}
