@@ -42,7 +42,8 @@ numbersOf p = record {
   d4 = u32At p 4;
 }
 
--- wrong keys since power-up; calibration and lists are unlocked; the list that w2 names runs, and it could be started; the pointer's list runs; every selected list could be started
+-- wrong keys since power-up; calibration and lists are unlocked; the list that w2 names runs, and it could be started; the pointer's list runs; every
+-- selected list could be started
 pub record Seen : Type 0 where
   pub wrongKeys : ℕ
   pub calibration : Bool

@@ -1,6 +1,6 @@
 -- Wrong slaves, to be shut out by name: each is ours but for one thing.
 use Prim.Native.Nat.{ℕ, zero, suc, _+_, _%_}
-use mathlib.Core.Bool.{Bool, true, cond}
+use mathlib.Core.Bool.{Bool, true, false, cond}
 use mathlib.Core.Option.{Option, none, some}
 use mathlib.Core.List.{List, [], _∷_, _++_}
 use lib.Dec.{eqb, ltb}
@@ -208,6 +208,9 @@ uncounted o = record { received = o .received; state = set (o .state) wrongKeysA
 abbrev pub connectClears : AnySlave
 connectClears = heeding (λ p s cal meas. cond (goodConnect p) (uncounted (heeded p s cal meas)) (heeded p s cal meas))
 
--- after three wrong keys GET_SEED is answered 25 before its length is looked at
+-- after three wrong keys GET_SEED, of whatever length, is answered 25
+abbrev pub asksInVain : List ℕ → List ℕ → Bool
+asksInVain p s = cond (eqb (getD p 0 0) 0xF8) (cond (openOf s) (staysShut (wrongKeysOf s)) false) false
+
 abbrev pub shutsFirst : AnySlave
-shutsFirst = heeding (λ p s cal meas. cond (eqb (getD p 0 0) 0xF8) (cond (openOf s) (cond (staysShut (wrongKeysOf s)) (obeyed (Refuse Locked) p s cal meas) (heeded p s cal meas)) (heeded p s cal meas)) (heeded p s cal meas))
+shutsFirst = heeding (λ p s cal meas. cond (asksInVain p s) (obeyed (Refuse Locked) p s cal meas) (heeded p s cal meas))

@@ -8,8 +8,8 @@ use Rattle.line.specs.declared.Place.the-variants.{Outside}
 use Rattle.model.specs.Model.{Slave}
 use Rattle.views.specs.Commands.{Fresh}
 
--- no session is open; the generator has its start, of which 0 becomes the default; no key was wrong; the CTR is 0, list 3 counts as last served, the last frame as no
--- answer; no answer waits, and the reader waits for SYNC
+-- no session is open; the generator has its start, of which 0 becomes the default; no key was wrong; the CTR is 0, list 3 counts as last served, the
+-- last frame as no answer; no answer waits, and the reader waits for SYNC
 pub record PowerUpLeaves (start : ℕ) (v : Slave) : Type 0 where
   pub closed : v .session .opened ≡ false
   pub fresh : Fresh (v .session) (v .session)
