@@ -16,7 +16,7 @@
  * Seed and key are a guard against mistakes. They are no security: who listens can compute the key.
  *
  * The longest call is xcp_receive_byte at the last byte of BUILD_CHECKSUM: it reads up to 4,096
- * bytes of memory, which takes up to 4,998 instructions on a Cortex-M4 (-Os); no other call takes
+ * bytes of memory, which takes up to 4,997 instructions on a Cortex-M4 (-Os); no other call takes
  * 2,000. Let the ring buffer hold what can arrive in that time. Bytes lost there are damage on the
  * line like any other: the message is dropped, as far as one checksum byte can tell.
  *
