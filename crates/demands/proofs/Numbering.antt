@@ -7,22 +7,19 @@ use native.Mathlib.Omega.{arith}
 use native.Mathlib.Nat.{lt-of-not-le, mod-eq-of-lt, mod-add-mod}
 use native.Mathlib.Decide.{decLe}
 use borrow.Author.Tests.{lt-ltb, le-ltb, eq-eqb}
-use lib.Dec.{lit≤}
-use lib.ListN.{length, replicate}
-use lib.Seq.{getD-set-other}
+use lib.Dec.{lit<}
+use lib.ListN.{length}
 use Rattle.line.specs.Message.{room, frame}
-use Rattle.state.specs.Layout.{size, mark, generatorAt, ctrAt, servedAt, lastList}
-use Rattle.state.specs.Bytes.{put32}
-use Rattle.state.specs.State.{consistent, setGenerator, ctrOf}
-use Rattle.state.specs.Generator.{startOf}
+use Rattle.state.specs.Layout.{size, ctrAt}
+use Rattle.state.specs.State.{consistent}
 use Rattle.session.specs.Receive.{receiveOf}
 use Rattle.lists.specs.Event.{eventOf}
 use Rattle.lists.specs.Slot.{slotOf}
 use Rattle.session.specs.PowerUp.{powered, powerUpOf}
 use Rattle.model.specs.declared.Turn.{Turn}
 use Rattle.model.specs.declared.Turn.the-variants.{Nobody, Answer, Packet}
-use Rattle.fields.proofs.Stores.{put32-out}
 use Rattle.fields.proofs.Kept.{power-consistent, receive-kept, event-kept, slot-kept}
+use Rattle.views.proofs.Calls.{powered-nought}
 use Rattle.model.specs.Model.{Slave}
 use Rattle.model.specs.Calls.{turnIn, packetFor}
 use Rattle.model.specs.View.{viewOf}
@@ -89,15 +86,9 @@ frames-numbered s cs h k = numbers-on (viewOf s .ctr) cs 0 s h (sym (low (viewOf
   low n l = let e : n + 0 ≡ n = omega arith in rw e (mod-eq-of-lt l)
 
 -- power-up begins with CTR 0
-blank-ctr : ctrOf (put32 (replicate size 0) 0 mark) ≡ 0
-unfolding put32
-blank-ctr = refl
-
 pub power-ctr : (start : ℕ) → viewOf (powered start) .ctr ≡ 0
-unfolding viewOf powered setGenerator
-power-ctr start =
-    let blank : List ℕ = put32 (replicate size 0) 0 mark in
-    getD-set-other (put32 blank generatorAt (startOf start)) servedAt ctrAt lastList 0 (omega arith) ∙ put32-out blank generatorAt ctrAt generatorAt (startOf start) ctrAt (lit≤ tt) (lit≤ tt) tt ∙ blank-ctr
+unfolding viewOf
+power-ctr start = powered-nought start ctrAt tt tt (λ e. omega arith) (lit< tt)
 
 pub power-up-is : (s : List ℕ) (start : ℕ) → length s ≡ size → powerUpOf s start .state ≡ powered start
 unfolding powerUpOf

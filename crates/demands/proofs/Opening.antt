@@ -6,15 +6,11 @@ use mathlib.Core.Bool.{Bool, true, false, cond}
 use mathlib.Core.Option.{Option}
 use mathlib.Core.List.{List, [], _∷_}
 use native.Mathlib.Omega.{arith}
-use lib.Dec.{lit≤}
-use lib.ListN.{getD, replicate}
-use lib.Seq.{getD-set-other}
+use lib.Dec.{lit<}
 use Rattle.line.proofs.Laws.{cond-ind}
 use Rattle.line.proofs.Stuffed.{false-true}
-use Rattle.state.specs.Layout.{size, mark, markAt, generatorAt, ctrAt, servedAt, lastList, openAt}
-use Rattle.state.specs.Bytes.{put32}
-use Rattle.state.specs.Generator.{startOf}
-use Rattle.state.specs.State.{consistent, flagOf, setGenerator}
+use Rattle.state.specs.Layout.{openAt}
+use Rattle.state.specs.State.{consistent, flagOf}
 use Rattle.model.specs.Model.{Session}
 use Rattle.model.specs.Step.{stepIn}
 use Rattle.model.specs.View.{sessionOf}
@@ -28,7 +24,7 @@ use Rattle.words.specs.declared.Resource.the-variants.{Calibration, Lists}
 use Rattle.model.specs.declared.Deed.{Deed}
 use Rattle.model.specs.declared.Deed.the-variants.{Refuse, RefuseSize, WrongKey, Connect, Disconnect, Status, Synch, NoSeed, GiveSeed, Unlock, SetMta, Upload, Checksum, Download, ClearList, SetPointer, ClearEntry, WriteEntry, SetMode, Stop, Start, KeepRunning, Select, StopAll, StartSelected, StopSelected, ProcessorInfo, ResolutionInfo}
 use Rattle.state.proofs.Consistent.{consistent-size}
-use Rattle.fields.proofs.Stores.{put32-out}
+use Rattle.views.proofs.Calls.{powered-nought}
 use Rattle.demands.specs.Heard.{readBy}
 use Rattle.demands.specs.Life.{Device, Moment, PowerOn, Hears, Samples, Serves, passed, lived, OfByte, OfBytes}
 use Rattle.demands.specs.Demand2.{shut, RightKeyEnds, Keyless}
@@ -138,19 +134,9 @@ byte-shut s cal meas b c h none = go (sessionOf s .opened) (sessionOf s .unlocke
   go false u t x y z q = closed-by c x h (received s cal meas b c)
 
 -- power-up shuts it
-blank-open : getD (put32 (replicate size 0) markAt mark) openAt 0 ≡ 0
-unfolding put32
-blank-open = refl
-
-power-open : (start : ℕ) → getD (powered start) openAt 0 ≡ 0
-unfolding powered setGenerator
-power-open start =
-    let blank : List ℕ = put32 (replicate size 0) markAt mark in
-    getD-set-other (put32 blank generatorAt (startOf start)) servedAt openAt lastList 0 (omega arith) ∙ put32-out blank generatorAt ctrAt generatorAt (startOf start) openAt (lit≤ tt) (lit≤ tt) tt ∙ blank-open
-
 power-shut : (start : ℕ) → shut (sessionOf (powered start)) ≡ true
 unfolding sessionOf flagOf
-power-shut start = rw (power-open start)
+power-shut start = rw (powered-nought start openAt tt tt (λ e. omega arith) (lit< tt))
 
 passed-shut : (h : Device) (m : Moment) → consistent (h .state) ≡ true → shut (sessionOf (h .state)) ≡ true → OfByte Keyless h m → shut (sessionOf (passed ours h m .state)) ≡ true
 passed-shut h (PowerOn start) c e k = rw (power-up-is (h .state) start (consistent-size (h .state) c)) (power-shut start)

@@ -63,13 +63,15 @@ pointer-same s (Entry k e) h l =
     simp (m, odt, entry, back, ne-eqb (k + 1) 0 (omega arith), le-ltb allOdts (k + 1) (omega arith), lt-leb (entryCount k) e (l .1))
 
 -- the count of wrong keys is never above 3, also with one more
+capped : (n m : ℕ) → (n < wrongMost → m ≤ wrongMost) → cond (staysShut n) wrongMost m ≤ wrongMost
+capped n m f = cond-ind (λ (x : ℕ). x ≤ wrongMost) (staysShut n) (λ _. lit≤ tt) (λ b. f (leb-false wrongMost n b))
+
 pub wrongKeys-few : (s : List ℕ) → wrongKeysOf s ≤ wrongMost
 unfolding wrongKeysOf
-wrongKeys-few s =
-    cond-ind (λ (n : ℕ). n ≤ wrongMost) (staysShut (getD s wrongKeysAt 0)) (λ _. lit≤ tt) (λ b. let few : getD s wrongKeysAt 0 < wrongMost = leb-false wrongMost _ b in omega arith)
+wrongKeys-few s = capped (getD s wrongKeysAt 0) (getD s wrongKeysAt 0) (λ few. omega arith)
 
 pub more-few : (n : ℕ) → oneWrongMore n ≤ wrongMost
-more-few n = cond-ind (λ (m : ℕ). m ≤ wrongMost) (staysShut n) (λ _. lit≤ tt) (λ b. let few : n < wrongMost = leb-false wrongMost n b in omega arith)
+more-few n = capped n (n + 1) (λ few. omega arith)
 
 -- such a count reads as it was set
 count-reads : (s : List ℕ) (n : ℕ) → getD s wrongKeysAt 0 ≡ n → n ≤ wrongMost → wrongKeysOf s ≡ n

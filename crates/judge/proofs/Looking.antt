@@ -1,13 +1,11 @@
 -- A verdict rests on no byte behind a packet's end, and on nothing of a list that there is not. Assumes nothing.
 use mathlib.Core.Path.{_≡_, refl, ap, _∙_}
 use mathlib.Core.Bool.{Bool, true, false, cond}
-use Prim.Native.Nat.{ℕ, _+_, _≤_, _<_}
+use Prim.Native.Nat.{ℕ, _≤_, _<_}
 use native.Mathlib.Omega.{arith}
 use borrow.Author.Tests.{ltb-false, leb-false}
 use lib.Dec.{eqb, ltb, leb}
-use Rattle.line.proofs.Laws.{cond-ind}
 use Rattle.state.specs.Layout.{lists}
-use Rattle.state.specs.Generator.{keyOf}
 use Rattle.words.specs.Command.{fewest, needsOf}
 use Rattle.words.specs.declared.Command.{Command}
 use Rattle.words.specs.declared.Command.the-variants.{Unknown, Connect, Disconnect, GetStatus, Synch, GetSeed, Unlock, SetMta, Upload, ShortUpload, BuildChecksum, Download, ClearDaqList, SetDaqPtr, WriteDaq, SetDaqListMode, StartStopDaqList, StartStopSynch, GetDaqProcessorInfo, GetDaqResolutionInfo}
@@ -16,7 +14,7 @@ use Rattle.words.specs.declared.Needs.the-variants as needs
 use Rattle.words.specs.declared.Resource.the-variants.{Calibration, Lists}
 use Rattle.words.specs.declared.Seed.{Seed}
 use Rattle.words.specs.declared.Seed.the-variants.{None, For}
-use Rattle.model.specs.Judge.{unlockBy, clearDeed, modeDeed, startDeed, startStopDeed, synchDeed, lockedBy, judgeThe, judgeBy}
+use Rattle.model.specs.Judge.{unlockBy, clearDeed, modeDeed, startStopDeed, synchDeed, lockedBy, judgeThe, judgeBy}
 use Rattle.model.specs.Seen.{Packet, Seen}
 use Rattle.words.specs.declared.Reason.the-variants.{TooShort, Locked}
 use Rattle.model.specs.declared.Deed.{Deed}

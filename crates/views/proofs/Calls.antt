@@ -307,7 +307,7 @@ module _ (start : ℕ) where
       ∙ generator-same marked (startOf start) long-marked (start-fits start low) ∙ start-same (startOf start) (start-some start)
 
   -- what is neither the mark, the generator nor the list served last
-  powered-nought : (j : ℕ) → T (out markAt generatorAt j) → T (out generatorAt wrongKeysAt j) → j ≢ servedAt → j < size → getD (powered start) j 0 ≡ 0
+  pub powered-nought : (j : ℕ) → T (out markAt generatorAt j) → T (out generatorAt wrongKeysAt j) → j ≢ servedAt → j < size → getD (powered start) j 0 ≡ 0
   unfolding powered
   powered-nought j p q n l =
       getD-set-other seeded servedAt j lastList 0 n ∙ only-generator marked (startOf start) .bytes j q

@@ -1,5 +1,6 @@
 //! What a command covers by the keys before it, which count across sessions until the next power-up.
 
+use super::named;
 use crate::tool::{CALIBRATION, LISTS};
 
 /// So many wrong ones, and it stays shut.
@@ -90,8 +91,7 @@ impl Keys {
     }
 
     pub fn cells(&self) -> Vec<(String, u64)> {
-        let names = NAMES.iter().map(|name| name.to_string());
-        names.zip(self.counts).collect()
+        named(&NAMES, &self.counts)
     }
 
     fn count(&mut self, case: Case) {

@@ -233,10 +233,6 @@ impl Seen {
         let numbers = |all: &[u64; 11], which: &[usize]| -> Vec<(String, u64)> {
             which.iter().map(|n| (n.to_string(), all[*n])).collect()
         };
-        let each = |names: &[usize], counts: &[u64]| -> Vec<(String, u64)> {
-            let names = names.iter().map(usize::to_string);
-            names.zip(counts.iter().copied()).collect()
-        };
         let rooms: Vec<usize> = (0..ROOMS).collect();
         vec![
             (
@@ -249,14 +245,14 @@ impl Seen {
             ("Frames of a slot", self.frames()),
             ("Frames with", self.oddities()),
             ("Numbers of a power-up", numbers(&self.power_up, &[0, 10])),
-            ("Room lent to a slot", each(&rooms, &self.room)),
+            ("Room lent to a slot", named(&rooms, &self.room)),
             ("Calibration bytes lent, and a block", self.blocks(0)),
             ("Measured bytes lent, and a block", self.blocks(1)),
             ("Sessions with", self.past.cells()),
             ("Lives with", self.keys.cells()),
             (
                 "Wrong sizes of the state",
-                each(&WRONG_SIZES, &self.wrong_size),
+                named(&WRONG_SIZES, &self.wrong_size),
             ),
             (
                 "Calls before any power-up",
@@ -264,6 +260,12 @@ impl Seen {
             ),
         ]
     }
+}
+
+/// What was counted, by name.
+fn named<N: ToString>(names: &[N], counts: &[u64]) -> Vec<(String, u64)> {
+    let names = names.iter().map(N::to_string);
+    names.zip(counts.iter().copied()).collect()
 }
 
 /// Few cells to a line keep the lines short.

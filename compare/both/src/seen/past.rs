@@ -1,5 +1,7 @@
 //! What a command covers by what came before it: a key that wraps, what a renewal has to forget.
 
+use super::named;
+
 /// A command that was taken, and what it met.
 pub struct Asked {
     pub packet: Vec<u8>,
@@ -117,8 +119,7 @@ impl Past {
     }
 
     pub fn cells(&self) -> Vec<(String, u64)> {
-        let names = NAMES.iter().map(|name| name.to_string());
-        names.zip(self.counts).collect()
+        named(&NAMES, &self.counts)
     }
 
     fn count(&mut self, case: Case) {
