@@ -131,7 +131,7 @@ reply-cut (Unlock r) long s cal meas o = refl
 reply-cut (SetMta e a) long s cal meas o = refl
 reply-cut (Upload e a n) long s cal meas o = rw (inside-cut e cal meas uploadMost a n o)
 reply-cut (Checksum e a n) long s cal meas o = rw (inside-cut e cal meas addressable a n o)
-reply-cut (Download a n) long s cal meas o = refl
+reply-cut (Download from a n) long s cal meas o = refl
 reply-cut (ClearList l) long s cal meas o = refl
 reply-cut (SetPointer k e) long s cal meas o = refl
 reply-cut (ClearEntry k e) long s cal meas o = refl
@@ -156,18 +156,18 @@ sets-front (x ∷ xs) l rest i h =
 whole : (cal : List ℕ) → cal ≡ front cal ++ drop addressable cal
 whole cal = sym (take-append-drop addressable cal)
 
-download-cut : (p cal : List ℕ) (a n : ℕ) → insideOf a n (length cal) ≡ true → sets cal a (block p 2 n) ≡ sets (front cal) a (block p 2 n) ++ drop addressable cal
+download-cut : (p cal : List ℕ) (from a n : ℕ) → insideOf a n (length cal) ≡ true → sets cal a (block p from n) ≡ sets (front cal) a (block p from n) ++ drop addressable cal
 unfolding insideOf
-download-cut p cal a n i =
-    let few : length (block p 2 n) ≤ n = rw length-take (min-le-left n (length (drop 2 p))) in
+download-cut p cal from a n i =
+    let few : length (block p from n) ≤ n = rw length-take (min-le-left n (length (drop from p))) in
     let h : a + n ≤ length (front cal) = rw (length-take, min-comm) (leb-true _ _ i) in
-    ap (λ (l : List ℕ). sets l a (block p 2 n)) (whole cal) ∙ sets-front (block p 2 n) (front cal) (drop addressable cal) a (omega arith)
+    ap (λ (l : List ℕ). sets l a (block p from n)) (whole cal) ∙ sets-front (block p from n) (front cal) (drop addressable cal) a (omega arith)
 
 written-cut : (d : Deed) (p cal : List ℕ) (nm : ℕ) → Doable d (length p) (length cal) nm → written d p cal ≡ written d p (front cal) ++ drop addressable cal
 unfolding writes
 written-cut d p cal nm =
     by-write (λ (e : Deed). Doable e (length p) (length cal) nm → written e p cal ≡ written e p (front cal) ++ drop addressable cal)
-    (λ e w o. rw w (whole cal)) (λ a n o. download-cut p cal a n (o .1 .1)) d
+    (λ e w o. rw w (whole cal)) (λ from a n o. download-cut p cal from a n (o .1 .1)) d
 
 -- ---- a received byte
 -- o is what is done on the first bytes alone, with the rest put back

@@ -4,13 +4,14 @@ use mathlib.Core.Path.{_≡_, refl}
 use mathlib.Core.Bool.{Bool}
 use mathlib.Core.List.{List}
 use lib.ListN.{getD}
-use Rattle.model.specs.Judge.{seenIn, judgeIn, extensionFrom, uploadDeed, shortUploadDeed, checksumDeed, downloadTo, downloadDeed, writeBlock, writeDeed, judgeThe, judgeBy, judge}
+use Rattle.model.specs.Judge.{seenIn, judgeIn, extensionFrom, uploadDeed, shortUploadDeed, checksumDeed, downloadTo, downloadDeed, shortDownloadDeed, writeBlock, writeDeed, judgeThe, judgeBy, judge}
 use Rattle.model.specs.View.{sessionOf}
+use Rattle.state.specs.Layout.{downloadFrom, shortDownloadFrom}
 use Rattle.state.specs.Bytes.{u16At}
 use Rattle.state.specs.Memory.{reach, pick, insideOf}
 use Rattle.words.specs.Command.{commandOf}
 use Rattle.words.specs.declared.Command.{Command}
-use Rattle.words.specs.declared.Command.the-variants.{Unknown, Connect, Disconnect, GetStatus, Synch, GetSeed, Unlock, SetMta, Upload, ShortUpload, BuildChecksum, Download, ClearDaqList, SetDaqPtr, WriteDaq, SetDaqListMode, StartStopDaqList, StartStopSynch, GetDaqProcessorInfo, GetDaqResolutionInfo}
+use Rattle.words.specs.declared.Command.the-variants.{Unknown, Connect, Disconnect, GetStatus, Synch, GetSeed, Unlock, SetMta, Upload, ShortUpload, BuildChecksum, Download, ShortDownload, ClearDaqList, SetDaqPtr, WriteDaq, SetDaqListMode, StartStopDaqList, StartStopSynch, GetDaqProcessorInfo, GetDaqResolutionInfo}
 use Rattle.words.specs.declared.Extension.{Extension}
 use Rattle.words.specs.declared.Extension.the-variants.{Calibration, Measured}
 use Rattle.words.specs.declared.Mta.{Mta}
@@ -48,15 +49,19 @@ module _ (nc nm nc′ nm′ : ℕ) (c : reach nc′ ≡ reach nc) (m : reach nm�
   checksum-cut Unset n = refl
   checksum-cut (At e a) n = rw (inside-cut e a n)
 
-  download-to-cut : (e : Extension) (a n : ℕ) → downloadTo e a n nc′ ≡ downloadTo e a n nc
+  download-to-cut : (from : ℕ) (e : Extension) (a n : ℕ) → downloadTo from e a n nc′ ≡ downloadTo from e a n nc
   unfolding downloadTo
-  download-to-cut Calibration a n = rw (inside-cal a n)
-  download-to-cut Measured a n = refl
+  download-to-cut from Calibration a n = rw (inside-cal a n)
+  download-to-cut from Measured a n = refl
 
   download-cut : (mta : Mta) (n long : ℕ) → downloadDeed mta n long nc′ ≡ downloadDeed mta n long nc
   unfolding downloadDeed
   download-cut Unset n long = refl
-  download-cut (At e a) n long = rw (download-to-cut e a n)
+  download-cut (At e a) n long = rw (download-to-cut downloadFrom e a n)
+
+  short-download-cut : (n ext a long : ℕ) → shortDownloadDeed n ext a long nc′ ≡ shortDownloadDeed n ext a long nc
+  unfolding shortDownloadDeed
+  short-download-cut n ext a long = rw (download-to-cut shortDownloadFrom (extensionFrom ext) a n)
 
   write-block-cut : (k e n : ℕ) (x : Extension) (a : ℕ) → writeBlock k e n x a (pick x nc′ nm′) ≡ writeBlock k e n x a (pick x nc nm)
   unfolding writeBlock
@@ -81,6 +86,7 @@ module _ (nc nm nc′ nm′ : ℕ) (c : reach nc′ ≡ reach nc) (m : reach nm�
   the-cut ShortUpload p v = short-upload-cut (p .b1) (p .b3) (p .d4)
   the-cut BuildChecksum p v = checksum-cut (v .mta) (p .d4)
   the-cut Download p v = download-cut (v .mta) (p .b1) (p .n)
+  the-cut ShortDownload p v = short-download-cut (p .b1) (p .b3) (p .d4) (p .n)
   the-cut ClearDaqList p v = refl
   the-cut SetDaqPtr p v = refl
   the-cut WriteDaq p v = write-cut (v .pointer) (v .pointed) (p .b1) (p .b2) (p .b3) (p .d4)

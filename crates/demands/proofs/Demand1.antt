@@ -2,7 +2,7 @@
 use lib.Seq.{sets, length-sets}
 use Rattle.fields.proofs.Stores.{out as outside}
 use Prim.{tt}
-use Prim.Native.Nat.{ℕ, _≤_, _<_, _+_}
+use Prim.Native.Nat.{ℕ, zero, suc, _≤_, _<_, _+_}
 use mathlib.Core.Path.{_≡_, refl, sym, ap, subst, _∙_}
 use mathlib.Core.Logic.{_≢_}
 use mathlib.Core.Bool.{true, false}
@@ -16,10 +16,10 @@ use Rattle.line.specs.Message.{most, room}
 use Rattle.line.specs.Writer.{Sent, writeOf}
 use Rattle.line.proofs.Laws.{cond-ind}
 use Rattle.line.proofs.Stuffed.{false-true}
-use Rattle.state.specs.Layout.{wrongKeysAt, placeAt, answerAt, size, sessionAt, sessionSize}
+use Rattle.state.specs.Layout.{wrongKeysAt, placeAt, answerAt, size, allOdts, sessionAt, sessionSize, sampleAt}
 use Rattle.state.specs.Bytes.{cleared}
 use Rattle.state.specs.Generator.{oneWrongMore}
-use Rattle.state.specs.State.{consistent, wrongKeysOf, countedWrong, ctrOf, closed, answerOf}
+use Rattle.state.specs.State.{consistent, wrongKeysOf, countedWrong, ctrOf, dropped, closed, answerOf}
 use Rattle.model.specs.Model.{byte}
 use Rattle.model.specs.View.{sessionOf, viewOf}
 use Rattle.session.specs.Perform.{effect, reply, after}
@@ -81,10 +81,15 @@ only-both {lo} {hi} {s} {t} i xs w = record { long = simp (length-sets, w .long)
 only-back : {lo hi : ℕ} {s t : List ℕ} → Only lo hi s t → Only lo hi t s
 only-back w = record { long = sym (w .long); bytes = λ j o. sym (w .bytes j o) }
 
+dropped-both : {lo hi : ℕ} {s t : List ℕ} (k n : ℕ) → Only lo hi s t → Only lo hi (dropped s k n) (dropped t k n)
+unfolding dropped
+dropped-both k zero w = w
+dropped-both k (suc n) w = only-both (sampleAt (k + n)) (0 ∷ []) (dropped-both k n w)
+
 -- what is alike outside the reader and the answer is so closed too
 closed-alike : {s t : List ℕ} → Only placeAt sessionAt s t → Only placeAt sessionAt (closed s) (closed t)
 unfolding closed cleared
-closed-alike w = only-both sessionAt (replicate sessionSize 0) w
+closed-alike w = dropped-both 0 allOdts (only-both sessionAt (replicate sessionSize 0) w)
 
 -- but for the answer a wrong key leaves the closed session with itself counted
 wrong-only : (t cal meas : List ℕ) → Only answerAt sessionAt (countedWrong (closed t)) (after WrongKey t cal meas)

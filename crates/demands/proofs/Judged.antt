@@ -1,14 +1,14 @@
 -- What judging a command has found out of its packet and the session, by the deed that it leads to. Assumes nothing.
 use Prim.{tt}
-use Prim.Native.Nat.{ℕ, _^_, _≤_, _<_}
-use mathlib.Core.Path.{_≡_, refl, subst}
+use Prim.Native.Nat.{ℕ, _≤_, _<_}
+use mathlib.Core.Path.{_≡_, subst}
 use mathlib.Core.Bool.{true, false}
 use mathlib.Core.List.{List}
 use borrow.Author.Tests.{le-ltb}
 use lib.ListN.{length}
 use Rattle.model.specs.Judge.{pointedIn, seenIn, judgeIn, extensionFrom}
 use Rattle.model.specs.Model.{byte, Session, runsIn}
-use Rattle.state.specs.Layout.{entryMost, listOf}
+use Rattle.state.specs.Layout.{entryMost, addressable, listOf}
 use Rattle.state.specs.Bytes.{u16At, u32At}
 use Rattle.state.specs.Memory.{pick}
 use Rattle.words.specs.Command.{commandOf}
@@ -16,10 +16,8 @@ use Rattle.words.specs.declared.Command.{Command}
 use Rattle.words.specs.declared.Command.the-variants as command
 use Rattle.words.specs.declared.Resource.{Resource}
 use Rattle.words.specs.declared.Resource.the-variants.{Calibration}
-use Rattle.words.specs.declared.Extension.the-variants.{Calibration as CalibrationMemory}
 use Rattle.words.specs.declared.Seed.{Seed}
 use Rattle.words.specs.declared.Seed.the-variants.{For}
-use Rattle.words.specs.declared.Mta.the-variants.{At}
 use Rattle.words.specs.declared.Pointer.{Pointer}
 use Rattle.model.specs.declared.Deed.{Deed}
 use Rattle.model.specs.Seen.{numbersOf, Seen}
@@ -28,7 +26,7 @@ use Rattle.views.proofs.Fit.{entry-low}
 use Rattle.views.proofs.Stepped.{Entered}
 use Rattle.demands.specs.Heard.{bringsKey, keyMatches, wrongKeyBy, wrongKey}
 use Rattle.views.proofs.Coded.{Coded, coded}
-use Rattle.views.proofs.Verdict.{Keyed, Pointing, Verdict, refused, connects, disconnects, tells, synchs, no-seed, gives, unlocks, wrong, sets, uploads, shorts, no-size, sums, downloads, clears, points, zeroes, writes, modes, stops, starts, goes-on, selects, stops-all, starts-all, stops-some, processor, resolution, found}
+use Rattle.views.proofs.Verdict.{Keyed, Pointing, Verdict, refused, connects, disconnects, tells, synchs, no-seed, gives, unlocks, wrong, sets, uploads, shorts, no-size, sums, downloads, short-downloads, clears, points, zeroes, writes, modes, stops, starts, goes-on, selects, stops-all, starts-all, stops-some, processor, resolution, found}
 
 -- UNLOCK with the right key, for the seed that is out
 pub record RightKey (r : Resource) (p : List ℕ) (c : Session) : Type 0 where
@@ -36,20 +34,13 @@ pub record RightKey (r : Resource) (p : List ℕ) (c : Session) : Type 0 where
   pub key : bringsKey p ≡ true
   pub right : keyMatches p r c ≡ true
 
--- DOWNLOAD of n bytes to where the MTA is, with calibration unlocked
-pub record Downloading (a n : ℕ) (p : List ℕ) (c : Session) : Type 0 where
-  pub unlocked : c .unlocked Calibration ≡ true
-  pub place : c .mta ≡ At CalibrationMemory a
-  pub code : byte p 0 ≡ 0xF0
-  pub count : byte p 1 ≡ n
-
 -- WRITE_DAQ to an entry of a list that does not run; it fits in the bytes that it is stored in
 pub record Entering (k n a : ℕ) (c : Session) : Type 0 where
   pub still : runsIn c (listOf k) ≡ false
   pub few : n ≤ entryMost
-  pub low : a < 2 ^ 16
+  pub low : a < addressable
 
--- what was found of packet p and session c; the lists that are changed do not run
+-- what was found of packet p and session c; calibration is unlocked where it is written, and the lists that are changed do not run
 abbrev pub Found : Deed → List ℕ → Session → Type 0
 Found (Refuse r) p c = Unit
 Found RefuseSize p c = Unit
@@ -64,7 +55,7 @@ Found (Unlock r) p c = RightKey r p c
 Found (SetMta e a) p c = Unit
 Found (Upload e a n) p c = Unit
 Found (Checksum e a n) p c = Unit
-Found (Download a n) p c = Downloading a n p c
+Found (Download from a n) p c = c .unlocked Calibration ≡ true
 Found (ClearList l) p c = runsIn c l ≡ false
 Found (SetPointer k e) p c = Unit
 Found (ClearEntry k e) p c = runsIn c (listOf k) ≡ false
@@ -113,12 +104,13 @@ module _ (p : List ℕ) (c : Session) (nc nm : ℕ) where
   by-verdict _ _ code (shorts inside) = tt
   by-verdict _ _ code no-size = tt
   by-verdict _ _ code (sums x a there inside) = tt
-  by-verdict _ _ code (downloads a free there long inside) = record { unlocked = free; place = there; code = code; count = refl }
+  by-verdict _ _ code (downloads a free there long inside) = free
+  by-verdict _ _ code (short-downloads free named long inside) = free
   by-verdict _ _ code (clears free list still) = still
   by-verdict _ _ code (points free list odt entry) = tt
   by-verdict _ _ code (zeroes k e free w) = still-found k e w
-  by-verdict _ _ code (writes k e free w inside) =
-      record { still = still-found k e w; few = inside .0; low = entry-low (u32At p 4) (byte p 2) (pick (extensionFrom (byte p 3)) nc nm) (inside .1) }
+  by-verdict _ _ code (writes k e free w some inside) =
+      record { still = still-found k e w; few = inside .0; low = entry-low (u32At p 4) (byte p 2) (pick (extensionFrom (byte p 3)) nc nm) some (inside .1) }
   by-verdict _ _ code (modes free list event still) = still
   by-verdict _ _ code (stops free list) = tt
   by-verdict _ _ code (starts free list still) = still

@@ -57,9 +57,9 @@ pub life-locked : (h : Device) (ms : List Moment) → OfBytes WhileShut ours h m
 life-locked h [] u = refl
 life-locked h (m ∷ ms) u = life-locked (passed ours h m) ms (u .1) ∙ passed-locked h m (u .0)
 
--- ---- n bytes from a stay where no DOWNLOAD writes
+-- ---- n bytes from a stay where no DOWNLOAD or SHORT_DOWNLOAD writes
 abbrev Beside : ℕ → ℕ → Option Deed → Type 0
-Beside a n x = (at many : ℕ) → x ≡ some (Download at many) → (at + many ≤ a) ⊎ (a + n ≤ at)
+Beside a n x = (from at many : ℕ) → x ≡ some (Download from at many) → (at + many ≤ a) ⊎ (a + n ≤ at)
 
 record Leaves (a n : ℕ) (cal new : List ℕ) : Type 0 where
   long : length new ≡ length cal
@@ -72,18 +72,18 @@ module _ (a n : ℕ) where
   leaves-same : {cal new : List ℕ} → Same a (a + n) cal new → Leaves a n cal new
   leaves-same w = record { long = w .long; bytes = same-block a n (le-refl a) (le-refl (a + n)) w }
 
-  download-leaves : (at many : ℕ) (p cal : List ℕ) → (at + many ≤ a) ⊎ (a + n ≤ at) → Leaves a n cal (sets cal at (block p 2 many))
-  download-leaves at many p cal u =
-      let w : Only at (at + many) cal (sets cal at (block p 2 many)) = only-sets cal at (block p 2 many) (le-refl at) (omega (arith, few)) in
+  download-leaves : (from at many : ℕ) (p cal : List ℕ) → (at + many ≤ a) ⊎ (a + n ≤ at) → Leaves a n cal (sets cal at (block p from many))
+  download-leaves from at many p cal u =
+      let w : Only at (at + many) cal (sets cal at (block p from many)) = only-sets cal at (block p from many) (le-refl at) (omega (arith, few)) in
       ⊎-elim (λ h. leaves-same (behind h w)) (λ h. leaves-same (before h w)) u where
-        few : length (block p 2 many) ≤ many
+        few : length (block p from many) ≤ many
         few = rw length-take (omega arith)
 
   deed-leaves : (d : Deed) (p cal : List ℕ) → Beside a n (some d) → Leaves a n cal (written d p cal)
   unfolding writes
   deed-leaves d p cal =
       by-write (λ (e : Deed). Beside a n (some e) → Leaves a n cal (written e p cal))
-      (λ e w u. rw w leaves-all) (λ x m u. download-leaves x m p cal (u x m refl)) d
+      (λ e w u. rw w leaves-all) (λ from x m u. download-leaves from x m p cal (u from x m refl)) d
 
   byte-leaves : {s cal meas : List ℕ} {b : ℕ} {o : Step} {x : Option Deed} → Reads s cal meas b o x → Beside a n x → Leaves a n cal (o .cal)
   byte-leaves (rests r x f) u = leaves-all
@@ -102,16 +102,16 @@ module _ (a n : ℕ) where
       let later : Leaves a n (passed ours h m .cal) (lived ours h (m ∷ ms) .cal) = life-leaves (passed ours h m) ms (passed-kept h m c) (u .1) in
       record { long = later .long ∙ here .long; bytes = later .bytes ∙ here .bytes }
 
--- ---- so what DOWNLOAD wrote is given back
-pub gives-back-later : (h : Device) (meas : List ℕ) (b : ℕ) (p : List ℕ) (a n : ℕ) (between : List Moment) (meas′ : List ℕ) (c : ℕ) (q : List ℕ) → consistent (h .state) ≡ true
-    → Downloads (h .state) b p a n → viewOf (passed ours h (Hears meas b) .state) .answer ≡ 0xFF ∷ [] → OfBytes (Spares a n) ours (passed ours h (Hears meas b)) between
+-- ---- so what they wrote is given back
+pub gives-back-later : (h : Device) (meas : List ℕ) (b : ℕ) (p : List ℕ) (from a n : ℕ) (between : List Moment) (meas′ : List ℕ) (c : ℕ) (q : List ℕ) → consistent (h .state) ≡ true
+    → Downloads (h .state) b p from a n → viewOf (passed ours h (Hears meas b) .state) .answer ≡ 0xFF ∷ [] → OfBytes (Spares a n) ours (passed ours h (Hears meas b)) between
     → Uploads (lived ours (passed ours h (Hears meas b)) between .state) c q a n
-    → viewOf (passed ours (lived ours (passed ours h (Hears meas b)) between) (Hears meas′ c) .state) .answer ≡ 0xFF ∷ block p 2 n
-gives-back-later h meas b p a n between meas′ c q k down said clear up =
+    → viewOf (passed ours (lived ours (passed ours h (Hears meas b)) between) (Hears meas′ c) .state) .answer ≡ 0xFF ∷ block p from n
+gives-back-later h meas b p from a n between meas′ c q k down said clear up =
     let h₁ : Device = passed ours h (Hears meas b) in
     let h₂ : Device = lived ours h₁ between in
     let k₁ : consistent (h₁ .state) ≡ true = passed-kept h (Hears meas b) k in
-    let w : Wrote p a n (h .cal) (h₁ .cal) = downloaded (h .state) (h .cal) meas b p a n k down said in
+    let w : Wrote p from a n (h .cal) (h₁ .cal) = downloaded (h .state) (h .cal) meas b p from a n k down said in
     let l : Leaves a n (h₁ .cal) (h₂ .cal) = life-leaves a n h₁ between k₁ clear in
     uploaded (h₂ .state) (h₂ .cal) meas′ c q a n (life-kept h₁ between k₁) up (w .some) (w .few) (rw (l .long) (w .inside))
     ∙ ap (λ (x : List ℕ). 0xFF ∷ x) (l .bytes ∙ w .there)

@@ -31,7 +31,7 @@ use Rattle.demands.proofs.Refusals.{key-judged}
 locked-written : (d : Deed) (p : List ℕ) (c : Session) (cal : List ℕ) → Found d p c → c .unlocked Calibration ≡ false → written d p cal ≡ cal
 locked-written d p c cal =
     by-write (λ (e : Deed). Found e p c → c .unlocked Calibration ≡ false → written e p cal ≡ cal)
-    (λ e w f n. rw w) (λ a m f n. absurd (false-true (sym n ∙ f .unlocked))) d
+    (λ e w f n. rw w) (λ from a m f n. absurd (false-true (sym n ∙ f))) d
 
 connect-written : (d : Deed) (p cal : List ℕ) → d ≡ Connect → written d p cal ≡ cal
 unfolding writes

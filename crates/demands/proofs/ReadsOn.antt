@@ -1,11 +1,13 @@
--- SHORT_UPLOAD sets the MTA behind its block, and UPLOAD goes on there. Assumes nothing.
+-- SHORT_UPLOAD and SHORT_DOWNLOAD set the MTA behind their block, and UPLOAD goes on behind SHORT_UPLOAD. Assumes nothing.
 use Prim.{tt}
 use Prim.Native.Nat.{ℕ, _+_}
 use mathlib.Core.Path.{_≡_, refl, sym, ap, subst, _∙_}
+use mathlib.Core.Logic.{_⊎_, inl, inr}
 use mathlib.Core.Bool.{true}
-use mathlib.Core.List.{List, _∷_, _++_}
+use mathlib.Core.List.{List, _++_}
 use lib.ListN.{length, drop, take}
 use lib.Seq.{drop-drop, take-add}
+use Rattle.state.specs.Layout.{shortDownloadFrom}
 use Rattle.state.specs.Bytes.{block, u32At}
 use Rattle.state.specs.Memory.{pick}
 use Rattle.state.specs.State.{consistent}
@@ -15,8 +17,10 @@ use Rattle.model.specs.Step.{stepIn}
 use Rattle.model.specs.Answers.{replyIn}
 use Rattle.model.specs.View.{sessionOf, viewOf}
 use Rattle.model.specs.declared.Deed.{Deed}
-use Rattle.model.specs.declared.Deed.the-variants.{Upload}
+use Rattle.model.specs.declared.Deed.the-variants.{Upload, Download}
 use Rattle.words.specs.declared.Extension.{Extension}
+use Rattle.words.specs.declared.Extension.the-variants.{Calibration}
+use Rattle.words.specs.declared.Mta.{Mta}
 use Rattle.words.specs.declared.Mta.the-variants.{At}
 use Rattle.session.specs.Perform.{after}
 use Rattle.session.specs.Receive.{Step, receiveOf}
@@ -24,7 +28,8 @@ use Rattle.judge.specs.Doable.{Doable}
 use Rattle.look.proofs.Looked.{judged-doable}
 use Rattle.fields.proofs.Kept.{receive-kept}
 use Rattle.views.proofs.Done.{view-after}
-use Rattle.views.proofs.MemoryLaws.{Reading, Own, upload-reads, short-reads}
+use Rattle.views.proofs.Fit.{Fit}
+use Rattle.views.proofs.MemoryLaws.{Reading, Own, upload-reads, short-reads, short-loads}
 use Rattle.demands.specs.Slave.{ours}
 use Rattle.demands.specs.Runs.{Call, run}
 use Rattle.demands.specs.Heard.{readBy, deedIn}
@@ -42,39 +47,52 @@ upload-leaves : (x : Extension) (a n : ℕ) (c : Session) → stepIn (Upload x a
 unfolding stepIn
 upload-leaves x a n c = refl
 
--- ---- a command that reads: its bytes, and the MTA after it
+download-leaves : (from a n : ℕ) (c : Session) → stepIn (Download from a n) c .mta ≡ At Calibration (a + n)
+unfolding stepIn
+download-leaves from a n c = refl
+
+-- ---- a command that is done: the MTA after it, and the bytes that it reads
 module _ (s cal meas : List ℕ) (b : ℕ) (p bs : List ℕ) (u : consistent s ≡ true) (number : ℕ) (w : Brings ours number s cal meas b p bs) where
   answered-ff : byte (replyIn (deedIn p (sessionOf s) cal meas) (sessionOf s) cal meas) 0 ≡ 0xFF
   answered-ff = ap (λ (l : List ℕ). byte l 0) (sym (command-answer s cal meas b p u (w .command)) ∙ w .answer)
 
-  module _ (From : Extension → ℕ → Type 0) (r : Reading p (sessionOf s) cal meas From (deedIn p (sessionOf s) cal meas)) where
-    read-bytes : bs ≡ block (pick (r .extension) cal meas) (r .address) (byte p 1)
-    read-bytes =
-        ap (drop 1)
-        (sym (w .answer) ∙ command-answer s cal meas b p u (w .command) ∙ ap (λ (d : Deed). replyIn d (sessionOf s) cal meas) (r .deed)
-        ∙ upload-says (r .extension) (r .address) (byte p 1) (sessionOf s) cal meas)
+  mta-after : (d : Deed) (m : Mta) → deedIn p (sessionOf s) cal meas ≡ d → ((g k : ℕ) → Fit d g k) → ((c : Session) → stepIn d c .mta ≡ m) → sessionOf (receiveOf s cal meas b .state) .mta ≡ m
+  unfolding viewOf
+  mta-after d m is fit leaves =
+      let t : List ℕ = readBy s b in
+      let can : Doable d (length p) (length cal) (length meas) = subst (λ (e : Deed). Doable e (length p) (length cal) (length meas)) is (judged-doable p s (length cal) (length meas)) in
+      ap (λ (o : Step). sessionOf (o .state) .mta) (commanded s cal meas b p u (w .command)) ∙ ap (λ (e : Deed). sessionOf (after e t cal meas) .mta) is
+      ∙ ap (λ (v : Slave). v .session .mta) (view-after d t cal meas (length p) (read-length s b u) can (fit _ _)) ∙ leaves (sessionOf t)
 
-    read-leaves : sessionOf (receiveOf s cal meas b .state) .mta ≡ At (r .extension) (r .address + byte p 1)
-    unfolding viewOf
-    read-leaves =
-        let t : List ℕ = readBy s b in
-        let x : Extension = r .extension in
-        let a : ℕ = r .address in
-        let can : Doable (Upload x a (byte p 1)) (length p) (length cal) (length meas) =
-        subst (λ (d : Deed). Doable d (length p) (length cal) (length meas)) (r .deed) (judged-doable p s (length cal) (length meas)) in
-        ap (λ (o : Step). sessionOf (o .state) .mta) (commanded s cal meas b p u (w .command)) ∙ ap (λ (d : Deed). sessionOf (after d t cal meas) .mta) (r .deed)
-        ∙ ap (λ (v : Slave). v .session .mta) (view-after (Upload x a (byte p 1)) t cal meas (length p) (read-length s b u) can tt) ∙ upload-leaves x a (byte p 1) (sessionOf t)
+  read-bytes : (From : Extension → ℕ → Type 0) (r : Reading p (sessionOf s) cal meas From (deedIn p (sessionOf s) cal meas)) → bs ≡ block (pick (r .extension) cal meas) (r .address) (byte p 1)
+  read-bytes From r =
+      ap (drop 1)
+      (sym (w .answer) ∙ command-answer s cal meas b p u (w .command) ∙ ap (λ (d : Deed). replyIn d (sessionOf s) cal meas) (r .deed)
+      ∙ upload-says (r .extension) (r .address) (byte p 1) (sessionOf s) cal meas)
 
 -- ---- SHORT_UPLOAD
 module _ (s cal meas : List ℕ) (b : ℕ) (p bs : List ℕ) (u : consistent s ≡ true) (w : Brings ours 0xF4 s cal meas b p bs) where
   short : Reading p (sessionOf s) cal meas (Own p (sessionOf s) cal meas) (deedIn p (sessionOf s) cal meas)
   short = short-reads p (sessionOf s) cal meas (w .code) (answered-ff s cal meas b p bs u 0xF4 w)
 
-  pub sets-mta : sessionOf (ours .receive s cal meas b .state) .mta ≡ At (extensionFrom (byte p 3)) (u32At p 4 + byte p 1)
-  sets-mta = rw (← (short .from .0), ← (short .from .2)) (read-leaves s cal meas b p bs u 0xF4 w (Own p (sessionOf s) cal meas) short)
+  upload-sets : sessionOf (ours .receive s cal meas b .state) .mta ≡ At (extensionFrom (byte p 3)) (u32At p 4 + byte p 1)
+  upload-sets =
+      rw (← (short .from .0), ← (short .from .2)) (mta-after s cal meas b p bs u 0xF4 w _ _ (short .deed) (λ g k. tt) (upload-leaves (short .extension) (short .address) (byte p 1)))
 
   short-bytes : bs ≡ block (pick (extensionFrom (byte p 3)) cal meas) (u32At p 4) (byte p 1)
   short-bytes = rw (← (short .from .0), ← (short .from .2)) (read-bytes s cal meas b p bs u 0xF4 w (Own p (sessionOf s) cal meas) short)
+
+-- ---- SHORT_DOWNLOAD
+download-sets : (s cal meas : List ℕ) (b : ℕ) (p bs : List ℕ) → consistent s ≡ true → Brings ours 0xED s cal meas b p bs
+    → sessionOf (ours .receive s cal meas b .state) .mta ≡ At (extensionFrom (byte p 3)) (u32At p 4 + byte p 1)
+download-sets s cal meas b p bs u w =
+    let r = short-loads p (sessionOf s) cal meas (w .code) (answered-ff s cal meas b p bs u 0xED w) in
+    rw (← (r .to .0), ← (r .to .2)) (mta-after s cal meas b p bs u 0xED w _ _ (r .deed) (λ g k. tt) (download-leaves shortDownloadFrom (r .address) (byte p 1)))
+
+pub sets-mta : (s cal meas : List ℕ) (b number : ℕ) (p bs : List ℕ) → consistent s ≡ true → (number ≡ 0xF4) ⊎ (number ≡ 0xED) → Brings ours number s cal meas b p bs
+    → sessionOf (ours .receive s cal meas b .state) .mta ≡ At (extensionFrom (byte p 3)) (u32At p 4 + byte p 1)
+sets-mta s cal meas b number p bs u (inl e) w = upload-sets s cal meas b p bs u (subst (λ (n : ℕ). Brings ours n s cal meas b p bs) e w)
+sets-mta s cal meas b number p bs u (inr e) w = download-sets s cal meas b p bs u (subst (λ (n : ℕ). Brings ours n s cal meas b p bs) e w)
 
 -- ---- UPLOAD from where the MTA is
 upload-bytes : (s cal meas : List ℕ) (b : ℕ) (p bs : List ℕ) (x : Extension) (a : ℕ) → consistent s ≡ true → Brings ours 0xF5 s cal meas b p bs → sessionOf s .mta ≡ At x a
@@ -95,5 +113,5 @@ goes-on s cal meas b p first between c q second u short quiet next =
     let x : Extension = extensionFrom (byte p 3) in
     let a : ℕ = u32At p 4 in
     let later = run-alike between t (receive-kept s cal meas b u) quiet in
-    let there : sessionOf (run ours t between) .mta ≡ At x (a + byte p 1) = later .0 .mta ∙ sets-mta s cal meas b p first u short in
+    let there : sessionOf (run ours t between) .mta ≡ At x (a + byte p 1) = later .0 .mta ∙ upload-sets s cal meas b p first u short in
     rw (short-bytes s cal meas b p first u short, upload-bytes (run ours t between) cal meas c q second x (a + byte p 1) (later .1) next there) (block-on (pick x cal meas) a (byte p 1) (byte q 1))

@@ -62,7 +62,7 @@ pub slot-shows : (s out : List ℕ) → consistent s ≡ true → room ≤ lengt
 slot-shows s out c h = ap (λ (o : Slot). viewOf (o .state)) (slot-is s out c h) ∙ sent-shows (turnIn (viewOf s)) s out (consistent-size s c) (fair (viewOf s))
 
 -- ---- what a frame is made of
--- 1 to 8 bytes
+-- 1 to 64 bytes
 pub record Packed (p : List ℕ) : Type 0 where
   pub some : 1 ≤ length p
   pub few : length p ≤ most

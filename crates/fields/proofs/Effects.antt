@@ -1,46 +1,44 @@
 -- What a deed changes of the state, and that its answer is read as it was given. Assumes nothing.
-use Prim.Native.Nat.{ℕ, zero, suc, _+_, _*_, _%_, _≤_, _<_}
+use Prim.Native.Nat.{ℕ, zero, suc, _+_, _*_, _-_, _%_, _≤_, _<_}
 use mathlib.Core.Path.{_≡_, _∙_}
 use mathlib.Core.Bool.{Bool, true, cond}
 use mathlib.Core.List.{List, _∷_}
 use native.Mathlib.Omega.{arith}
-use lib.Dec.{T, leb, lit≤}
+use lib.Dec.{T, ltb, leb, lit≤}
 use lib.ListN.{length, getD, set, length-take}
 use Rattle.model.specs.Answers.{replyIn}
 use Rattle.model.specs.View.{sessionOf}
 use Rattle.line.proofs.Laws.{cond-ind}
-use Rattle.state.specs.Layout.{size, generatorAt, ctrAt, sessionAt, modeAt, selectedAt, runningAt, entriesAt, entryAt, sampleAt, firstOdt, odtCount, listOf, lists, entryCount, allOdts, packetMost, uploadMost, listSize, entrySize, odtSize}
+use Rattle.state.specs.Layout.{size, generatorAt, ctrAt, sessionAt, modeAt, selectedAt, runningAt, usedAt, entriesAt, entryAt, sampleAt, firstOdt, odtCount, listOf, lists, entryCount, allOdts, packetMost, uploadMost, listSize, entrySize}
 use Rattle.state.specs.Bytes.{block, cleared}
 use Rattle.state.specs.Generator.{nextOf}
 use Rattle.state.specs.Memory.{pick}
 use Rattle.state.specs.State.{flagOf, generatorOf, setGenerator, lockAt, setMta, setPointer, closed, placeOf, messageOf, waits, answerOf}
-use Rattle.lists.specs.Lists.{runsOf, dropped, switched, listCleared, modeSet, tagOf, entryCleared, entrySet, stopEach, startOne, startSelected, stopSelected}
+use Rattle.state.specs.Lists.{usedOf}
+use Rattle.model.proofs.Shown.{used-most}
+use Rattle.lists.specs.Lists.{runsOf, switched, listCleared, modeSet, entryReached, headOf, entrySet, stopEach, startOne, startSelected, stopSelected}
 use Rattle.judge.specs.Doable.{Doable}
 use Rattle.model.specs.Step.{nextEntry}
 use Rattle.session.specs.Perform.{effect, reply, after}
 use Rattle.words.specs.declared.Extension.{Extension}
+use Rattle.words.specs.declared.Extension.the-variants.{Calibration}
 use Rattle.words.specs.declared.Seed.the-variants.{None, For}
 use Rattle.words.specs.declared.Mta.{Mta}
 use Rattle.words.specs.declared.Pointer.{Pointer}
 use Rattle.model.specs.declared.Deed.{Deed}
 use Rattle.model.specs.declared.Deed.the-variants.{Refuse, RefuseSize, WrongKey, Connect, Disconnect, Status, Synch, NoSeed, GiveSeed, Unlock, SetMta, Upload, Checksum, Download, ClearList, SetPointer, ClearEntry, WriteEntry, SetMode, Stop, Start, KeepRunning, Select, StopAll, StartSelected, StopSelected, ProcessorInfo, ResolutionInfo}
 use Rattle.fields.proofs.Fields.{kindly, Answering, answer-same, waits-answered}
-use Rattle.fields.proofs.Frames.{Only, only-none, only-then, only-wider, only-set, only-put16, only-cleared, only-generator, only-counted, only-lock, only-seed, only-mta, only-pointer, only-closed, only-fresh}
+use Rattle.fields.proofs.Frames.{Only, only-none, only-then, only-wider, only-set, only-cleared, only-dropped, only-generator, only-counted, only-lock, only-seed, only-mta, only-pointer, only-closed, only-fresh}
 use Rattle.fields.proofs.Readers.{Same, apart, same-then, same-part, place-reads, message-reads}
 
 -- ---- the lists' changes
 only-cond : {lo hi : ℕ} {s t u : List ℕ} (b : Bool) → Only lo hi s t → Only lo hi s u → Only lo hi s (cond b t u)
 only-cond {lo} {hi} {s} b p q = cond-ind (Only lo hi s) b (λ _. p) (λ _. q)
 
-only-dropped : (s : List ℕ) (k n : ℕ) → k + n ≤ allOdts → Only (modeAt 0) size s (dropped s k n)
-unfolding dropped
-only-dropped s k zero h = only-none
-only-dropped s k (suc n) h = only-then (only-dropped s k n (omega arith)) (only-set (dropped s k n) (sampleAt (k + n)) 0 (omega arith) (omega arith))
-
 pub only-switched : (s : List ℕ) (l on : ℕ) → l < lists → Only (modeAt 0) size s (switched s l on)
 unfolding switched
 only-switched s l on h =
-    only-then (only-set s (runningAt l) on (omega arith) (omega arith)) (only-dropped (set s (runningAt l) on) (firstOdt l) (odtCount l) (omega arith))
+    only-then (only-set s (runningAt l) on (omega arith) (omega arith)) (only-wider (omega arith) (omega arith) (only-dropped (set s (runningAt l) on) (firstOdt l) (odtCount l)))
 
 only-deselected : {s t : List ℕ} (l : ℕ) → l < lists → Only (modeAt 0) size s t → Only (modeAt 0) size s (set t (selectedAt l) 0)
 only-deselected {s} {t} l h w = only-then w (only-set t (selectedAt l) 0 (omega arith) (omega arith))
@@ -48,27 +46,31 @@ only-deselected {s} {t} l h w = only-then w (only-set t (selectedAt l) 0 (omega 
 pub only-listCleared : (s : List ℕ) (l : ℕ) → l < lists → Only (modeAt 0) (sampleAt 0) s (listCleared s l)
 unfolding listCleared
 only-listCleared s l h =
-    only-then (only-cleared s (modeAt l) listSize (omega arith) (omega arith)) (only-cleared (cleared s (modeAt l) listSize) (entriesAt (firstOdt l)) (odtCount l * odtSize) (omega arith) (omega arith))
+    only-then (only-cleared s (modeAt l) listSize (omega arith) (omega arith)) (only-cleared (cleared s (modeAt l) listSize) (usedAt (firstOdt l)) (odtCount l) (omega arith) (omega arith))
 
 pub only-modeSet : (s : List ℕ) (l event : ℕ) → l < lists → Only (modeAt 0) (entriesAt 0) s (modeSet s l event)
 unfolding modeSet
 only-modeSet s l event h =
     only-then (only-set s (modeAt l) ((event + 1) % 256) (omega arith) (omega arith)) (only-set (set s (modeAt l) ((event + 1) % 256)) (runningAt l) 0 (omega arith) (omega arith))
 
-pub only-entryCleared : (s : List ℕ) (l k e : ℕ) → l < lists → k < allOdts → e < entryCount k → Only (modeAt 0) (sampleAt 0) s (entryCleared s l k e)
-unfolding entryCleared
-only-entryCleared s l k e h p q =
-    only-then (only-set s (runningAt l) 0 (omega arith) (omega arith)) (only-cleared (set s (runningAt l) 0) (entryAt k e) entrySize (omega arith) (omega arith))
+-- within the entries, and how many are in use
+only-reached : (s : List ℕ) (k e : ℕ) → k < allOdts → e < entryCount k → Only (modeAt 0) (sampleAt 0) s (entryReached s k e)
+unfolding entryReached
+only-reached s k e p q =
+    let n : ℕ = entrySize * (e + 1 - usedOf s k) in
+    only-cond (ltb e (usedOf s k)) only-none
+    (only-then (only-cleared s (entryAt k (usedOf s k)) n (omega arith) (omega (arith, used-most s k)))
+    (only-set (cleared s (entryAt k (usedOf s k)) n) (usedAt k) ((e + 1) % 256) (omega arith) (omega arith)))
 
 pub only-entrySet : (s : List ℕ) (l k e n : ℕ) (x : Extension) (a : ℕ) → l < lists → k < allOdts → e < entryCount k → Only (modeAt 0) (sampleAt 0) s (entrySet s l k e n x a)
 unfolding entrySet
 only-entrySet s l k e n x a h p q =
     let s₁ : List ℕ = set s (runningAt l) 0 in
-    let s₂ : List ℕ = set s₁ (entryAt k e) n in
-    let s₃ : List ℕ = set s₂ (entryAt k e + 1) (tagOf x) in
+    let s₂ : List ℕ = entryReached s₁ k e in
+    let s₃ : List ℕ = set s₂ (entryAt k e) (headOf n x a) in
     only-then (only-set s (runningAt l) 0 (omega arith) (omega arith))
-    (only-then (only-set s₁ (entryAt k e) n (omega arith) (omega arith))
-    (only-then (only-set s₂ (entryAt k e + 1) (tagOf x) (omega arith) (omega arith)) (only-put16 s₃ (entryAt k e + 2) a (omega arith) (omega arith))))
+    (only-then (only-reached s₁ k e p q)
+    (only-then (only-set s₂ (entryAt k e) (headOf n x a) (omega arith) (omega arith)) (only-set s₃ (entryAt k e + 1) (a % 256) (omega arith) (omega arith))))
 
 pub only-stopEach : (s : List ℕ) (n : ℕ) → n ≤ lists → Only (modeAt 0) size s (stopEach s n)
 unfolding stopEach
@@ -141,12 +143,12 @@ effected (Unlock r) s n nc nm h =
 effected (SetMta e a) s n nc nm h = mta s _
 effected (Upload e a m) s n nc nm h = mta s _
 effected (Checksum e a m) s n nc nm h = mta s _
-effected (Download a m) s n nc nm h = mta s _
+effected (Download from a m) s n nc nm h = mta s _
 effected (ClearList l) s n nc nm h = listed (only-wider (lit≤ tt) (lit≤ tt) (only-listCleared s l h))
 effected (SetPointer k e) s n nc nm h = pointer _ only-none
 effected (ClearEntry k e) s n nc nm h =
     let p : k < allOdts = h .0 in
-    pointer (nextEntry k e) (only-entryCleared s (listOf k) k e (omega arith) p (h .1))
+    pointer (nextEntry k e) (only-entrySet s (listOf k) k e 0 Calibration 0 (omega arith) p (h .1))
 effected (WriteEntry k e m x a) s n nc nm h =
     let p : k < allOdts = h .0 in
     pointer (nextEntry k e) (only-entrySet s (listOf k) k e m x a (omega arith) p (h .1))
@@ -192,7 +194,7 @@ answering (Unlock r) s cal meas n h = short tt tt tt
 answering (SetMta e a) s cal meas n h = short tt tt tt
 answering (Upload e a m) s cal meas n h = uploaded (pick e cal meas) a m (h .0)
 answering (Checksum e a m) s cal meas n h = short tt tt tt
-answering (Download a m) s cal meas n h = short tt tt tt
+answering (Download from a m) s cal meas n h = short tt tt tt
 answering (ClearList l) s cal meas n h = short tt tt tt
 answering (SetPointer k e) s cal meas n h = short tt tt tt
 answering (ClearEntry k e) s cal meas n h = short tt tt tt

@@ -1,21 +1,22 @@
 -- A field of the state reads as it was set; what a closed session and a fresh one hold. Assumes nothing.
-use Prim.Native.Nat.{ℕ, _+_, _-_, _%_, _^_, _≤_, _<_}
-use mathlib.Core.Path.{_≡_, refl, sym, ap, _∙_}
+use Prim.Native.Nat.{ℕ, zero, suc, _+_, _-_, _%_, _^_, _≤_, _<_}
+use mathlib.Core.Path.{_≡_, refl, sym, ap, subst, _∙_}
+use mathlib.Core.Logic.{_≢_}
 use mathlib.Core.Bool.{Bool, true, false, cond}
 use mathlib.Core.List.{List, _∷_}
 use native.Mathlib.Omega.{arith}
-use native.Mathlib.Nat.{mod-eq-of-lt}
-use borrow.Author.Tests.{leb-true, leb-false, eqb-true, ne-eqb, lt-ltb, le-ltb, lt-leb}
+use native.Mathlib.Nat.{mod-eq-of-lt, zero-add}
+use borrow.Author.Tests.{leb-true, leb-false, eqb-true, eqb-false, ne-eqb, lt-ltb, le-ltb, lt-leb}
 use lib.Dec.{T, eqb, ltb, lit<, lit≤}
 use lib.ListN.{length, getD, set, length-set}
 use lib.Seq.{sets, getD-set-same, getD-set-other, set-getD}
 use Rattle.line.specs.declared.Place.{Place}
 use Rattle.line.specs.declared.Place.the-variants.{Outside, Inside, Escaped}
 use Rattle.line.proofs.Laws.{cond-ind}
-use Rattle.state.specs.Layout.{size, wrongMost, generatorAt, wrongKeysAt, sessionAt, sessionSize, openAt, calibrationAt, listsAt, seedAt, pointerAt, pointerEntryAt, mtaAt, addressAt, sampleAt, placeAt, countAt, messageAt, answerAt, answerBytesAt, entryCount, allOdts, packetMost}
-use Rattle.state.specs.Bytes.{u32At, put32, block}
+use Rattle.state.specs.Layout.{size, wrongMost, generatorAt, wrongKeysAt, sessionAt, sessionSize, openAt, calibrationAt, listsAt, seedAt, pointerAt, pointerEntryAt, mtaAt, addressAt, entriesAt, sampleAt, placeAt, countAt, messageAt, answerAt, answerBytesAt, entryCount, allOdts, packetMost}
+use Rattle.state.specs.Bytes.{u32At, put32, block, cleared}
 use Rattle.state.specs.Generator.{startOf, staysShut, oneWrongMore}
-use Rattle.state.specs.State.{bitOf, flagOf, generatorOf, setGenerator, wrongKeysOf, countedWrong, openOf, lockAt, unlockedOf, seedOf, setSeed, mtaTag, mtaOf, setMta, pointerOf, setPointer, Pointed, closed, fresh, placeOf, setPlace, answerLength, waits, answerKind, answerOf, answered}
+use Rattle.state.specs.State.{bitOf, flagOf, generatorOf, setGenerator, wrongKeysOf, countedWrong, openOf, lockAt, unlockedOf, seedOf, setSeed, mtaTag, mtaOf, setMta, pointerOf, setPointer, Pointed, dropped, closed, fresh, placeOf, setPlace, answerLength, waits, answerKind, answerOf, answered}
 use Rattle.state.specs.Lists.{leastOf, storedLength}
 use Rattle.words.specs.declared.Resource.{Resource}
 use Rattle.words.specs.declared.Resource.the-variants.{Calibration, Lists}
@@ -28,6 +29,8 @@ use Rattle.words.specs.declared.Mta.the-variants.{Unset, At}
 use Rattle.words.specs.declared.Pointer.{Pointer}
 use Rattle.words.specs.declared.Pointer.the-variants.{Unset as NoEntry, At as Entry}
 use Rattle.state.proofs.Sets.{cleared-length}
+use Rattle.model.proofs.Bounded.{either}
+use Rattle.fields.proofs.Frames.{out-below, only-dropped, only-closed}
 use Rattle.fields.proofs.Stores.{set-out, put32-out, put32-same, sets-in, block-sets, cleared-in}
 
 -- ---- a field reads as it was set
@@ -147,7 +150,7 @@ lock-other s Calibration v = simp (set-out s calibrationAt listsAt calibrationAt
 lock-other s Lists v = simp (set-out s listsAt seedAt listsAt v calibrationAt (lit≤ tt) (lit< tt) tt)
 
 -- ---- the answer
--- an answer of 1 to 8 bytes that begins with FF, or with FE if its length is 2 or 8
+-- an answer of 1 to 64 bytes that begins with FF, or with FE if its length is 2 or 8
 abbrev pub kindly : ℕ → ℕ → Bool
 kindly n b = cond (eqb b 0xFF) true (cond (eqb b 0xFE) (cond (eqb n 2) true (eqb n 8)) false)
 
@@ -197,57 +200,82 @@ unfolding answerOf
 answer-same s bs h a =
     rw (kind-answered s bs h a, set-getD, length-answered s bs h (a .some) (a .few)) (bytes-answered s bs h (a .few))
 
--- ---- a session of which nothing is set: every byte of it is 0, but perhaps the first, whether it is open
-abbrev pub Bare : List ℕ → Type 0
-Bare s = (j : ℕ) → calibrationAt ≤ j → j < size → getD s j 0 ≡ 0
+-- ---- a session of which nothing is set: no packet waits, and every byte of it up to the entries is 0, but perhaps the first, whether it is open
+pub record Bare (s : List ℕ) : Type 0 where
+  pub nought : (j : ℕ) → calibrationAt ≤ j → j < entriesAt 0 → getD s j 0 ≡ 0
+  pub stores : (k : ℕ) → k < allOdts → getD s (sampleAt k) 0 ≡ 0
 
 pub bare-locked : (s : List ℕ) (r : Resource) → Bare s → unlockedOf s r ≡ false
 unfolding flagOf
-bare-locked s Calibration z = simp (z calibrationAt (lit≤ tt) (lit< tt))
-bare-locked s Lists z = simp (z listsAt (lit≤ tt) (lit< tt))
+bare-locked s Calibration z = simp (z .nought calibrationAt (lit≤ tt) (lit< tt))
+bare-locked s Lists z = simp (z .nought listsAt (lit≤ tt) (lit< tt))
 
 pub bare-seed : (s : List ℕ) → Bare s → seedOf s ≡ None
 unfolding seedOf
-bare-seed s z = cond-ind (λ (x : Seed). x ≡ None) (staysShut (wrongKeysOf s)) (λ _. refl) (λ _. simp (z seedAt (lit≤ tt) (lit< tt)))
+bare-seed s z = cond-ind (λ (x : Seed). x ≡ None) (staysShut (wrongKeysOf s)) (λ _. refl) (λ _. simp (z .nought seedAt (lit≤ tt) (lit< tt)))
 
 pub bare-mta : (s : List ℕ) → Bare s → mtaOf s ≡ Unset
 unfolding mtaOf
-bare-mta s z = simp (z mtaAt (lit≤ tt) (lit< tt))
+bare-mta s z = simp (z .nought mtaAt (lit≤ tt) (lit< tt))
 
 pub bare-pointer : (s : List ℕ) → Bare s → pointerOf s ≡ NoEntry
 unfolding pointerOf
-bare-pointer s z = simp (z pointerAt (lit≤ tt) (lit< tt))
+bare-pointer s z = simp (z .nought pointerAt (lit≤ tt) (lit< tt))
 
 -- an empty store
 pub empty-stored : (s : List ℕ) (k : ℕ) → getD s (sampleAt k) 0 ≡ 0 → storedLength s k ≡ 0
 unfolding storedLength
 empty-stored s k e = rw e (cond-ind (λ (n : ℕ). n ≡ 0) (ltb 0 (leastOf k)) (λ _. refl) (λ _. refl))
 
+-- packets dropped
+pub dropped-empty : (s : List ℕ) (k n j : ℕ) → length s ≡ size → k + n ≤ allOdts → j < n → getD (dropped s k n) (sampleAt (k + j)) 0 ≡ 0
+unfolding dropped
+dropped-empty s k zero j h q p = absurd (omega arith)
+dropped-empty s k (suc n) j h q p =
+    let t : List ℕ = dropped s k n in
+    let long : length t ≡ size = only-dropped s k n .long ∙ h in
+    either (eqb j n)
+    (λ b. subst (λ (i : ℕ). getD (set t (sampleAt (k + n)) 0) (sampleAt (k + i)) 0 ≡ 0) (sym (eqb-true j n b)) (getD-set-same t (sampleAt (k + n)) 0 0 (omega arith)))
+    (λ b. let m : j ≢ n = eqb-false j n b in
+    getD-set-other t (sampleAt (k + n)) (sampleAt (k + j)) 0 0 (omega arith) ∙ dropped-empty s k n j h (omega arith) (omega arith))
+
 -- ---- a closed session
 pub closed-length : (s : List ℕ) → length (closed s) ≡ length s
-unfolding closed
-closed-length s = cleared-length s sessionAt sessionSize
+closed-length s = only-closed s .long
 
-closed-zero : (s : List ℕ) (j : ℕ) → length s ≡ size → sessionAt ≤ j → j < size → getD (closed s) j 0 ≡ 0
+closed-zero : (s : List ℕ) (j : ℕ) → length s ≡ size → sessionAt ≤ j → j < entriesAt 0 → getD (closed s) j 0 ≡ 0
 unfolding closed
-closed-zero s j h p q = cleared-in s sessionAt sessionSize j (omega arith) p (omega arith)
+closed-zero s j h p q =
+    let t : List ℕ = cleared s sessionAt sessionSize in
+    only-dropped t 0 allOdts .bytes j (out-below (sampleAt 0) (sampleAt allOdts) j (omega arith)) ∙ cleared-in s sessionAt sessionSize j (omega arith) p (omega arith)
+
+closed-stores : (s : List ℕ) (k : ℕ) → length s ≡ size → k < allOdts → getD (closed s) (sampleAt k) 0 ≡ 0
+unfolding closed
+closed-stores s k h p = rw zero-add at (dropped-empty (cleared s sessionAt sessionSize) 0 allOdts k (cleared-length s sessionAt sessionSize ∙ h) (lit≤ tt) p)
 
 pub closed-open : (s : List ℕ) → length s ≡ size → openOf (closed s) ≡ false
 unfolding flagOf
 closed-open s h = simp (closed-zero s openAt h (lit≤ tt) (lit< tt))
 
 pub closed-bare : (s : List ℕ) → length s ≡ size → Bare (closed s)
-closed-bare s h j p q = closed-zero s j h (omega arith) q
+closed-bare s h = record { nought = λ j p q. closed-zero s j h (omega arith) q; stores = λ k p. closed-stores s k h p }
+
+-- a byte before the locks leaves it bare
+bare-set : (s : List ℕ) (i v : ℕ) → i < calibrationAt → Bare s → Bare (set s i v)
+bare-set s i v h z = record {
+  nought = λ j p q. getD-set-other s i j v 0 (omega arith) ∙ z .nought j p q;
+  stores = λ k p. getD-set-other s i (sampleAt k) v 0 (omega arith) ∙ z .stores k p;
+}
+
+pub counted-bare : (s : List ℕ) → Bare s → Bare (countedWrong s)
+unfolding countedWrong
+counted-bare s z = bare-set s wrongKeysAt _ (lit< tt) z
 
 -- ---- a fresh session
 pub fresh-open : (s : List ℕ) → length s ≡ size → openOf (fresh s) ≡ true
 unfolding fresh flagOf
 fresh-open s h = simp (getD-set-same (closed s) openAt 1 0 (rw closed-length (omega arith)))
 
-pub counted-bare : (s : List ℕ) → Bare s → Bare (countedWrong s)
-unfolding countedWrong
-counted-bare s z j p q = getD-set-other s wrongKeysAt j _ 0 (omega arith) ∙ z j p q
-
 pub fresh-bare : (s : List ℕ) → length s ≡ size → Bare (fresh s)
 unfolding fresh
-fresh-bare s h j p q = getD-set-other (closed s) openAt j 1 0 (omega arith) ∙ closed-bare s h j p q
+fresh-bare s h = bare-set (closed s) openAt 1 (lit< tt) (closed-bare s h)

@@ -1,5 +1,5 @@
 -- Which bytes a writer changes, and which a reader reads: what a change leaves as it was. Assumes nothing.
-use Prim.Native.Nat.{ℕ, _+_, _-_, _%_, _≤_, _<_}
+use Prim.Native.Nat.{ℕ, zero, suc, _+_, _-_, _%_, _≤_, _<_}
 use mathlib.Core.Path.{_≡_, refl, sym, ap, _∙_}
 use mathlib.Core.Bool.{Bool, true, false, cond}
 use mathlib.Core.List.{List, _∷_, _++_, append-assoc}
@@ -13,9 +13,9 @@ use Rattle.line.specs.Unstuffing.{Fed}
 use Rattle.line.specs.declared.Place.{Place}
 use Rattle.line.specs.declared.Place.the-variants.{Outside, Inside, Escaped}
 use Rattle.line.proofs.Laws.{cond-ind}
-use Rattle.state.specs.Layout.{size, generatorAt, wrongKeysAt, ctrAt, placeAt, countAt, messageAt, answerAt, sessionAt, sessionSize, openAt, calibrationAt, listsAt, seedAt, mtaAt, addressAt, pointerAt, pointerEntryAt, modeAt, packetMost}
-use Rattle.state.specs.Bytes.{put16, put32, cleared}
-use Rattle.state.specs.State.{setGenerator, countedWrong, lockAt, bitOf, setSeed, mtaTag, setMta, setPointer, closed, fresh, setPlace, setMessage, answered}
+use Rattle.state.specs.Layout.{size, generatorAt, wrongKeysAt, ctrAt, placeAt, countAt, messageAt, answerAt, sessionAt, sessionSize, openAt, calibrationAt, listsAt, seedAt, mtaAt, addressAt, pointerAt, pointerEntryAt, modeAt, sampleAt, allOdts, packetMost}
+use Rattle.state.specs.Bytes.{put32, cleared}
+use Rattle.state.specs.State.{setGenerator, countedWrong, lockAt, bitOf, setSeed, mtaTag, setMta, setPointer, dropped, closed, fresh, setPlace, setMessage, answered}
 use Rattle.session.specs.Receive.{readOn}
 use Rattle.words.specs.declared.Resource.{Resource}
 use Rattle.words.specs.declared.Resource.the-variants.{Calibration, Lists}
@@ -25,8 +25,8 @@ use Rattle.words.specs.declared.Mta.{Mta}
 use Rattle.words.specs.declared.Mta.the-variants.{Unset, At}
 use Rattle.words.specs.declared.Pointer.{Pointer}
 use Rattle.words.specs.declared.Pointer.the-variants.{Unset as NoEntry, At as Entry}
-use Rattle.state.proofs.Sets.{put16-length, put32-length, cleared-length}
-use Rattle.fields.proofs.Stores.{out, set-out, put16-out, put32-out, sets-out, cleared-out}
+use Rattle.state.proofs.Sets.{put32-length, cleared-length}
+use Rattle.fields.proofs.Stores.{out, set-out, put32-out, sets-out, cleared-out}
 
 -- ---- t differs from s in the bytes from lo up to hi alone
 pub record Only (lo hi : ℕ) (s t : List ℕ) : Type 0 where
@@ -58,9 +58,6 @@ only-wider {a} {b} {lo} {hi} p q w = record { long = w .long; bytes = λ j o. w 
 module _ {lo hi : ℕ} (s : List ℕ) where
   pub only-set : (i a : ℕ) → lo ≤ i → i < hi → Only lo hi s (set s i a)
   only-set i a p q = record { long = length-set s i a; bytes = λ j o. set-out s lo hi i a j p q o }
-
-  pub only-put16 : (i x : ℕ) → lo ≤ i → i + 2 ≤ hi → Only lo hi s (put16 s i x)
-  only-put16 i x p q = record { long = put16-length s i x; bytes = λ j o. put16-out s lo hi i x j p q o }
 
   pub only-put32 : (i x : ℕ) → lo ≤ i → i + 4 ≤ hi → Only lo hi s (put32 s i x)
   only-put32 i x p q = record { long = put32-length s i x; bytes = λ j o. put32-out s lo hi i x j p q o }
@@ -127,9 +124,16 @@ only-pointer s NoEntry = only-set s pointerAt 0 (lit≤ tt) (lit< tt)
 only-pointer s (Entry k e) =
     only-then (only-set s pointerAt ((k + 1) % 256) (lit≤ tt) (lit< tt)) (only-set (set s pointerAt ((k + 1) % 256)) pointerEntryAt e (lit≤ tt) (lit< tt))
 
+pub only-dropped : (s : List ℕ) (k n : ℕ) → Only (sampleAt k) (sampleAt (k + n)) s (dropped s k n)
+unfolding dropped
+only-dropped s k zero = only-none
+only-dropped s k (suc n) =
+    only-then (only-wider (omega arith) (omega arith) (only-dropped s k n)) (only-set (dropped s k n) (sampleAt (k + n)) 0 (omega arith) (omega arith))
+
 pub only-closed : (s : List ℕ) → Only sessionAt size s (closed s)
 unfolding closed
-only-closed s = only-cleared s sessionAt sessionSize (lit≤ tt) (lit≤ tt)
+only-closed s =
+    only-then (only-cleared s sessionAt sessionSize (lit≤ tt) (lit≤ tt)) (only-wider (lit≤ tt) (lit≤ tt) (only-dropped (cleared s sessionAt sessionSize) 0 allOdts))
 
 pub only-fresh : (s : List ℕ) → Only sessionAt size s (fresh s)
 unfolding fresh

@@ -1,5 +1,5 @@
 -- Power-up makes a consistent state, and every call keeps one. Assumes nothing.
-use Prim.Native.Nat.{ℕ, zero, suc, _+_, _*_, _/_, _%_, _≤_, _<_}
+use Prim.Native.Nat.{ℕ, zero, suc, _+_, _*_, _-_, _%_, _≤_, _<_}
 use mathlib.Core.Path.{_≡_, refl, sym, ap, _∙_}
 use mathlib.Core.Bool.{Bool, true, cond}
 use mathlib.Core.List.{List, _∷_}
@@ -16,11 +16,12 @@ use Rattle.line.specs.declared.Outcome.{Outcome}
 use Rattle.line.specs.declared.Outcome.the-variants as line
 use Rattle.line.proofs.Laws.{cond-ind}
 use Rattle.line.proofs.After.{take-length}
-use Rattle.state.specs.Layout.{mark, markAt, size, generatorAt, ctrAt, servedAt, lastAt, messageAt, answerAt, answerBytesAt, lists, modeAt, selectedAt, runningAt, entriesAt, entryAt, sampleAt, firstOdt, odtCount, listOf, events, listSize, entrySize, odtSize, lastList}
-use Rattle.state.specs.Bytes.{u32At, put16, put32, block, cleared}
+use Rattle.state.specs.Layout.{mark, markAt, size, generatorAt, ctrAt, servedAt, lastAt, messageAt, answerAt, answerBytesAt, lists, modeAt, selectedAt, runningAt, usedAt, entryAt, sampleAt, firstOdt, odtCount, listOf, events, listSize, entrySize, lastList}
+use Rattle.state.specs.Bytes.{u32At, put32, block, cleared}
 use Rattle.state.specs.Generator.{startOf, nextOf}
-use Rattle.state.specs.State.{consistent, flagOf, generatorOf, setGenerator, lockAt, setSeed, setMta, setPointer, closed, placeOf, messageOf, waits, answerKind, answered}
-use Rattle.lists.specs.Lists.{runsOf, dropped, switched, listCleared, modeSet, tagOf, entryCleared, entrySet, stopEach, startOne, startSelected, stopSelected}
+use Rattle.state.specs.State.{consistent, flagOf, generatorOf, setGenerator, lockAt, setSeed, setMta, setPointer, dropped, closed, placeOf, messageOf, waits, answerKind, answered}
+use Rattle.state.specs.Lists.{usedOf}
+use Rattle.lists.specs.Lists.{runsOf, switched, listCleared, modeSet, entryReached, headOf, entrySet, stopEach, startOne, startSelected, stopSelected}
 use Rattle.model.specs.Step.{nextEntry}
 use Rattle.session.specs.Perform.{effect, reply, after}
 use Rattle.session.specs.Receive.{Step, heededBy, heeded, meant, readOn, fedOf, receiveOf}
@@ -28,6 +29,7 @@ use Rattle.lists.specs.Event.{stored, capturedOdts, captured, samplingOf, sampl
 use Rattle.lists.specs.Slot.{Slot, turnOf, ctrNext, answerSent, packetSent, sentBy, slotOf}
 use Rattle.session.specs.PowerUp.{powered, powerUpOf}
 use Rattle.words.specs.declared.Extension.{Extension}
+use Rattle.words.specs.declared.Extension.the-variants.{Calibration}
 use Rattle.words.specs.declared.Seed.{Seed}
 use Rattle.words.specs.declared.Seed.the-variants.{None, For}
 use Rattle.words.specs.declared.Mta.{Mta}
@@ -70,10 +72,6 @@ marked-sets s i xs h = record { long = length-sets s i xs; front = take-sets gen
 marked-cleared : (s : List ℕ) (i n : ℕ) → generatorAt ≤ i → Marked s (cleared s i n)
 unfolding cleared
 marked-cleared s i n h = marked-sets s i (replicate n 0) h
-
-marked-put16 : (s : List ℕ) (i x : ℕ) → generatorAt ≤ i → Marked s (put16 s i x)
-unfolding put16
-marked-put16 s i x h = marked-then (marked-set s i (x % 256) h) (marked-set (set s i (x % 256)) (i + 1) (x / 256 % 256) (omega arith))
 
 -- the mark, so whether a state is consistent, lies in them
 first-same : {s t : List ℕ} (j : ℕ) → j < generatorAt → Marked s t → getD t j 0 ≡ getD s j 0
@@ -122,27 +120,29 @@ marked-deselected {s} {t} l m = marked-then m (marked-set t (selectedAt l) 0 (om
 marked-listCleared : (s : List ℕ) (l : ℕ) → Marked s (listCleared s l)
 unfolding listCleared
 marked-listCleared s l =
-    marked-then (marked-cleared s (modeAt l) listSize (omega arith)) (marked-cleared (cleared s (modeAt l) listSize) (entriesAt (firstOdt l)) (odtCount l * odtSize) (omega arith))
+    marked-then (marked-cleared s (modeAt l) listSize (omega arith)) (marked-cleared (cleared s (modeAt l) listSize) (usedAt (firstOdt l)) (odtCount l) (omega arith))
 
 marked-modeSet : (s : List ℕ) (l event : ℕ) → Marked s (modeSet s l event)
 unfolding modeSet
 marked-modeSet s l event =
     marked-then (marked-set s (modeAt l) ((event + 1) % 256) (omega arith)) (marked-set (set s (modeAt l) ((event + 1) % 256)) (runningAt l) 0 (omega arith))
 
-marked-entryCleared : (s : List ℕ) (l k e : ℕ) → Marked s (entryCleared s l k e)
-unfolding entryCleared
-marked-entryCleared s l k e =
-    marked-then (marked-set s (runningAt l) 0 (omega arith)) (marked-cleared (set s (runningAt l) 0) (entryAt k e) entrySize (omega arith))
+marked-reached : (s : List ℕ) (k e : ℕ) → Marked s (entryReached s k e)
+unfolding entryReached
+marked-reached s k e =
+    let n : ℕ = entrySize * (e + 1 - usedOf s k) in
+    marked-cond (ltb e (usedOf s k)) marked-none
+    (marked-then (marked-cleared s (entryAt k (usedOf s k)) n (omega arith)) (marked-set (cleared s (entryAt k (usedOf s k)) n) (usedAt k) ((e + 1) % 256) (omega arith)))
 
 marked-entrySet : (s : List ℕ) (l k e n : ℕ) (x : Extension) (a : ℕ) → Marked s (entrySet s l k e n x a)
 unfolding entrySet
 marked-entrySet s l k e n x a =
     let s₁ : List ℕ = set s (runningAt l) 0 in
-    let s₂ : List ℕ = set s₁ (entryAt k e) n in
-    let s₃ : List ℕ = set s₂ (entryAt k e + 1) (tagOf x) in
+    let s₂ : List ℕ = entryReached s₁ k e in
+    let s₃ : List ℕ = set s₂ (entryAt k e) (headOf n x a) in
     marked-then (marked-set s (runningAt l) 0 (omega arith))
-    (marked-then (marked-set s₁ (entryAt k e) n (omega arith))
-    (marked-then (marked-set s₂ (entryAt k e + 1) (tagOf x) (omega arith)) (marked-put16 s₃ (entryAt k e + 2) a (omega arith))))
+    (marked-then (marked-reached s₁ k e)
+    (marked-then (marked-set s₂ (entryAt k e) (headOf n x a) (omega arith)) (marked-set s₃ (entryAt k e + 1) (a % 256) (omega arith))))
 
 marked-stopEach : (s : List ℕ) (n : ℕ) → Marked s (stopEach s n)
 unfolding stopEach
@@ -175,6 +175,9 @@ marked-mta s m = marked-only (lit≤ tt) (only-mta s m)
 marked-pointer : (s : List ℕ) (p : Pointer) → Marked s (setPointer s p)
 marked-pointer s p = marked-only (lit≤ tt) (only-pointer s p)
 
+marked-entered : (s : List ℕ) (k e n : ℕ) (x : Extension) (a : ℕ) → Marked s (setPointer (entrySet s (listOf k) k e n x a) (nextEntry k e))
+marked-entered s k e n x a = marked-then (marked-entrySet s (listOf k) k e n x a) (marked-pointer (entrySet s (listOf k) k e n x a) (nextEntry k e))
+
 pub marked-effect : (d : Deed) (s : List ℕ) → Marked s (effect d s)
 unfolding effect
 marked-effect (Refuse r) s = marked-none
@@ -192,12 +195,11 @@ marked-effect (Unlock r) s = marked-then (marked-only (lit≤ tt) (only-lock s r
 marked-effect (SetMta e a) s = marked-mta s _
 marked-effect (Upload e a n) s = marked-mta s _
 marked-effect (Checksum e a n) s = marked-mta s _
-marked-effect (Download a n) s = marked-mta s _
+marked-effect (Download from a n) s = marked-mta s _
 marked-effect (ClearList l) s = marked-listCleared s l
 marked-effect (SetPointer k e) s = marked-pointer s _
-marked-effect (ClearEntry k e) s = marked-then (marked-entryCleared s (listOf k) k e) (marked-pointer (entryCleared s (listOf k) k e) (nextEntry k e))
-marked-effect (WriteEntry k e n x a) s =
-    marked-then (marked-entrySet s (listOf k) k e n x a) (marked-pointer (entrySet s (listOf k) k e n x a) (nextEntry k e))
+marked-effect (ClearEntry k e) s = marked-entered s k e 0 Calibration 0
+marked-effect (WriteEntry k e n x a) s = marked-entered s k e n x a
 marked-effect (SetMode l event) s = marked-modeSet s l event
 marked-effect (Stop l) s = marked-switched s l 0
 marked-effect (Start l) s = marked-switched s l 1

@@ -9,14 +9,14 @@ use lib.Dec.{T, eqb, ltb, leb, leb→le, lit<, lit≤}
 use lib.ListN.{length, getD, drop, set, length-take, length-drop, length-set}
 use lib.Seq.{getD-take, getD-drop, ext-getD, getD-set-same, getD-set-other, set-out}
 use Rattle.line.specs.Message.{longest}
-use Rattle.state.specs.Layout.{entryCount, generatorAt, wrongKeysAt, ctrAt, placeAt, countAt, messageAt, answerAt, answerBytesAt, sessionAt, openAt, calibrationAt, listsAt, seedAt, mtaAt, addressAt, pointerAt, pointerEntryAt, modeAt, entrySize, entriesAt, entryAt, sampleAt}
-use Rattle.state.specs.Bytes.{u16At, u32At, block}
+use Rattle.state.specs.Layout.{generatorAt, wrongKeysAt, ctrAt, placeAt, countAt, messageAt, answerAt, answerBytesAt, sessionAt, openAt, calibrationAt, listsAt, seedAt, mtaAt, addressAt, pointerAt, pointerEntryAt, modeAt, usedAt, entrySize, entriesAt, entryAt, sampleAt}
+use Rattle.state.specs.Bytes.{u32At, block}
 use Rattle.state.specs.State.{flagOf, generatorOf, wrongKeysOf, openOf, unlockedOf, seedOf, mtaOf, pointerOf, placeOf, messageOf, answerLength, answerKind, answerOf}
-use Rattle.state.specs.Lists.{sizeOf, extensionOf, addressOf, storedLength}
+use Rattle.state.specs.Lists.{usedOf, sizeOf, extensionOf, addressOf, storedLength}
 use Rattle.model.specs.Model.{noEntry}
 use Rattle.model.specs.View.{entryOf, odtOf}
 use Rattle.model.proofs.Bounded.{upTo-same}
-use Rattle.model.proofs.Shown.{stored-most, answer-most}
+use Rattle.model.proofs.Shown.{used-most, stored-most, answer-most}
 use Rattle.words.specs.declared.Resource.{Resource}
 use Rattle.words.specs.declared.Resource.the-variants.{Calibration, Lists}
 use Rattle.fields.proofs.Frames.{Only, out-below, out-above}
@@ -133,13 +133,15 @@ module _ {s t : List ℕ} where
 
   -- an entry, an ODT's entries, its store: each by its own bytes alone
   pub entry-own : (k e : ℕ) → Same (entryAt k e) (entryAt k e + entrySize) s t → entryOf t k e ≡ entryOf s k e
-  unfolding sizeOf extensionOf addressOf u16At
-  entry-own k e w =
-      let i : ℕ = entryAt k e in
-      rw (w .byte i (omega arith) (omega arith), flag-reads (i + 1) (same-part (omega arith) (omega arith) w), w .byte (i + 2) (omega arith) (omega arith), w .byte (i + 2 + 1) (omega arith) (omega arith))
+  unfolding sizeOf extensionOf addressOf
+  entry-own k e w = rw (w .byte (entryAt k e) (omega arith) (omega arith), w .byte (entryAt k e + 1) (omega arith) (omega arith))
 
-  pub entries-own : (k : ℕ) → Same (entriesAt k) (entriesAt (k + 1)) s t → odtOf t k .entry ≡ odtOf s k .entry
-  entries-own k w = upTo-same (entryCount k) noEntry (λ e q. entry-own k e (same-part (omega arith) (omega arith) w))
+  pub used-own : (k : ℕ) → Same (usedAt k) (usedAt (k + 1)) s t → usedOf t k ≡ usedOf s k
+  unfolding usedOf
+  used-own k w = rw (w .byte (usedAt k) (omega arith) (omega arith))
+
+  pub entries-own : (k : ℕ) → Same (usedAt k) (usedAt (k + 1)) s t → Same (entriesAt k) (entriesAt (k + 1)) s t → odtOf t k .entry ≡ odtOf s k .entry
+  entries-own k u w = rw (used-own k u) (upTo-same (usedOf s k) noEntry (λ e q. entry-own k e (same-part (omega arith) (omega (arith, used-most s k)) w)))
 
   pub stored-reads : (k : ℕ) → Same (sampleAt k) (sampleAt k + 1) s t → storedLength t k ≡ storedLength s k
   unfolding storedLength

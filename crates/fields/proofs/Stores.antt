@@ -11,7 +11,7 @@ use lib.Pow.{shr-shr, shr-lt}
 use lib.Dec.{T, ltb, leb, leb→le}
 use lib.ListN.{length, getD, set, take, drop, replicate, length-set, length-replicate, getD-replicate, List·getD-append}
 use lib.Seq.{sets, sets-eq, getD-set-same, getD-set-other, getD-append-add, length-take-le, take-at, drop-at, take-set-le}
-use Rattle.state.specs.Bytes.{u16At, u32At, put16, put32, block, cleared}
+use Rattle.state.specs.Bytes.{u32At, put32, block, cleared}
 
 -- ---- what a store leaves
 -- j lies outside the bytes from lo up to hi; at numerals it computes, so that `tt` proves it
@@ -26,13 +26,6 @@ out-ne lo hi j k o p q = go (ltb j lo) refl o where
 
 pub set-out : (s : List ℕ) (lo hi i a j : ℕ) → lo ≤ i → i < hi → T (out lo hi j) → getD (set s i a) j 0 ≡ getD s j 0
 set-out s lo hi i a j p q o = getD-set-other s i j a 0 (out-ne lo hi j i o p q)
-
-pub put16-out : (s : List ℕ) (lo hi i x j : ℕ) → lo ≤ i → i + 2 ≤ hi → T (out lo hi j) → getD (put16 s i x) j 0 ≡ getD s j 0
-unfolding put16
-put16-out s lo hi i x j p q o =
-    let h0 : j ≢ i = out-ne lo hi j i o p (omega arith) in
-    let h1 : j ≢ i + 1 = out-ne lo hi j (i + 1) o (omega arith) (omega arith) in
-    simp getD-set-other
 
 pub put32-out : (s : List ℕ) (lo hi i x j : ℕ) → lo ≤ i → i + 4 ≤ hi → T (out lo hi j) → getD (put32 s i x) j 0 ≡ getD s j 0
 unfolding put32
@@ -78,9 +71,6 @@ cleared-in s i n j h p q =
     (rw e at (sets-in s i (replicate n 0) (j - i) (rw length-replicate h) k)) ∙ getD-replicate n (j - i) 0 0 (omega arith)
 
 -- the bytes of a number
-two : (x : ℕ) → x < 2 ^ 16 → x % 256 + 256 * (x / 256 % 256) ≡ x
-two x h = rw (mod-eq-of-lt (shr-lt {n = x} 8 8 h)) (omega (arith, div-add-mod' x 256))
-
 digits : (x a b d r s t : ℕ) → a * 256 + r ≡ x → b * 256 + s ≡ a → d * 256 + t ≡ b → r + 256 * s + 65536 * t + 16777216 * d ≡ x
 digits x a b d r s t p q o = omega arith
 
@@ -91,14 +81,6 @@ four x h =
     (div-add-mod' x 256)
     (rw (shr-shr x 8 8) at (div-add-mod' (x / 256) 256))
     (rw (shr-shr x 16 8) at (div-add-mod' (x / 65536) 256)))
-
-pub put16-same : (s : List ℕ) (i x : ℕ) → i + 2 ≤ length s → x < 2 ^ 16 → u16At (put16 s i x) i ≡ x
-unfolding put16 u16At
-put16-same s i x h k =
-    let l0 : i < length s = omega arith in
-    let l1 : i + 1 < length (set s i (x % 256)) = simp length-set (omega arith) in
-    let n01 : i ≢ i + 1 = omega arith in
-    simp (getD-set-same, getD-set-other) (two x k)
 
 pub put32-same : (s : List ℕ) (i x : ℕ) → i + 4 ≤ length s → x < 2 ^ 32 → u32At (put32 s i x) i ≡ x
 unfolding put32 u32At

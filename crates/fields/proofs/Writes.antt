@@ -1,4 +1,5 @@
--- DOWNLOAD alone writes into the calibration memory: what holds of deeds that write nothing and of DOWNLOAD holds of all. Assumes nothing.
+-- DOWNLOAD and SHORT_DOWNLOAD, which are one deed, alone write into the calibration memory: what holds of deeds that write nothing and of that one
+-- holds of all. Assumes nothing.
 use Prim.Native.Nat.{ℕ}
 use mathlib.Core.Path.{_≡_, refl}
 use mathlib.Core.Option.{none}
@@ -6,7 +7,7 @@ use Rattle.model.specs.declared.Deed.{Deed}
 use Rattle.model.specs.declared.Deed.the-variants.{Refuse, RefuseSize, WrongKey, Connect, Disconnect, Status, Synch, NoSeed, GiveSeed, Unlock, SetMta, Upload, Checksum, Download, ClearList, SetPointer, ClearEntry, WriteEntry, SetMode, Stop, Start, KeepRunning, Select, StopAll, StartSelected, StopSelected, ProcessorInfo, ResolutionInfo}
 use Rattle.model.specs.Answers.{writes}
 
-module _ (P : Deed → Type 0) (nothing : (d : Deed) → writes d ≡ none → P d) (download : (a n : ℕ) → P (Download a n)) where
+module _ (P : Deed → Type 0) (nothing : (d : Deed) → writes d ≡ none → P d) (download : (from a n : ℕ) → P (Download from a n)) where
   pub by-write : (d : Deed) → P d
   unfolding writes
   by-write (Refuse r) = nothing (Refuse r) refl
@@ -22,7 +23,7 @@ module _ (P : Deed → Type 0) (nothing : (d : Deed) → writes d ≡ none → P
   by-write (SetMta e a) = nothing (SetMta e a) refl
   by-write (Upload e a n) = nothing (Upload e a n) refl
   by-write (Checksum e a n) = nothing (Checksum e a n) refl
-  by-write (Download a n) = download a n
+  by-write (Download from a n) = download from a n
   by-write (ClearList l) = nothing (ClearList l) refl
   by-write (SetPointer k e) = nothing (SetPointer k e) refl
   by-write (ClearEntry k e) = nothing (ClearEntry k e) refl

@@ -6,15 +6,15 @@ use mathlib.Core.Bool.{Bool}
 use borrow.Author.Tests.{ltb-false, leb-false}
 use lib.Dec.{eqb, ltb, leb}
 use Rattle.line.proofs.Laws.{cond-ind}
-use Rattle.state.specs.Layout.{lists, odtCount, firstOdt, entryCount, allOdts, events, entryMost, uploadMost, downloadMost, addressable}
+use Rattle.state.specs.Layout.{lists, odtCount, firstOdt, entryCount, allOdts, events, entryMost, uploadMost, downloadFrom, downloadMost, shortDownloadFrom, shortDownloadMost, addressable}
 use Rattle.state.specs.Generator.{keyOf, staysShut}
 use Rattle.state.specs.Memory.{pick, insideOf}
 use Rattle.state.specs.State.{Pointed}
 use Rattle.words.specs.Command.{commandOf, fewest, needsOf}
-use Rattle.model.specs.Judge.{extensionFrom, connectDeed, seedDeed, getSeedDeed, unlockBy, setMtaDeed, uploadDeed, shortUploadDeed, checksumDeed, downloadTo, downloadDeed, clearDeed, pointerDeed, writeBlock, writeDeed, modeDeed, startDeed, startStopDeed, synchDeed, lockedBy, judgeThe, judgeBy, judge}
+use Rattle.model.specs.Judge.{extensionFrom, connectDeed, seedDeed, getSeedDeed, unlockBy, setMtaDeed, uploadDeed, shortUploadDeed, checksumDeed, downloadTo, downloadDeed, shortDownloadDeed, clearDeed, pointerDeed, writeBlock, writeDeed, modeDeed, startDeed, startStopDeed, synchDeed, lockedBy, judgeThe, judgeBy, judge}
 use Rattle.judge.specs.Doable.{Doable}
 use Rattle.words.specs.declared.Command.{Command}
-use Rattle.words.specs.declared.Command.the-variants.{Unknown, Connect, Disconnect, GetStatus, Synch, GetSeed, Unlock, SetMta, Upload, ShortUpload, BuildChecksum, Download, ClearDaqList, SetDaqPtr, WriteDaq, SetDaqListMode, StartStopDaqList, StartStopSynch, GetDaqProcessorInfo, GetDaqResolutionInfo}
+use Rattle.words.specs.declared.Command.the-variants.{Unknown, Connect, Disconnect, GetStatus, Synch, GetSeed, Unlock, SetMta, Upload, ShortUpload, BuildChecksum, Download, ShortDownload, ClearDaqList, SetDaqPtr, WriteDaq, SetDaqListMode, StartStopDaqList, StartStopSynch, GetDaqProcessorInfo, GetDaqResolutionInfo}
 use Rattle.words.specs.declared.Resource.{Resource}
 use Rattle.words.specs.declared.Resource.the-variants.{Calibration, Lists}
 use Rattle.words.specs.declared.Extension.{Extension}
@@ -85,10 +85,10 @@ module _ (n nc nm : ℕ) where
       cond-ind Can (ltb addressable m) (λ _. tt) (λ few.
       cond-ind Can (insideOf a m (pick e nc nm)) (λ inside. (ltb-false addressable m few, inside)) (λ _. tt)))
 
-  download-to-doable : (e : Extension) (a m : ℕ) → m ≤ downloadMost → m + 2 ≤ n → Can (downloadTo e a m nc)
+  download-to-doable : (from : ℕ) (e : Extension) (a m : ℕ) → m ≤ downloadMost → m + from ≤ n → Can (downloadTo from e a m nc)
   unfolding downloadTo
-  download-to-doable CalibrationMemory a m few there = cond-ind Can (insideOf a m nc) (λ inside. (there, (few, inside))) (λ _. tt)
-  download-to-doable Measured a m few there = tt
+  download-to-doable from CalibrationMemory a m few there = cond-ind Can (insideOf a m nc) (λ inside. (there, (few, inside))) (λ _. tt)
+  download-to-doable from Measured a m few there = tt
 
   download-doable : (mta : Mta) (m : ℕ) → Can (downloadDeed mta m n nc)
   unfolding downloadDeed
@@ -96,8 +96,17 @@ module _ (n nc nm : ℕ) where
   download-doable (At e a) m =
       cond-ind Can (eqb m 0) (λ _. tt) (λ _.
       cond-ind Can (ltb downloadMost m) (λ _. tt) (λ few.
-      cond-ind Can (ltb n (m + 2)) (λ _. tt) (λ there.
-      download-to-doable e a m (ltb-false downloadMost m few) (ltb-false n (m + 2) there))))
+      cond-ind Can (ltb n (m + downloadFrom)) (λ _. tt) (λ there.
+      download-to-doable downloadFrom e a m (ltb-false downloadMost m few) (ltb-false n (m + downloadFrom) there))))
+
+  short-download-doable : (m ext a : ℕ) → Can (shortDownloadDeed m ext a n nc)
+  unfolding shortDownloadDeed
+  short-download-doable m ext a =
+      cond-ind Can (eqb m 0) (λ _. tt) (λ _.
+      cond-ind Can (ltb shortDownloadMost m) (λ _. tt) (λ few.
+      cond-ind Can (ltb 1 ext) (λ _. tt) (λ _.
+      cond-ind Can (ltb n (m + shortDownloadFrom)) (λ _. tt) (λ there.
+      download-to-doable shortDownloadFrom (extensionFrom ext) a m (omega (arith, ltb-false shortDownloadMost m few)) (ltb-false n (m + shortDownloadFrom) there)))))
 
   clear-doable : (runs : Bool) (l : ℕ) → Can (clearDeed runs l)
   unfolding clearDeed
@@ -176,6 +185,7 @@ the-doable Upload p v at nc nm = upload-doable (p .n) nc nm (v .mta) (p .b1)
 the-doable ShortUpload p v at nc nm = short-upload-doable (p .n) nc nm (p .b1) (p .b3) (p .d4)
 the-doable BuildChecksum p v at nc nm = checksum-doable (p .n) nc nm (v .mta) (p .d4)
 the-doable Download p v at nc nm = download-doable (p .n) nc nm (v .mta) (p .b1)
+the-doable ShortDownload p v at nc nm = short-download-doable (p .n) nc nm (p .b1) (p .b3) (p .d4)
 the-doable ClearDaqList p v at nc nm = clear-doable (p .n) nc nm (v .runs) (p .w2)
 the-doable SetDaqPtr p v at nc nm = pointer-doable (p .n) nc nm (p .w2) (p .b4) (p .b5)
 the-doable WriteDaq p v at nc nm = write-doable (p .n) nc nm (v .pointer) at (v .pointed) (p .b1) (p .b2) (p .b3) (p .d4)

@@ -8,7 +8,7 @@ use lib.Dec.{eqb, ltb, leb}
 use Rattle.state.specs.Layout.{lists}
 use Rattle.words.specs.Command.{fewest, needsOf}
 use Rattle.words.specs.declared.Command.{Command}
-use Rattle.words.specs.declared.Command.the-variants.{Unknown, Connect, Disconnect, GetStatus, Synch, GetSeed, Unlock, SetMta, Upload, ShortUpload, BuildChecksum, Download, ClearDaqList, SetDaqPtr, WriteDaq, SetDaqListMode, StartStopDaqList, StartStopSynch, GetDaqProcessorInfo, GetDaqResolutionInfo}
+use Rattle.words.specs.declared.Command.the-variants.{Unknown, Connect, Disconnect, GetStatus, Synch, GetSeed, Unlock, SetMta, Upload, ShortUpload, BuildChecksum, Download, ShortDownload, ClearDaqList, SetDaqPtr, WriteDaq, SetDaqListMode, StartStopDaqList, StartStopSynch, GetDaqProcessorInfo, GetDaqResolutionInfo}
 use Rattle.words.specs.declared.Needs.{Needs}
 use Rattle.words.specs.declared.Needs.the-variants as needs
 use Rattle.words.specs.declared.Resource.the-variants.{Calibration, Lists}
@@ -61,6 +61,7 @@ module _ (v : Seen) (nc nm : ℕ) where
   the-alike ShortUpload p q s f = rw (s .byte1 (omega arith), s .byte3 (omega arith), s .long4 f)
   the-alike BuildChecksum p q s f = rw (s .long4 f)
   the-alike Download p q s f = rw (s .byte1 f, s .long)
+  the-alike ShortDownload p q s f = rw (s .byte1 (omega arith), s .byte3 (omega arith), s .long4 f, s .long)
   the-alike ClearDaqList p q s f = rw (s .word2 f)
   the-alike SetDaqPtr p q s f = rw (s .word2 (omega arith), s .byte4 (omega arith), s .byte5 f)
   the-alike WriteDaq p q s f = rw (s .byte1 (omega arith), s .byte2 (omega arith), s .byte3 (omega arith), s .long4 f)
@@ -142,6 +143,7 @@ module _ (p : Packet) (v w : Seen) (s : Seeing v w) (nc nm : ℕ) where
   the-looked ShortUpload h = refl
   the-looked BuildChecksum h = rw (s .mta)
   the-looked Download h = rw (s .mta)
+  the-looked ShortDownload h = refl
   the-looked ClearDaqList h = clear-looked (v .runs) (w .runs) (p .w2) (λ there. h (omega arith) there .0)
   the-looked SetDaqPtr h = refl
   the-looked WriteDaq h = rw (s .pointer, s .pointed)

@@ -1,6 +1,6 @@
 // A command's own checks, in the paper's order: the first that applies answers. Each takes no more than it looks at.
 ghost use mathlib.Core.Path.{_≡_};
-ghost use Rattle.model.specs.Judge.{extensionFrom, connectDeed, seedDeed, getSeedDeed, unlockBy, setMtaDeed, uploadDeed, shortUploadDeed, checksumDeed, downloadTo, downloadDeed, clearDeed, pointerDeed, writeBlock, writeDeed, modeDeed, startDeed, startStopDeed, synchDeed};
+ghost use Rattle.model.specs.Judge.{extensionFrom, connectDeed, seedDeed, getSeedDeed, unlockBy, setMtaDeed, uploadDeed, shortUploadDeed, checksumDeed, downloadTo, downloadDeed, shortDownloadDeed, clearDeed, pointerDeed, writeBlock, writeDeed, modeDeed, startDeed, startStopDeed, synchDeed};
 use model::Deed;
 use state::layout;
 use state::memory::inside;
@@ -158,14 +158,14 @@ pub fn build_checksum(mta: Mta, n: u32, nc: usize, nm: usize) -> Deed
     }
 }
 
-fn download_to(extension: Extension, address: u32, n: u8, nc: usize) -> Deed
-    ensures { λ r. ⌜ r ≡ downloadTo extension address n nc ⌝ }
+fn download_to(from: u8, extension: Extension, address: u32, n: u8, nc: usize) -> Deed
+    ensures { λ r. ⌜ r ≡ downloadTo from extension address n nc ⌝ }
 {
     match extension {
         Extension::Measured => Deed::Refuse(Reason::ReadOnly),
         Extension::Calibration => {
             if inside(address, n as u32, nc) {
-                Deed::Download(address, n)
+                Deed::Download(from, address, n)
             } else {
                 Deed::Refuse(Reason::NotInside)
             }
@@ -185,12 +185,36 @@ pub fn download(mta: Mta, n: u8, len: u8, nc: usize) -> Deed
             if layout::DOWNLOAD_MOST < n {
                 return Deed::Refuse(Reason::OutOfRange);
             }
-            if len < n + 2 {
+            if len < n + layout::DOWNLOAD_FROM {
                 return Deed::Refuse(Reason::DataMissing);
             }
-            download_to(extension, address, n, nc)
+            download_to(layout::DOWNLOAD_FROM, extension, address, n, nc)
         }
     }
+}
+
+pub fn short_download(n: u8, extension: u8, address: u32, len: u8, nc: usize) -> Deed
+    ensures { λ r. ⌜ r ≡ shortDownloadDeed n extension address len nc ⌝ }
+{
+    if n == 0 {
+        return Deed::Refuse(Reason::OutOfRange);
+    }
+    if layout::SHORT_DOWNLOAD_MOST < n {
+        return Deed::Refuse(Reason::OutOfRange);
+    }
+    if 1 < extension {
+        return Deed::Refuse(Reason::OutOfRange);
+    }
+    if len < n + layout::SHORT_DOWNLOAD_FROM {
+        return Deed::Refuse(Reason::DataMissing);
+    }
+    download_to(
+        layout::SHORT_DOWNLOAD_FROM,
+        extension_from(extension),
+        address,
+        n,
+        nc,
+    )
 }
 
 pub fn clear_list(runs: bool, l: u16) -> Deed

@@ -54,9 +54,9 @@ abbrev pub sum : List ℕ → ℕ
 sum [] = 0
 sum (b ∷ bs) = b + sum bs
 
--- LEN, CTR and checksum are a byte each, packets are 1 to 8 bytes with no fill, and the checksum is the sum modulo 256
+-- LEN, CTR and checksum are a byte each, packets are 1 to 64 bytes with no fill, and the checksum is the sum modulo 256
 abbrev pub byteForm : Form
-byteForm = record { width = 1; most = 8; fill = λ n. 0; sumWidth = 1; checksum = λ bs. sum bs % 256 }
+byteForm = record { width = 1; most = 64; fill = λ n. 0; sumWidth = 1; checksum = λ bs. sum bs % 256 }
 
 abbrev pub most : ℕ
 most = byteForm .most

@@ -4,7 +4,7 @@ pub const SYNC: u8 = 0x9A;
 pub const ESC: u8 = 0x9B;
 
 // The longest packet; and the same, as wide as LEN.
-pub const MOST: usize = 8;
+pub const MOST: usize = 64;
 
 pub const MOST_U8: u8 = MOST as u8;
 

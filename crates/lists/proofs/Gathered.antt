@@ -9,16 +9,15 @@ use native.Mathlib.Omega.{arith}
 use lib.ListN.{length, set, length-append}
 use lib.Seq.{sets, set-comm}
 use Rattle.line.proofs.Laws.{sets-append}
-use Rattle.state.specs.Bytes.{put16}
 use Rattle.state.specs.Layout.{entries, isFirst, odtMost, sampleAt, allOdts, clockSize, storedMost}
 use Rattle.state.specs.Memory.{byteOf, bytesOf}
-use Rattle.state.specs.Lists.{sizeOf}
+use Rattle.state.specs.Lists.{usedOf, sizeOf}
 use Rattle.lists.specs.Lists.{odtBytes}
 use Rattle.lists.specs.Event.{contentsOf, stored, capturedOdts}
 use Rattle.model.specs.Model.{sizesOf}
 use Rattle.model.specs.Calls.{blockIn, blocksIn, leadOf, contentsIn}
 use Rattle.model.specs.View.{entryOf, odtOf}
-use Rattle.model.proofs.Shown.{sizes-next, blocks-next}
+use Rattle.model.proofs.Shown.{used-most, sizes-used, blocks-used, sizes-next, blocks-next}
 use Rattle.lists.proofs.Entries.{Alike, sets-alike, block-alike, blocks-alike, bytes-alike}
 
 pub bytes-next : (mem : List ℕ) (a n : ℕ) → bytesOf mem a (suc n) ≡ bytesOf mem a n ++ byteOf mem (a + n) ∷ []
@@ -32,9 +31,8 @@ bytes-length mem a zero = refl
 bytes-length mem a (suc n) = ap suc (bytes-length mem (suc a) n)
 
 -- a clock
-pub put16-sets : (s : List ℕ) (i x : ℕ) → put16 s i x ≡ sets s i (x % 256 ∷ x / 256 % 256 ∷ [])
-unfolding put16
-put16-sets s i x = simp add-one
+pub pair-sets : (s : List ℕ) (i a b : ℕ) → set (set s i a) (i + 1) b ≡ sets s i (a ∷ b ∷ [])
+pair-sets s i a b = simp add-one
 
 -- a byte stored before others
 under : (xs l : List ℕ) (i j a : ℕ) → j < i → set (sets l i xs) j a ≡ sets (set l j a) i xs
@@ -45,7 +43,7 @@ module _ (s : List ℕ) (k : ℕ) (cal meas : List ℕ) where
   abbrev gathered : ℕ → List ℕ
   gathered n = blocksIn (odtOf s k) cal meas n
 
-  pub gathered-length : (n : ℕ) → n < entries → length (gathered (suc n)) ≡ length (gathered n) + sizeOf s k n
+  pub gathered-length : (n : ℕ) → n < usedOf s k → length (gathered (suc n)) ≡ length (gathered n) + sizeOf s k n
   gathered-length n h =
       ap length (blocks-next s k cal meas n h) ∙ length-append (gathered n) (blockIn (entryOf s k n) cal meas)
       ∙ ap (λ (m : ℕ). length (gathered n) + m) (bytes-length _ _ _)
@@ -54,24 +52,24 @@ module _ (s : List ℕ) (k : ℕ) (cal meas : List ℕ) where
   unfolding blocksIn sizesOf
   gathered-none = refl
 
-  pub gathered-first : (n : ℕ) → n ≤ entries → length (gathered n) ≡ sizesOf (odtOf s k) n
+  pub gathered-first : (n : ℕ) → n ≤ usedOf s k → length (gathered n) ≡ sizesOf (odtOf s k) n
   gathered-first zero h = gathered-none
   gathered-first (suc n) h = gathered-length n (omega arith) ∙ ap (λ (m : ℕ). m + sizeOf s k n) (gathered-first n (omega arith)) ∙ sym (sizes-next s k n (omega arith))
 
   pub gathered-odt : length (gathered entries) ≡ odtBytes s k
-  gathered-odt = gathered-first entries (omega arith)
+  gathered-odt = ap length (sym (blocks-used s k cal meas)) ∙ gathered-first (usedOf s k) (omega arith) ∙ sizes-used s k
 
   -- entries are read as they were, with bytes stored past them already
   module _ (odt : k < allOdts) (at : ℕ) (past : sampleAt 0 ≤ at) where
-    pub gathered-next : (n : ℕ) → n < entries → sets (sets s at (gathered n)) (at + length (gathered n)) (blockIn (entryOf (sets s at (gathered n)) k n) cal meas) ≡ sets s at (gathered (suc n))
+    pub gathered-next : (n : ℕ) → n < usedOf s k → sets (sets s at (gathered n)) (at + length (gathered n)) (blockIn (entryOf (sets s at (gathered n)) k n) cal meas) ≡ sets s at (gathered (suc n))
     gathered-next n h =
         let same : Alike (sets s at (gathered n)) s = sets-alike (gathered n) s at past in
-        ap (λ (bs : List ℕ). sets (sets s at (gathered n)) (at + length (gathered n)) bs) (block-alike (sets s at (gathered n)) s same k odt cal meas n h)
+        ap (λ (bs : List ℕ). sets (sets s at (gathered n)) (at + length (gathered n)) bs) (block-alike (sets s at (gathered n)) s same k odt cal meas n (omega (arith, used-most s k)))
         ∙ sets-append (gathered n) (blockIn (entryOf s k n) cal meas) s at ∙ ap (λ (bs : List ℕ). sets s at bs) (sym (blocks-next s k cal meas n h))
 
     pub gathered-after : (xs : List ℕ) → sets (sets s at xs) (at + length xs) (blocksIn (odtOf (sets s at xs) k) cal meas entries) ≡ sets s at (xs ++ gathered entries)
     gathered-after xs =
-        ap (λ (bs : List ℕ). sets (sets s at xs) (at + length xs) bs) (blocks-alike (sets s at xs) s (sets-alike xs s at past) k odt cal meas entries (omega arith))
+        ap (λ (bs : List ℕ). sets (sets s at xs) (at + length xs) bs) (blocks-alike (sets s at xs) s (sets-alike xs s at past) k odt cal meas entries)
         ∙ sets-append xs (gathered entries) s at
 
 -- an ODT's packet: its bytes, and then its length before them

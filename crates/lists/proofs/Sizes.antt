@@ -1,4 +1,4 @@
--- A slot's frame has at most 23 bytes. Assumes nothing.
+-- A slot's frame has at most 135 bytes. Assumes nothing.
 use mathlib.Core.List.{List}
 use Prim.Native.Nat.{ℕ}
 use borrow.Author.Tests.{ltb-false}

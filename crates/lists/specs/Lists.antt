@@ -1,12 +1,13 @@
 -- What the bytes show of the lists, and the lists changed.
-use Prim.Native.Nat.{ℕ, zero, suc, _+_, _*_, _%_}
+use Prim.Native.Nat.{ℕ, zero, suc, _+_, _*_, _-_, _/_, _%_}
 use mathlib.Core.Bool.{Bool, false, cond}
 use mathlib.Core.List.{List}
 use lib.Dec.{eqb, ltb}
 use lib.ListN.{length, set}
-use Rattle.state.specs.Layout.{lists, size, listSize, modeAt, selectedAt, runningAt, entrySize, odtSize, entriesAt, entryAt, sampleAt, firstOdt, odtCount}
-use Rattle.state.specs.Bytes.{put16, cleared}
-use Rattle.state.specs.Lists.{selectedOf}
+use Rattle.state.specs.Layout.{lists, size, listSize, modeAt, selectedAt, runningAt, usedAt, entrySize, entryAt, firstOdt, odtCount}
+use Rattle.state.specs.Bytes.{cleared}
+use Rattle.state.specs.State.{dropped}
+use Rattle.state.specs.Lists.{usedOf, selectedOf}
 use Rattle.words.specs.declared.Extension.{Extension}
 use Rattle.words.specs.declared.Extension.the-variants.{Calibration, Measured}
 use Rattle.model.specs.Model.{bytesIn, fits, runsIn, someRuns}
@@ -45,11 +46,6 @@ abbrev pub ready : List ℕ → Bool
 ready s = cond (isState s) (allStartable (sessionOf s) lists) false
 
 -- ---- changes
--- the packets of the n ODTs from k on dropped
-unfoldable pub dropped : List ℕ → ℕ → ℕ → List ℕ
-dropped s k zero = s
-dropped s k (suc n) = set (dropped s k n) (sampleAt (k + n)) 0
-
 -- the running flag switched on or off, and all packets dropped
 unfoldable pub switched : List ℕ → ℕ → ℕ → List ℕ
 switched s l on = dropped (set s (runningAt l) on) (firstOdt l) (odtCount l)
@@ -60,9 +56,9 @@ stopped s l = switched s l 0
 abbrev pub started : List ℕ → ℕ → List ℕ
 started s l = switched s l 1
 
--- as after E3
+-- as after E3: no entry of its ODTs is in use
 unfoldable pub listCleared : List ℕ → ℕ → List ℕ
-listCleared s l = cleared (cleared s (modeAt l) listSize) (entriesAt (firstOdt l)) (odtCount l * odtSize)
+listCleared s l = cleared (cleared s (modeAt l) listSize) (usedAt (firstOdt l)) (odtCount l)
 
 unfoldable pub modeSet : List ℕ → ℕ → ℕ → List ℕ
 modeSet s l event = set (set s (modeAt l) ((event + 1) % 256)) (runningAt l) 0
@@ -71,13 +67,19 @@ abbrev pub tagOf : Extension → ℕ
 tagOf Calibration = 0
 tagOf Measured = 1
 
--- an entry of ODT k, whose list is l; one of size 0 is all zeros
-unfoldable pub entryCleared : List ℕ → ℕ → ℕ → ℕ → List ℕ
-entryCleared s l k e = cleared (set s (runningAt l) 0) (entryAt k e) entrySize
+-- entry e of ODT k comes into use, if it is not: it and those before it that were not are zeros
+unfoldable pub entryReached : List ℕ → ℕ → ℕ → List ℕ
+entryReached s k e =
+    cond (ltb e (usedOf s k)) s
+    (set (cleared s (entryAt k (usedOf s k)) (entrySize * (e + 1 - usedOf s k))) (usedAt k) ((e + 1) % 256))
 
+-- an entry's first byte
+abbrev pub headOf : ℕ → Extension → ℕ → ℕ
+headOf n ext a = (32 * n + 16 * tagOf ext + a / 256) % 256
+
+-- an entry of ODT k, whose list is l
 unfoldable pub entrySet : List ℕ → ℕ → ℕ → ℕ → ℕ → Extension → ℕ → List ℕ
-entrySet s l k e n ext a =
-    put16 (set (set (set s (runningAt l) 0) (entryAt k e) n) (entryAt k e + 1) (tagOf ext)) (entryAt k e + 2) a
+entrySet s l k e n ext a = set (set (entryReached (set s (runningAt l) 0) k e) (entryAt k e) (headOf n ext a)) (entryAt k e + 1) (a % 256)
 
 -- START_STOP_SYNCH, list by list
 abbrev pub deselected : List ℕ → ℕ → List ℕ

@@ -1,37 +1,28 @@
 // The lists: how commands change them, for any bytes.
 ghost use mathlib.Core.Path.{_≡_};
 ghost use mathlib.Core.Bool.{cond};
-ghost use Prim.Native.Nat.{_<_};
+ghost use Prim.Native.Nat.{_+_, _≤_, _<_};
 ghost use lib.ListN.{length, set};
-ghost use Rattle.state.specs.Layout.{lists, odts, firstOdt, selectedAt, listOf, size};
-ghost use Rattle.lists.specs.Lists.{isState, dropped, switched, stopped, started, listCleared, modeSet, tagOf, entryCleared, entrySet, stopEach, startOne, startSelected, stopOne, stopSelected};
+ghost use Rattle.state.specs.Layout.{lists, selectedAt, listOf, size};
+ghost use Rattle.state.specs.Bytes.{cleared};
+ghost use Rattle.lists.specs.Lists.{isState, switched, stopped, started, listCleared, modeSet, tagOf, entryReached, headOf, entrySet, stopEach, startOne, startSelected, stopOne, stopSelected};
 use crate::list::runs;
 use crate::list::selected;
+use crate::list::used;
 use state::bytes::clear;
+use state::bytes::low;
 use state::bytes::put;
-use state::bytes::store16;
-use state::bytes::store32;
+use state::bytes::wide;
+use state::fields::drop_packets;
 use state::layout;
 use words::Extension;
-
-// A list's packets dropped.
-fn drop_packets(s: &mut [u8], l: u8)
-    ensures { λ _. ⌜ now (s .exit) ≡ dropped (now (s .entry)) (firstOdt l) odts ⌝ }
-{
-    let k = layout::first_odt(l);
-    let mut j: u8 = 0;
-    while j < layout::ODTS {
-        put(s, layout::sample_at(k + j as u16), 0);
-        j += 1;
-    }
-}
 
 // A list switched on or off: its running flag, with all packets dropped.
 fn switch(s: &mut [u8], l: u8, on: u8)
     ensures { λ _. ⌜ now (s .exit) ≡ switched (now (s .entry)) l on ⌝ }
 {
     put(s, layout::running_at(l as u16), on);
-    drop_packets(s, l);
+    drop_packets(s, layout::first_odt(l), layout::ODTS);
 }
 
 pub fn stop(s: &mut [u8], l: u8)
@@ -57,8 +48,8 @@ pub fn clear_list(s: &mut [u8], l: u8)
     ensures { λ _. ⌜ now (s .exit) ≡ listCleared (now (s .entry)) l ⌝ }
 {
     clear(s, layout::mode_at(l as u16), layout::LIST_SIZE);
-    let at = layout::entries_at(layout::first_odt(l));
-    clear(s, at, layout::LIST_ENTRIES_SIZE);
+    let at = layout::used_at(layout::first_odt(l));
+    clear(s, at, layout::ODTS as usize);
 }
 
 pub fn set_mode(s: &mut [u8], l: u8, event: u8)
@@ -81,21 +72,46 @@ fn tag(extension: Extension) -> u8
     }
 }
 
-pub fn clear_entry(s: &mut [u8], k: u16, e: u8)
-    ensures { λ _. ⌜ now (s .exit) ≡ entryCleared (now (s .entry)) (listOf k) k e ⌝ }
+// n zeros from `at`. Each is asked for by itself: as one run they become a call, and a received byte gets that call's stack.
+fn put_zeros(s: &mut [u8], at: usize, n: usize)
+    requires { ⌜ at + n ≤ 4294967295 ⌝ }
+    ensures { λ _. ⌜ now (s .exit) ≡ cleared (now (s .entry)) at n ⌝ }
 {
-    put(s, layout::running_at(layout::list_of(k)), 0);
-    store32(s, layout::entry_at(k, e), 0);
+    let mut i = 0;
+    while i < n {
+        put(s, at + i, 0);
+        i += 1;
+    }
+}
+
+// An entry comes into use, if it is not: it and those before it that were not are zeros.
+fn reach(s: &mut [u8], k: u16, e: u8)
+    ensures { λ _. ⌜ now (s .exit) ≡ entryReached (now (s .entry)) k e ⌝ }
+{
+    let n = used(s, k);
+    if e < n {
+        return;
+    }
+    let more = (e - n) as usize + 1;
+    put_zeros(s, layout::entry_at(k, n), layout::ENTRY_SIZE * more);
+    put(s, layout::used_at(k), std::num::wrapping_add_u8(e, 1));
+}
+
+// An entry's first byte: three bits of size, one of extension, four of address.
+fn head(n: u8, extension: Extension, address: u32) -> u8
+    ensures { λ r. ⌜ r ≡ headOf n extension address ⌝ }
+{
+    ((32 * wide(n) + 16 * wide(tag(extension)) + address / 256) % 256) as u8
 }
 
 pub fn set_entry(s: &mut [u8], k: u16, e: u8, n: u8, extension: Extension, address: u32)
     ensures { λ _. ⌜ now (s .exit) ≡ entrySet (now (s .entry)) (listOf k) k e n extension address ⌝ }
 {
-    let at = layout::entry_at(k, e);
     put(s, layout::running_at(layout::list_of(k)), 0);
-    put(s, at, n);
-    put(s, at + 1, tag(extension));
-    store16(s, at + 2, address);
+    reach(s, k, e);
+    let at = layout::entry_at(k, e);
+    put(s, at, head(n, extension, address));
+    put(s, at + 1, low(address));
 }
 
 // ---- START_STOP_SYNCH, list by list

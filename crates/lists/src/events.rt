@@ -5,7 +5,7 @@ ghost use Prim.Native.Nat.{_+_, _≤_, _<_};
 ghost use lib.ListN.{length};
 ghost use lib.Seq.{sets};
 ghost use Rattle.state.specs.Layout.{lists, odts, entries, allOdts, events, odtMost, entryMost, clockSize, size, sampleAt};
-ghost use Rattle.state.specs.Memory.{bytesOf};
+ghost use Rattle.state.specs.Memory.{reach, byteOf, bytesOf};
 ghost use Rattle.state.specs.Lists.{sizeOf};
 ghost use Rattle.lists.specs.Lists.{odtBytes};
 ghost use Rattle.lists.specs.Event.{samplingOf, contentsOf, stored, captured, sampledState, sampledBy, missedBy, Counts, tally, Happens, eventOf};
@@ -17,7 +17,7 @@ use crate::list;
 use model::Sampling;
 use state::fields;
 use state::layout;
-use state::memory::byte;
+use state::memory::reach;
 use words::Evented;
 use words::Extension;
 
@@ -38,27 +38,36 @@ fn sampling(s: &[u8], l: u8, event: u8) -> Sampling
     Sampling::Sampled
 }
 
-// The n bytes of a memory from address on into the state; a byte that is not inside is 0.
-fn take_block(s: &mut [u8], to: usize, mem: &[u8], address: usize, n: usize)
-    requires { ⌜ (to + n ≤ length (now s)) × (address + n ≤ 65540) ⌝ }
+// A byte of a memory of which so many can be addressed, 0 where it is not inside.
+fn byte_below(mem: &[u8], at: u32, end: u32) -> u8
+    requires { ⌜ end ≡ reach (length (now mem)) ⌝ }
+    ensures { λ r. ⌜ r ≡ byteOf (now (mem .entry)) at ⌝ }
+{
+    if at < end { mem[at as usize] } else { 0 }
+}
+
+// The n bytes of a memory from address on into the state. How many it has is asked once, and in 32 bits: a small processor has no others.
+fn take_block(s: &mut [u8], to: usize, mem: &[u8], address: u16, n: u8)
+    requires { ⌜ (to + n ≤ length (now s)) × (length (now s) ≡ size) × (n ≤ entryMost) ⌝ }
     ensures { λ _. ⌜ now (s .exit) ≡ sets (now (s .entry)) to (bytesOf (now (mem .entry)) address n) ⌝ }
 {
-    let mut i = 0;
+    let end = reach(mem.len()) as u32;
+    let mut i: u8 = 0;
     while i < n {
-        s[to + i] = byte(mem, address + i);
+        s[to + i as usize] = byte_below(mem, address as u32 + i as u32, end);
         i += 1;
     }
 }
 
 // The n bytes of one entry.
-fn take_entry(s: &mut [u8], to: usize, cal: &[u8], meas: &[u8], k: u16, e: u8, n: usize)
+fn take_entry(s: &mut [u8], to: usize, cal: &[u8], meas: &[u8], k: u16, e: u8, n: u8)
     requires { ⌜ (length (now s) ≡ size) × (k < allOdts) × (e < entries) × (n ≡ sizeOf (now s) k e) × (n ≤ entryMost) × (to + n ≤ length (now s)) ⌝ }
     ensures { λ _. ⌜ now (s .exit) ≡ sets (now (s .entry)) to (blockIn (entryOf (now (s .entry)) k e) (now (cal .entry)) (now (meas .entry))) ⌝ }
 {
     if n == 0 {
         return;
     }
-    let address = list::entry_address(s, k, e) as usize;
+    let address = list::entry_address(s, k, e);
     let extension = list::entry_extension(s, k, e);
     match extension {
         Extension::Calibration => take_block(s, to, cal, address, n),
@@ -71,12 +80,13 @@ fn gather(s: &mut [u8], from: usize, cal: &[u8], meas: &[u8], k: u16) -> usize
     requires { ⌜ (length (now s) ≡ size) × (k < allOdts) × (sampleAt 0 ≤ from) × (from + odtBytes (now s) k ≤ size) ⌝ }
     ensures { λ r. ⌜ (now (s .exit) ≡ sets (now (s .entry)) from (blocksIn (odtOf (now (s .entry)) k) (now (cal .entry)) (now (meas .entry)) entries)) × (r ≡ from + odtBytes (now (s .entry)) k) ⌝ }
 {
+    let used = list::used(s, k);
     let mut to = from;
     let mut e: u8 = 0;
-    while e < layout::ENTRIES {
-        let n = list::entry_size(s, k, e) as usize;
+    while e < used {
+        let n = list::entry_size(s, k, e);
         take_entry(s, to, cal, meas, k, e, n);
-        to += n;
+        to += n as usize;
         e += 1;
     }
     to

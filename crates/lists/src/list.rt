@@ -6,11 +6,12 @@ ghost use lib.Dec.{eqb};
 ghost use lib.ListN.{length};
 ghost use Rattle.state.specs.Layout.{lists, odts, allOdts, entries, events, storedMost, entryMost, size};
 ghost use Rattle.state.specs.State.{flagOf};
-ghost use Rattle.state.specs.Lists.{sizeOf, extensionOf, addressOf, modeOf, selectedOf, leastOf, storedLength};
+ghost use Rattle.state.specs.Lists.{usedOf, sizeOf, extensionOf, addressOf, modeOf, selectedOf, leastOf, storedLength};
 ghost use Rattle.model.specs.Model.{allBytes, eachFits, unsent, someRuns};
 ghost use Rattle.model.specs.Judge.{startable, allStartable};
 ghost use Rattle.model.specs.View.{sessionOf};
 ghost use Rattle.lists.specs.Lists.{odtBytes, fitOf, runsOf};
+use state::bytes::get;
 use state::bytes::wide;
 use state::layout;
 use words::Extension;
@@ -25,12 +26,23 @@ pub fn on(s: &[u8], at: usize) -> bool
 
 // ---- entries
 
+// How many entries of an ODT are in use; more than it has reads as none. For any state and any ODT.
+pub fn used(s: &[u8], k: u16) -> u8
+    ensures { λ r. ⌜ (r ≡ usedOf (now (s .entry)) k) × (r ≤ entries) ⌝ }
+{
+    let n = get(s, layout::used_at(k));
+    if layout::ENTRIES < n {
+        return 0;
+    }
+    n
+}
+
 // An entry's size; above 4 it reads as 0.
 pub fn entry_size(s: &[u8], k: u16, e: u8) -> u8
     requires { ⌜ (length (now s) ≡ size) × (k < allOdts) × (e < entries) ⌝ }
     ensures { λ r. ⌜ (r ≡ sizeOf (now (s .entry)) k e) × (r ≤ entryMost) ⌝ }
 {
-    let n = s[layout::entry_at(k, e)];
+    let n = s[layout::entry_at(k, e)] / 32;
     if layout::ENTRY_MOST < n {
         return 0;
     }
@@ -41,7 +53,7 @@ pub fn entry_extension(s: &[u8], k: u16, e: u8) -> Extension
     requires { ⌜ (length (now s) ≡ size) × (k < allOdts) × (e < entries) ⌝ }
     ensures { λ r. ⌜ r ≡ extensionOf (now (s .entry)) k e ⌝ }
 {
-    if on(s, layout::entry_at(k, e) + 1) {
+    if s[layout::entry_at(k, e)] / 16 % 2 == 1 {
         Extension::Measured
     } else {
         Extension::Calibration
@@ -52,8 +64,8 @@ pub fn entry_address(s: &[u8], k: u16, e: u8) -> u16
     requires { ⌜ (length (now s) ≡ size) × (k < allOdts) × (e < entries) ⌝ }
     ensures { λ r. ⌜ r ≡ addressOf (now (s .entry)) k e ⌝ }
 {
-    let at = layout::entry_at(k, e) + 2;
-    (wide(s[at]) + 256 * wide(s[at + 1])) as u16
+    let at = layout::entry_at(k, e);
+    (wide(s[at + 1]) + 256 * (wide(s[at]) % 16)) as u16
 }
 
 // The bytes of an ODT.
@@ -61,9 +73,10 @@ pub fn odt_bytes(s: &[u8], k: u16) -> u8
     requires { ⌜ (length (now s) ≡ size) × (k < allOdts) ⌝ }
     ensures { λ r. ⌜ (r ≡ odtBytes (now (s .entry)) k) × (r ≤ entries * entryMost) ⌝ }
 {
+    let used = used(s, k);
     let mut n = 0;
     let mut e = 0;
-    while e < layout::ENTRIES {
+    while e < used {
         n += entry_size(s, k, e);
         e += 1;
     }

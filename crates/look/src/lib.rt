@@ -118,6 +118,13 @@ fn judge_the(command: Command, s: &[u8], n: u8, nc: usize, nm: usize) -> Deed
             nm,
         ),
         Command::Download => checks::download(fields::mta(s), get(s, layout::PACKET_1), n, nc),
+        Command::ShortDownload => checks::short_download(
+            get(s, layout::PACKET_1),
+            get(s, layout::PACKET_3),
+            get32(s, layout::PACKET_4),
+            n,
+            nc,
+        ),
         Command::ClearDaqList => clear_list(s, get16(s, layout::PACKET_2)),
         Command::SetDaqPtr => checks::set_pointer(
             get16(s, layout::PACKET_2),

@@ -1,16 +1,18 @@
 -- What the bytes show: of a list, an ODT, an entry that there is, its own bytes; of a list that there is not, nothing. Assumes nothing.
-use Prim.Native.Nat.{ℕ, suc, _+_, _≤_, _<_}
-use mathlib.Core.Path.{_≡_, refl, ap, _∙_}
+use Prim.Native.Nat.{ℕ, zero, suc, _+_, _-_, _≤_, _<_}
+use mathlib.Core.Path.{_≡_, refl, sym, ap, _∙_}
 use mathlib.Core.Bool.{Bool, true, false, cond}
-use mathlib.Core.List.{List, _∷_, _++_}
+use mathlib.Core.List.{List, _∷_, _++_, append-nil}
+use native.Mathlib.Nat.{add-zero, add-suc}
 use native.Mathlib.Omega.{arith}
 use borrow.Author.Tests.{ltb-false}
 use lib.Dec.{eqb, ltb, leb}
 use lib.ListN.{length, getD, length-set, set}
 use Rattle.line.proofs.Laws.{cond-ind}
-use Rattle.state.specs.Layout.{size, lists, firstOdt, odtCount, odtMost, allOdts, listOf, entryCount, storedMost, packetMost, servedAt, lastAt, sampleAt, answerAt, answerBytesAt, runningAt}
+use Rattle.state.specs.Layout.{size, lists, firstOdt, odtCount, odtMost, allOdts, listOf, entryCount, storedMost, packetMost, servedAt, lastAt, usedAt, sampleAt, answerAt, answerBytesAt, runningAt}
 use Rattle.state.specs.State.{flagOf, openOf, waits, answerLength, answerKind, answerOf}
-use Rattle.state.specs.Lists.{sizeOf, modeOf, selectedOf, leastOf, storedLength}
+use Rattle.state.specs.Lists.{usedOf, sizeOf, modeOf, selectedOf, leastOf, storedLength}
+use Rattle.state.specs.Memory.{bytesOf}
 use Rattle.state.proofs.Sets.{block-length}
 use Rattle.model.specs.declared.Sampling.the-variants.{Idle, Sampled, Missed}
 use Rattle.model.specs.declared.Turn.the-variants.{Answer}
@@ -32,16 +34,47 @@ stored-most s k =
 pub stored-long : (s : List ℕ) (k : ℕ) → length s ≡ size → k < allOdts → length (odtOf s k .store) ≡ storedLength s k
 stored-long s k h q = block-length s (sampleAt k + 1) (storedLength s k) (omega (arith, stored-most s k))
 
--- an entry; the first n + 1 entries' sizes and bytes
-module _ (s : List ℕ) (k : ℕ) where
-  pub entry-at : (e : ℕ) → e < entryCount k → odtOf s k .entry e ≡ entryOf s k e
-  entry-at e h = upTo-at (entryCount k) e noEntry (entryOf s k) h
+-- entries that there are not have no bytes: the first n of an ODT are all
+module _ (y : Odt) (n : ℕ) (rest : (e : ℕ) → n ≤ e → y .entry e ≡ noEntry) where
+  sizes-rest : (d : ℕ) → sizesOf y (n + d) ≡ sizesOf y n
+  unfolding sizesOf
+  sizes-rest zero = rw add-zero
+  sizes-rest (suc d) = rw (add-suc, rest (n + d) (omega arith), sizes-rest d, add-zero)
 
-  pub sizes-next : (n : ℕ) → n < entryCount k → sizesOf (odtOf s k) (suc n) ≡ sizesOf (odtOf s k) n + sizeOf s k n
+  blocks-rest : (cal meas : List ℕ) (d : ℕ) → blocksIn y cal meas (n + d) ≡ blocksIn y cal meas n
+  unfolding blocksIn bytesOf
+  blocks-rest cal meas zero = rw add-zero
+  blocks-rest cal meas (suc d) = rw (add-suc, rest (n + d) (omega arith), blocks-rest cal meas d, append-nil (blocksIn y cal meas n))
+
+-- an entry in use, and one that is not; the first n + 1 entries' sizes and bytes; those in use are all
+module _ (s : List ℕ) (k : ℕ) where
+  pub used-most : usedOf s k ≤ entryCount k
+  unfolding usedOf
+  used-most =
+      let P : ℕ → Type 0 = λ (n : ℕ). n ≤ entryCount k in
+      cond-ind P (ltb (entryCount k) (getD s (usedAt k) 0)) (λ _. omega arith) (λ h. ltb-false (entryCount k) (getD s (usedAt k) 0) h)
+
+  pub entry-at : (e : ℕ) → e < usedOf s k → odtOf s k .entry e ≡ entryOf s k e
+  entry-at e h = upTo-at (usedOf s k) e noEntry (entryOf s k) h
+
+  pub entry-past : (e : ℕ) → usedOf s k ≤ e → odtOf s k .entry e ≡ noEntry
+  entry-past e h = upTo-above (usedOf s k) e noEntry (entryOf s k) h
+
+  pub sizes-used : sizesOf (odtOf s k) (usedOf s k) ≡ bytesIn k (odtOf s k)
+  sizes-used =
+      let rest : usedOf s k + (entryCount k - usedOf s k) ≡ entryCount k = omega (arith, used-most) in
+      sym (sizes-rest (odtOf s k) (usedOf s k) entry-past (entryCount k - usedOf s k)) ∙ ap (sizesOf (odtOf s k)) rest
+
+  pub blocks-used : (cal meas : List ℕ) → blocksIn (odtOf s k) cal meas (usedOf s k) ≡ blocksIn (odtOf s k) cal meas (entryCount k)
+  blocks-used cal meas =
+      let rest : usedOf s k + (entryCount k - usedOf s k) ≡ entryCount k = omega (arith, used-most) in
+      sym (blocks-rest (odtOf s k) (usedOf s k) entry-past cal meas (entryCount k - usedOf s k)) ∙ ap (blocksIn (odtOf s k) cal meas) rest
+
+  pub sizes-next : (n : ℕ) → n < usedOf s k → sizesOf (odtOf s k) (suc n) ≡ sizesOf (odtOf s k) n + sizeOf s k n
   unfolding sizesOf
   sizes-next n h = rw (entry-at n h)
 
-  pub blocks-next : (cal meas : List ℕ) (n : ℕ) → n < entryCount k → blocksIn (odtOf s k) cal meas (suc n) ≡ blocksIn (odtOf s k) cal meas n ++ blockIn (entryOf s k n) cal meas
+  pub blocks-next : (cal meas : List ℕ) (n : ℕ) → n < usedOf s k → blocksIn (odtOf s k) cal meas (suc n) ≡ blocksIn (odtOf s k) cal meas n ++ blockIn (entryOf s k n) cal meas
   unfolding blocksIn
   blocks-next cal meas n h = rw (entry-at n h)
 

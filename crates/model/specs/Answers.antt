@@ -33,7 +33,7 @@ replyIn (Unlock r) c cal meas = 0xFF ∷ maskBy (unlock r (c .unlocked)) ∷ []
 replyIn (SetMta e a) c cal meas = 0xFF ∷ []
 replyIn (Upload e a n) c cal meas = 0xFF ∷ block (pick e cal meas) a n
 replyIn (Checksum e a n) c cal meas = 0xFF ∷ 0x02 ∷ 0x00 ∷ 0x00 ∷ bytes32 (blockSum (pick e cal meas) a n)
-replyIn (Download a n) c cal meas = 0xFF ∷ []
+replyIn (Download from a n) c cal meas = 0xFF ∷ []
 replyIn (ClearList l) c cal meas = 0xFF ∷ []
 replyIn (SetPointer k e) c cal meas = 0xFF ∷ []
 replyIn (ClearEntry k e) c cal meas = 0xFF ∷ []
@@ -49,8 +49,9 @@ replyIn StopSelected c cal meas = 0xFF ∷ []
 replyIn ProcessorInfo c cal meas = 0xFF ∷ 0x10 ∷ lists ∷ 0x00 ∷ events ∷ 0x00 ∷ 0x00 ∷ 0x00 ∷ []
 replyIn ResolutionInfo c cal meas = 0xFF ∷ 0x01 ∷ entryMost ∷ 0x00 ∷ 0x00 ∷ 0x6A ∷ 0x01 ∷ 0x00 ∷ []
 
--- ---- what a deed writes into the calibration memory: DOWNLOAD alone does, as many bytes of its packet from there on
+-- ---- what a deed writes into the calibration memory: DOWNLOAD and SHORT_DOWNLOAD alone do, so many bytes of their packet from byte `from` on
 pub record Write : Type 0 where
+  pub from : ℕ
   pub address : ℕ
   pub count : ℕ
 
@@ -68,7 +69,7 @@ writes (Unlock r) = none
 writes (SetMta e a) = none
 writes (Upload e a n) = none
 writes (Checksum e a n) = none
-writes (Download a n) = some (record { address = a; count = n })
+writes (Download from a n) = some (record { from = from; address = a; count = n })
 writes (ClearList l) = none
 writes (SetPointer k e) = none
 writes (ClearEntry k e) = none
@@ -86,7 +87,7 @@ writes ResolutionInfo = none
 
 abbrev pub memoryAfter : Option Write → List ℕ → List ℕ → List ℕ
 memoryAfter none p cal = cal
-memoryAfter (some w) p cal = sets cal (w .address) (block p 2 (w .count))
+memoryAfter (some w) p cal = sets cal (w .address) (block p (w .from) (w .count))
 
 -- the calibration memory after a deed whose packet is p
 abbrev pub written : Deed → List ℕ → List ℕ → List ℕ

@@ -4,7 +4,7 @@ use Prim.Native.Nat.{ℕ, zero, suc, _+_}
 use mathlib.Core.Bool.{Bool, true, false, cond, not}
 use mathlib.Core.List.{List}
 use lib.Dec.{eqb, ltb, leb}
-use Rattle.state.specs.Layout.{lists, events, entryMost, uploadMost, downloadMost, addressable, firstOdt, odtCount, listOf, entryCount}
+use Rattle.state.specs.Layout.{lists, events, entryMost, uploadMost, downloadFrom, downloadMost, shortDownloadFrom, shortDownloadMost, addressable, firstOdt, odtCount, listOf, entryCount}
 use Rattle.state.specs.Bytes.{u16At}
 use Rattle.state.specs.Generator.{keyOf, staysShut}
 use Rattle.state.specs.Memory.{pick, insideOf}
@@ -14,7 +14,7 @@ use Rattle.model.specs.Seen.{Packet, numbersOf, Seen}
 use Rattle.words.specs.declared.Needs.{Needs}
 use Rattle.words.specs.declared.Needs.the-variants as needs
 use Rattle.words.specs.declared.Command.{Command}
-use Rattle.words.specs.declared.Command.the-variants.{Unknown, Connect, Disconnect, GetStatus, Synch, GetSeed, Unlock, SetMta, Upload, ShortUpload, BuildChecksum, Download, ClearDaqList, SetDaqPtr, WriteDaq, SetDaqListMode, StartStopDaqList, StartStopSynch, GetDaqProcessorInfo, GetDaqResolutionInfo}
+use Rattle.words.specs.declared.Command.the-variants.{Unknown, Connect, Disconnect, GetStatus, Synch, GetSeed, Unlock, SetMta, Upload, ShortUpload, BuildChecksum, Download, ShortDownload, ClearDaqList, SetDaqPtr, WriteDaq, SetDaqListMode, StartStopDaqList, StartStopSynch, GetDaqProcessorInfo, GetDaqResolutionInfo}
 use Rattle.words.specs.declared.Resource.{Resource}
 use Rattle.words.specs.declared.Resource.the-variants.{Calibration, Lists}
 use Rattle.words.specs.declared.Extension.{Extension}
@@ -90,19 +90,28 @@ checksumDeed (At e a) n nc nm =
     (cond (insideOf a n (pick e nc nm)) (deed.Checksum e a n)
     (deed.Refuse NotInside)))
 
--- DOWNLOAD of n bytes
-unfoldable pub downloadTo : Extension → ℕ → ℕ → ℕ → Deed
-downloadTo CalibrationMemory a n nc = cond (insideOf a n nc) (deed.Download a n) (deed.Refuse NotInside)
-downloadTo Measured a n nc = deed.Refuse ReadOnly
+-- DOWNLOAD or SHORT_DOWNLOAD of n bytes, which lie in the packet from byte `from` on
+unfoldable pub downloadTo : ℕ → Extension → ℕ → ℕ → ℕ → Deed
+downloadTo from CalibrationMemory a n nc = cond (insideOf a n nc) (deed.Download from a n) (deed.Refuse NotInside)
+downloadTo from Measured a n nc = deed.Refuse ReadOnly
 
--- len is the packet's
+-- DOWNLOAD; len is the packet's
 unfoldable pub downloadDeed : Mta → ℕ → ℕ → ℕ → Deed
 downloadDeed Unset n len nc = deed.Refuse Sequence
 downloadDeed (At e a) n len nc =
     cond (eqb n 0) (deed.Refuse OutOfRange)
     (cond (ltb downloadMost n) (deed.Refuse OutOfRange)
-    (cond (ltb len (n + 2)) (deed.Refuse DataMissing)
-    (downloadTo e a n nc)))
+    (cond (ltb len (n + downloadFrom)) (deed.Refuse DataMissing)
+    (downloadTo downloadFrom e a n nc)))
+
+-- SHORT_DOWNLOAD: DOWNLOAD to its own extension and address
+unfoldable pub shortDownloadDeed : ℕ → ℕ → ℕ → ℕ → ℕ → Deed
+shortDownloadDeed n ext a len nc =
+    cond (eqb n 0) (deed.Refuse OutOfRange)
+    (cond (ltb shortDownloadMost n) (deed.Refuse OutOfRange)
+    (cond (ltb 1 ext) (deed.Refuse OutOfRange)
+    (cond (ltb len (n + shortDownloadFrom)) (deed.Refuse DataMissing)
+    (downloadTo shortDownloadFrom (extensionFrom ext) a n nc))))
 
 -- CLEAR_DAQ_LIST
 unfoldable pub clearDeed : Bool → ℕ → Deed
@@ -187,6 +196,7 @@ judgeThe Upload p v nc nm = uploadDeed (v .mta) (p .b1) nc nm
 judgeThe ShortUpload p v nc nm = shortUploadDeed (p .b1) (p .b3) (p .d4) nc nm
 judgeThe BuildChecksum p v nc nm = checksumDeed (v .mta) (p .d4) nc nm
 judgeThe Download p v nc nm = downloadDeed (v .mta) (p .b1) (p .n) nc
+judgeThe ShortDownload p v nc nm = shortDownloadDeed (p .b1) (p .b3) (p .d4) (p .n) nc
 judgeThe ClearDaqList p v nc nm = clearDeed (v .runs) (p .w2)
 judgeThe SetDaqPtr p v nc nm = pointerDeed (p .w2) (p .b4) (p .b5)
 judgeThe WriteDaq p v nc nm = writeDeed (v .pointer) (v .pointed) (p .b1) (p .b2) (p .b3) (p .d4) nc nm

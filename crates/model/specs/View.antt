@@ -2,10 +2,10 @@
 use Prim.Native.Nat.{ℕ, _+_}
 use mathlib.Core.List.{List}
 use lib.ListN.{getD}
-use Rattle.state.specs.Layout.{lists, odtCount, entryCount, firstOdt, runningAt, sampleAt, servedAt, lastAt}
+use Rattle.state.specs.Layout.{lists, odtCount, firstOdt, runningAt, sampleAt, servedAt, lastAt}
 use Rattle.state.specs.Bytes.{block}
 use Rattle.state.specs.State.{flagOf, generatorOf, wrongKeysOf, ctrOf, openOf, unlockedOf, seedOf, mtaOf, pointerOf, placeOf, messageOf, answerOf}
-use Rattle.state.specs.Lists.{sizeOf, extensionOf, addressOf, modeOf, selectedOf, storedLength}
+use Rattle.state.specs.Lists.{usedOf, sizeOf, extensionOf, addressOf, modeOf, selectedOf, storedLength}
 use Rattle.model.specs.Answers.{Done}
 use Rattle.model.specs.Model.{upTo, Entry, noEntry, Odt, noOdt, DaqList, noList, Session, Slave}
 
@@ -13,7 +13,7 @@ abbrev pub entryOf : List ℕ → ℕ → ℕ → Entry
 entryOf s k e = record { size = sizeOf s k e; extension = extensionOf s k e; address = addressOf s k e }
 
 abbrev pub odtOf : List ℕ → ℕ → Odt
-odtOf s k = record { entry = upTo (entryCount k) noEntry (entryOf s k); store = block s (sampleAt k + 1) (storedLength s k) }
+odtOf s k = record { entry = upTo (usedOf s k) noEntry (entryOf s k); store = block s (sampleAt k + 1) (storedLength s k) }
 
 abbrev pub daqOf : List ℕ → ℕ → DaqList
 daqOf s l = record { mode = modeOf s l; selected = selectedOf s l; started = flagOf s (runningAt l); odt = upTo (odtCount l) noOdt (λ o. odtOf s (firstOdt l + o)) }

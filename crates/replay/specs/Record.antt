@@ -12,7 +12,7 @@ abbrev pub header : ℕ
 header = 4
 
 abbrev pub longestBody : ℕ
-longestBody = 64
+longestBody = 256
 
 abbrev pub memory : ℕ
 memory = 4096

@@ -4,6 +4,7 @@ ghost use lib.ListN.{length};
 ghost use Rattle.replay.specs.Log.{Keeps};
 ghost use Rattle.replay.specs.Text.{lineRoom};
 use crate::record;
+use crate::record::LONGEST_BODY;
 use crate::run;
 use session::STATE_SIZE;
 
@@ -29,27 +30,39 @@ enum Progress {
     On { kept: usize, far: Far },
 }
 
-// The line that ends the output; standard error hears which record it was, and what is wrong.
-fn say_bad(far: Far, why: &[u8]) {
+fn tell(text: &[u8]) {
+    io::write_all(2, text);
+}
+
+// The line that ends the output; standard error hears which record it was, and then what is wrong.
+fn say_bad(far: Far) {
     io::write_all(1, b"bad\n");
-    io::write_all(2, b"replay: record ");
+    tell(b"replay: record ");
     io::print_decimal(2, std::num::wrapping_add_u64(far.records, 1));
-    io::write_all(2, b", which begins at byte ");
+    tell(b", which begins at byte ");
     io::print_decimal(2, far.bytes);
-    io::write_all(2, b" (the log's first byte is 0), ");
-    io::write_all(2, why);
-    io::write_all(2, b"\n");
+    tell(b" (the log's first byte is 0), ");
 }
 
 fn say_cut(far: Far) {
-    say_bad(far, b"is cut off");
+    say_bad(far);
+    tell(b"is cut off\n");
+}
+
+// How many bytes a body has at most.
+fn tell_longest() {
+    io::print_decimal(2, LONGEST_BODY as u64);
 }
 
 fn say_none(far: Far) {
-    say_bad(
-        far,
-        b"is none: length and kind, 2 bytes each, then for kind 1 at most 64 wire bytes, for 2 an event and a clock, for 3 nothing, for 4 an offset and bytes that lie below 4,096 from there on, 64 in all",
+    say_bad(far);
+    tell(b"is none: length and kind, 2 bytes each, then for kind 1 at most ");
+    tell_longest();
+    tell(
+        b" wire bytes, for 2 an event and a clock, for 3 nothing, for 4 an offset and bytes that lie below 4,096 from there on, ",
     );
+    tell_longest();
+    tell(b" in all\n");
 }
 
 // Reads once, after the kept bytes, and answers how many bytes there are then. A read error counts

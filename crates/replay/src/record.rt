@@ -4,12 +4,12 @@ ghost use mathlib.Core.Bool.{true};
 ghost use Prim.Native.Nat.{_+_, _≤_, _<_};
 ghost use lib.ListN.{length};
 ghost use Rattle.state.specs.Bytes.{u16At};
-ghost use Rattle.replay.specs.Record.{recordAt, bodyOf, measuredOf, wholeOf, fitsOf, nextOf, badOf};
+ghost use Rattle.replay.specs.Record.{longestBody, recordAt, bodyOf, measuredOf, wholeOf, fitsOf, nextOf, badOf};
 
 // Body length and kind.
 const HEADER: usize = 4;
 
-const LONGEST_BODY: usize = 64;
+pub const LONGEST_BODY: usize = 256;
 
 const MEMORY: usize = 4096;
 
@@ -64,7 +64,7 @@ fn fits(kind: u16, len: usize) -> bool
 
 // Measured bytes, if all of them have a place.
 fn measured(bytes: &[u8], from: usize, len: usize) -> Record
-    requires { ⌜ (from + len ≤ length (now bytes)) × (2 ≤ len) × (len ≤ 64) ⌝ }
+    requires { ⌜ (from + len ≤ length (now bytes)) × (2 ≤ len) × (len ≤ longestBody) ⌝ }
     ensures { λ r. ⌜ r ≡ measuredOf (now (bytes .entry)) from len ⌝ }
 {
     let offset = word(bytes, from) as usize;
@@ -81,7 +81,7 @@ fn measured(bytes: &[u8], from: usize, len: usize) -> Record
 
 // A record whose body is all there.
 fn whole(bytes: &[u8], kind: u16, from: usize, len: usize) -> Record
-    requires { ⌜ (from + len ≤ length (now bytes)) × (len ≤ 64) × (fitsOf kind len ≡ true) ⌝ }
+    requires { ⌜ (from + len ≤ length (now bytes)) × (len ≤ longestBody) × (fitsOf kind len ≡ true) ⌝ }
     ensures { λ r. ⌜ r ≡ wholeOf (now (bytes .entry)) kind from len ⌝ }
 {
     if kind == 1 {

@@ -6,7 +6,7 @@ use lib.ListN.{set}
 use Rattle.state.specs.Layout.{lists, selectedAt, listOf}
 use Rattle.state.specs.Generator.{nextOf}
 use Rattle.state.specs.State.{generatorOf, setGenerator, countedWrong, lockAt, setSeed, setMta, setPointer, closed, fresh, answered}
-use Rattle.lists.specs.Lists.{stopped, started, listCleared, modeSet, entryCleared, entrySet, stopEach, startSelected, stopSelected}
+use Rattle.lists.specs.Lists.{stopped, started, listCleared, modeSet, entrySet, stopEach, startSelected, stopSelected}
 use Rattle.words.specs.declared.Extension.the-variants.{Calibration}
 use Rattle.words.specs.declared.Seed.the-variants.{None, For}
 use Rattle.words.specs.declared.Mta.the-variants.{At}
@@ -33,10 +33,10 @@ effect (Unlock r) s = setSeed (set s (lockAt r) 1) None
 effect (SetMta e a) s = setMta s (At e a)
 effect (Upload e a n) s = setMta s (At e (a + n))
 effect (Checksum e a n) s = setMta s (At e (a + n))
-effect (Download a n) s = setMta s (At Calibration (a + n))
+effect (Download from a n) s = setMta s (At Calibration (a + n))
 effect (ClearList l) s = listCleared s l
 effect (SetPointer k e) s = setPointer s (Entry k e)
-effect (ClearEntry k e) s = setPointer (entryCleared s (listOf k) k e) (nextEntry k e)
+effect (ClearEntry k e) s = setPointer (entrySet s (listOf k) k e 0 Calibration 0) (nextEntry k e)
 effect (WriteEntry k e n ext a) s = setPointer (entrySet s (listOf k) k e n ext a) (nextEntry k e)
 effect (SetMode l event) s = modeSet s l event
 effect (Stop l) s = stopped s l

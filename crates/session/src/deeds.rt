@@ -157,12 +157,18 @@ pub fn checksum(s: &mut [u8], cal: &[u8], meas: &[u8], extension: Extension, add
     answer::sum(s, sum);
 }
 
-// The data lies in the packet from its third byte on.
-pub fn download(s: &mut [u8], cal: &mut [u8], address: u32, n: u8, len: u8)
-    requires { ⌜ (length (now s) ≡ size) × (len ≤ packetMost) × (n + 2 ≤ len) × Inside downloadMost address n (length (now cal)) ⌝ }
-    ensures { λ _. ⌜ (now (s .exit) ≡ after (Deed.Download address n) (now (s .entry)) [] []) × (now (cal .exit) ≡ written (Deed.Download address n) (block (now (s .entry)) packetAt len) (now (cal .entry))) ⌝ }
+// The data lies in the packet from byte `from` on.
+pub fn download(s: &mut [u8], cal: &mut [u8], from: u8, address: u32, n: u8, len: u8)
+    requires { ⌜ (length (now s) ≡ size) × (len ≤ packetMost) × (n + from ≤ len) × Inside downloadMost address n (length (now cal)) ⌝ }
+    ensures { λ _. ⌜ (now (s .exit) ≡ after (Deed.Download from address n) (now (s .entry)) [] []) × (now (cal .exit) ≡ written (Deed.Download from address n) (block (now (s .entry)) packetAt len) (now (cal .entry))) ⌝ }
 {
-    copy(cal, address as usize, s, layout::PACKET_2, n as usize);
+    copy(
+        cal,
+        address as usize,
+        s,
+        layout::PACKET + from as usize,
+        n as usize,
+    );
     fields::set_mta(s, Mta::At(Extension::Calibration, address + n as u32));
     answer::ok(s);
 }

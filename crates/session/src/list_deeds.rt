@@ -45,15 +45,6 @@ fn next_entry(k: u8, e: u8) -> Pointer
     }
 }
 
-pub fn clear_entry(s: &mut [u8], k: u8, e: u8)
-    requires { ⌜ (length (now s) ≡ size) × (k < allOdts) × (e < entryCount k) ⌝ }
-    ensures { λ _. ⌜ now (s .exit) ≡ after (Deed.ClearEntry k e) (now (s .entry)) [] [] ⌝ }
-{
-    changes::clear_entry(s, k as u16, e);
-    fields::set_pointer(s, next_entry(k, e));
-    answer::ok(s);
-}
-
 pub fn write_entry(s: &mut [u8], k: u8, e: u8, n: u8, extension: Extension, address: u32)
     requires { ⌜ (length (now s) ≡ size) × (k < allOdts) × (e < entryCount k) ⌝ }
     ensures { λ _. ⌜ now (s .exit) ≡ after (Deed.WriteEntry k e n extension address) (now (s .entry)) [] [] ⌝ }
@@ -61,6 +52,14 @@ pub fn write_entry(s: &mut [u8], k: u8, e: u8, n: u8, extension: Extension, addr
     changes::set_entry(s, k as u16, e, n, extension, address);
     fields::set_pointer(s, next_entry(k, e));
     answer::ok(s);
+}
+
+// One of size 0 is none.
+pub fn clear_entry(s: &mut [u8], k: u8, e: u8)
+    requires { ⌜ (length (now s) ≡ size) × (k < allOdts) × (e < entryCount k) ⌝ }
+    ensures { λ _. ⌜ now (s .exit) ≡ after (Deed.ClearEntry k e) (now (s .entry)) [] [] ⌝ }
+{
+    write_entry(s, k, e, 0, Extension::Calibration, 0);
 }
 
 pub fn set_mode(s: &mut [u8], l: u8, event: u8)

@@ -31,7 +31,7 @@ pub fn perform(deed: Deed, s: &mut [u8], cal: &mut [u8], meas: &[u8], len: u8)
         Deed::SetMta(e, a) => deeds::set_mta(s, e, a),
         Deed::Upload(e, a, n) => deeds::upload(s, cal, meas, e, a, n),
         Deed::Checksum(e, a, n) => deeds::checksum(s, cal, meas, e, a, n),
-        Deed::Download(a, n) => deeds::download(s, cal, a, n, len),
+        Deed::Download(from, a, n) => deeds::download(s, cal, from, a, n, len),
         Deed::ClearList(l) => list_deeds::clear_list(s, l),
         Deed::SetPointer(k, e) => list_deeds::set_pointer(s, k, e),
         Deed::ClearEntry(k, e) => list_deeds::clear_entry(s, k, e),

@@ -13,7 +13,7 @@ use Rattle.shown.proofs.Computed.{computed}
 
 -- CONNECT is answered at CTR 0, before and after
 abbrev connected : List ℕ
-connected = frame 0 (0xFF ∷ 0x05 ∷ 0x00 ∷ 0x08 ∷ 0x08 ∷ 0x00 ∷ 0x01 ∷ 0x01 ∷ [])
+connected = frame 0 (0xFF ∷ 0x05 ∷ 0x00 ∷ 0x40 ∷ 0x40 ∷ 0x00 ∷ 0x01 ∷ 0x01 ∷ [])
 
 pub numbered-again : sentInLife ours device (poweredOn (connect ∷ []) ++ poweredOn (connect ∷ [])) ≡ connected ∷ connected ∷ []
 unfolding computed

@@ -1,5 +1,5 @@
 -- Runs of ours that meet premises which no other run here meets: a good message while an answer waits; a wrong key, and DISCONNECT in its place;
--- UPLOAD behind SHORT_UPLOAD; three wrong keys, and GET_SEED and UNLOCK after them. Assumes nothing.
+-- UPLOAD behind SHORT_UPLOAD; SHORT_DOWNLOAD; three wrong keys, and GET_SEED and UNLOCK after them. Assumes nothing.
 use Rattle.demands.specs.Waiting.{SameOutside}
 use Prim.Native.Nat.{ℕ}
 use mathlib.Core.Path.{_≡_, refl}
@@ -16,7 +16,7 @@ use Rattle.demands.specs.Runs.{run}
 use Rattle.demands.specs.Heard.{packetEnded, Commands, wrongKey}
 use Rattle.demands.specs.Demand2.{Uncommanded, Brings}
 use Rattle.demands.specs.StaysShut.{wrongIn}
-use Rattle.shown.specs.Exchange.{says, asks, askAll, begun, lastByte, device, poweredOn, reached, connect, disconnect, synch, seedOfCalibration, keyOfCalibration, keyOfLists, tries, upload, uploadFirst, pair, readingOn}
+use Rattle.shown.specs.Exchange.{says, askAll, begun, lastByte, device, poweredOn, reached, connect, disconnect, synch, seedOfCalibration, keyOfCalibration, keyOfLists, tries, upload, uploadFirst, downloadFirst, pair, loadingFirst, fetchingFirst, readingOn}
 use Rattle.shown.proofs.Computed.{computed}
 
 -- ---- CONNECT's answer waits, and SYNCH comes whole: number 6
@@ -44,7 +44,7 @@ disconnect-met = (refl, record { ends = refl; opened = refl; free = refl }, refl
 
 -- ---- SHORT_UPLOAD in a fresh session, a slot for its answer, and UPLOAD: each is answered FF and its byte
 abbrev shortBegun : List ℕ
-shortBegun = reached ours (asks pair [] connect ++ begun pair [] uploadFirst)
+shortBegun = reached ours fetchingFirst
 
 abbrev shortDone : List ℕ
 shortDone = ours .receive shortBegun pair [] (lastByte uploadFirst) .state
@@ -58,6 +58,15 @@ goes-on-met = (
   (refl, (refl, (refl, (refl, (refl, tt))))),
   record { command = record { ends = refl; opened = refl; free = refl }; code = refl; answer = refl },
 )
+
+-- ---- SHORT_DOWNLOAD with the MTA unset is answered FF, and its byte is written
+abbrev loadBegun : List ℕ
+loadBegun = reached ours (loadingFirst [] 7)
+
+pub loads-met : (consistent loadBegun ≡ true) × Brings ours 0xED loadBegun pair [] (lastByte (downloadFirst 7)) (downloadFirst 7) []
+    × (ours .receive loadBegun pair [] (lastByte (downloadFirst 7)) .cal ≡ 7 ∷ 6 ∷ [])
+unfolding computed
+loads-met = (refl, record { command = record { ends = refl; opened = refl; free = refl }; code = refl; answer = refl }, refl)
 
 -- ---- a script tries three keys, and all three are judged wrong; then GET_SEED is answered FE 25, and UNLOCK FE 29
 pub three-wrong-met : wrongIn ours device (poweredOn (tries 3)) 0 ≡ 3

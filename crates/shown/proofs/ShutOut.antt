@@ -1,6 +1,7 @@
 -- Each wrong slave fails the demand that is to shut it out: one run of it is computed. Assumes nothing.
 use Prim.Native.Nat.{ℕ, _+_, _-_, _≤_}
 use mathlib.Core.Path.{_≡_, refl, ap, sym, _∙_, subst}
+use mathlib.Core.Logic.{inl, inr}
 use mathlib.Core.Bool.{Bool, true, false, cond}
 use mathlib.Core.Option.{Option, some}
 use mathlib.Core.List.{List, [], _∷_, _++_}
@@ -14,6 +15,7 @@ use Rattle.line.specs.Wire.{heard}
 use Rattle.line.specs.declared.Place.the-variants.{Outside}
 use Rattle.line.specs.declared.Outcome.the-variants.{Nothing}
 use Rattle.state.specs.Layout.{addressAt, sessionAt}
+use Rattle.state.specs.Bytes.{block}
 use Rattle.state.specs.State.{consistent}
 use Rattle.words.specs.Number.{receivedNumber, eventedValue}
 use Rattle.session.specs.PowerUp.{powered}
@@ -22,17 +24,17 @@ use Rattle.words.specs.declared.Extension.the-variants.{Calibration as Calibrat
 use Rattle.words.specs.declared.Mta.{Mta}
 use Rattle.words.specs.declared.Mta.the-variants.{Unset, At}
 use Rattle.model.specs.Calls.{turnIn, packetFor}
-use Rattle.model.specs.Model.{hasAnswer}
+use Rattle.model.specs.Model.{byte, hasAnswer}
 use Rattle.model.specs.View.{sessionOf, viewOf}
 use Rattle.demands.specs.Slave.{AnySlave}
 use Rattle.demands.specs.Runs.{Byte, Event, SendingSlot}
 use Rattle.demands.specs.Heard.{packetEnded}
 use Rattle.demands.specs.Demand1.{Demand1}
-use Rattle.demands.specs.Demand2.{Demand2, ReadsBack}
+use Rattle.demands.specs.Demand2.{Demand2, ReadsBack, WritesTo, byDownload, byShortDownload, ReadsFrom, byUpload, byShortUpload}
 use Rattle.demands.specs.Demand3.{Demand3}
 use Rattle.demands.specs.StaysShut.{StaysShut}
-use Rattle.shown.specs.Wrong.{refusesAlways, silent, onlyConnects, alwaysFF, storesNothing, obeysDamaged, readsEscaped, allAtOnce, slotsUpTo, sumsEscaped, neverSamples, inventsCounts, inventsMissed, movesAfterRefusal, leavesMta, readsLate, opensBoth, connectClears, shutsFirst}
-use Rattle.shown.specs.Exchange.{slot, says, asks, askAll, begun, lastByte, device, answering, reached, connect, synch, seedOfCalibration, keyOfCalibration, tries, mtaTo, upload, uploadFirst, downloadOne, downloading, uploading, pair, readingOn, measuring}
+use Rattle.shown.specs.Wrong.{refusesAlways, silent, onlyConnects, alwaysFF, storesNothing, obeysDamaged, readsEscaped, allAtOnce, slotsUpTo, sumsEscaped, neverSamples, inventsCounts, inventsMissed, movesAfterRefusal, leavesMta, loadLeavesMta, loadsAtMta, readsLate, opensBoth, connectClears, shutsFirst}
+use Rattle.shown.specs.Exchange.{slot, says, asks, askAll, begun, lastByte, device, answering, reached, connect, synch, seedOfCalibration, keyOfCalibration, tries, mtaTo, upload, uploadFirst, downloadOne, downloadFirst, downloading, uploading, pair, loadingFirst, fetchingFirst, readingOn, measuring}
 use Rattle.shown.proofs.Computed.{computed}
 
 -- CONNECT is answered FE
@@ -76,7 +78,7 @@ readsEscaped-heeds d =
     let s : List ℕ = reached readsEscaped (begun [] [] (0xFF ∷ 0 ∷ 0x9A ∷ [])) in
     let wrong : _≡_ {A = ℕ} 1 5 = ap (λ o. receivedNumber (o .received)) (d .reads s [] [] 0x9E refl) in omega arith
 
--- ---- UPLOAD after DOWNLOAD
+-- ---- UPLOAD after DOWNLOAD, SHORT_UPLOAD after SHORT_DOWNLOAD
 -- how a state stands at a byte, and what two commands come to, the second with the memory that the first left
 record Standing : Type 0 where
   sound : Bool
@@ -94,43 +96,58 @@ record Exchanged : Type 0 where
 standing : List ℕ → ℕ → Standing
 standing s b = record { sound = consistent s; ended = packetEnded s b; opened = sessionOf s .opened; waiting = hasAnswer (viewOf s); place = sessionOf s .mta }
 
--- DOWNLOAD of 7 to the first place of a memory that holds 0, and UPLOAD of it
-exchanged : AnySlave → List ℕ → List ℕ → Exchanged
-exchanged v s t =
+-- p, lent memory cal, and q, lent what p left
+exchanged : AnySlave → List ℕ → List ℕ → List ℕ → List ℕ → List ℕ → Exchanged
+exchanged v cal s t p q =
     record {
-      before = standing s (lastByte (downloadOne 7));
-      first = viewOf (v .receive s (0 ∷ []) [] (lastByte (downloadOne 7)) .state) .answer;
-      between = standing t (lastByte (upload 1));
-      second = viewOf (v .receive t (v .receive s (0 ∷ []) [] (lastByte (downloadOne 7)) .cal) [] (lastByte (upload 1)) .state) .answer;
+      before = standing s (lastByte p);
+      first = viewOf (v .receive s cal [] (lastByte p) .state) .answer;
+      between = standing t (lastByte q);
+      second = viewOf (v .receive t (v .receive s cal [] (lastByte p) .cal) [] (lastByte q) .state) .answer;
     }
 
--- both commands are heard, the first is answered FF, the second a
-ready : List ℕ → Standing
-ready p = record { sound = true; ended = some p; opened = true; waiting = false; place = At CalibrationMemory 0 }
+-- both commands are heard, with the MTA at x and at y; the first is answered FF, the second a
+ready : List ℕ → Mta → Standing
+ready p x = record { sound = true; ended = some p; opened = true; waiting = false; place = x }
 
-answers : List ℕ → Exchanged
-answers a = record { before = ready (downloadOne 7); first = 0xFF ∷ []; between = ready (upload 1); second = a }
+answers : List ℕ → List ℕ → Mta → Mta → List ℕ → Exchanged
+answers p q x y a = record { before = ready p x; first = 0xFF ∷ []; between = ready q y; second = a }
 
-given-back : (v : AnySlave) (s t a : List ℕ) → Demand2 v → exchanged v s t ≡ answers a → a ≡ 0xFF ∷ 7 ∷ []
+-- one byte is written to the first place, and read there
+given-back : (v : AnySlave) (cal s t p q : List ℕ) (x y : Mta) (a : List ℕ) (from : ℕ) → Demand2 v → exchanged v cal s t p q ≡ answers p q x y a
+    → (sessionOf s .mta ≡ x → WritesTo p (sessionOf s) 0 from) → byte p 1 ≡ 1 → (sessionOf t .mta ≡ y → ReadsFrom q (sessionOf t) 0) → byte q 1 ≡ 1 → a ≡ 0xFF ∷ block p from 1
 unfolding standing exchanged ready answers
-given-back v s t a d e =
-    sym (ap (λ x. x .second) e)
-    ∙ d .givesBack s t (0 ∷ []) [] [] (lastByte (downloadOne 7)) (lastByte (upload 1)) (downloadOne 7) (upload 1) 0 1 (ap (λ x. x .before .sound) e) (ap (λ x. x .between .sound) e)
-    (record { command = record { ends = ap (λ x. x .before .ended) e; opened = ap (λ x. x .before .opened) e; free = ap (λ x. x .before .waiting) e }; code = refl; count = refl; place = ap (λ x. x .before .place) e })
-    (ap (λ x. x .first) e)
-    (record { command = record { ends = ap (λ x. x .between .ended) e; opened = ap (λ x. x .between .opened) e; free = ap (λ x. x .between .waiting) e }; code = refl; count = refl; place = ap (λ x. x .between .place) e }) .0
+given-back v cal s t p q x y a from d e writes one reads one′ =
+    sym (ap (λ z. z .second) e)
+    ∙ d .givesBack s t cal [] [] (lastByte p) (lastByte q) p q from 0 1 (ap (λ z. z .before .sound) e) (ap (λ z. z .between .sound) e)
+    (record { command = record { ends = ap (λ z. z .before .ended) e; opened = ap (λ z. z .before .opened) e; free = ap (λ z. z .before .waiting) e }; place = writes (ap (λ z. z .before .place) e); count = one })
+    (ap (λ z. z .first) e)
+    (record { command = record { ends = ap (λ z. z .between .ended) e; opened = ap (λ z. z .between .opened) e; free = ap (λ z. z .between .waiting) e }; place = reads (ap (λ z. z .between .place) e); count = one′ }) .0
+
+-- DOWNLOAD of 7 to the first place of a memory that holds 0, and UPLOAD of it
+first-given : (v : AnySlave) (a : List ℕ) → Demand2 v
+    → exchanged v (0 ∷ []) (reached v (downloading 7 (0 ∷ []))) (reached v (uploading (0 ∷ []) 1)) (downloadOne 7) (upload 1) ≡ answers (downloadOne 7) (upload 1) (At CalibrationMemory 0) (At CalibrationMemory 0) a
+    → a ≡ 0xFF ∷ 7 ∷ []
+first-given v a d e = given-back v (0 ∷ []) (reached v (downloading 7 (0 ∷ []))) (reached v (uploading (0 ∷ []) 1)) (downloadOne 7) (upload 1) (At CalibrationMemory 0) (At CalibrationMemory 0) a 2 d e (byDownload refl) refl (byUpload refl) refl
 
 -- its answer to UPLOAD has no byte
 pub alwaysFF-fails : Demand2 alwaysFF → ⊥
 unfolding computed standing exchanged ready answers
-alwaysFF-fails d =
-    let e : _≡_ {A = ℕ} 1 2 = ap length (given-back alwaysFF (reached alwaysFF (downloading 7 (0 ∷ []))) (reached alwaysFF (uploading (0 ∷ []) 1)) (0xFF ∷ []) d refl) in omega arith
+alwaysFF-fails d = let e : _≡_ {A = ℕ} 1 2 = ap length (first-given alwaysFF (0xFF ∷ []) d refl) in omega arith
 
 -- its answer to UPLOAD has the byte that was there before
 pub storesNothing-fails : Demand2 storesNothing → ⊥
 unfolding computed standing exchanged ready answers
-storesNothing-fails d =
-    let e : _≡_ {A = ℕ} 0 7 = ap (λ a. getD a 1 0) (given-back storesNothing (reached storesNothing (downloading 7 (0 ∷ []))) (reached storesNothing (uploading (0 ∷ []) 1)) (0xFF ∷ 0 ∷ []) d refl)
+storesNothing-fails d = let e : _≡_ {A = ℕ} 0 7 = ap (λ a. getD a 1 0) (first-given storesNothing (0xFF ∷ 0 ∷ []) d refl) in omega arith
+
+-- SHORT_DOWNLOAD of 7 to the first of two places, while the MTA is at the second, and SHORT_UPLOAD of it: the byte that was there before
+pub loadsAtMta-fails : Demand2 loadsAtMta → ⊥
+unfolding computed standing exchanged ready answers
+loadsAtMta-fails d =
+    let s : List ℕ = reached loadsAtMta (loadingFirst (mtaTo 1 0 ∷ []) 7) in
+    let t : List ℕ = reached loadsAtMta fetchingFirst in
+    let e : _≡_ {A = ℕ} 5 7 = ap (λ a. getD a 1 0)
+    (given-back loadsAtMta pair s t (downloadFirst 7) uploadFirst (At CalibrationMemory 1) Unset (0xFF ∷ 5 ∷ []) 8 d refl (λ _. byShortDownload refl refl refl) refl (λ _. byShortUpload refl (lit≤ tt) refl refl) refl)
     in omega arith
 
 -- ---- slots
@@ -138,7 +155,7 @@ storesNothing-fails d =
 pub allAtOnce-fails : Demand2 allAtOnce → ⊥
 unfolding computed slotsUpTo
 allAtOnce-fails d =
-    let e : _≡_ {A = ℕ} 19 7 = ap (λ fs. length (getD fs 0 [])) (d .numbers (reached allAtOnce (measuring (5 ∷ []))) (Event [] (5 ∷ []) 0 0 ∷ SendingSlot (replicate 46 0) ∷ []) refl (lit< tt)) in omega arith
+    let e : _≡_ {A = ℕ} 19 7 = ap (λ fs. length (getD fs 0 [])) (d .numbers (reached allAtOnce (measuring (5 ∷ []))) (Event [] (5 ∷ []) 0 0 ∷ SendingSlot (replicate (room + 19) 0) ∷ []) refl (lit< tt)) in omega arith
 
 -- a frame that reads back carries the packet whose turn it was
 read-back : (f s p : List ℕ) → packetFor (turnIn (viewOf s)) (viewOf s) ≡ p ∷ [] → ReadsBack (f ∷ []) s → line.runOf Outside (replicate longest 0) f ≡ heard Outside (replicate longest 0) (viewOf s .ctr) p
@@ -196,8 +213,16 @@ whether-set (At e a) = 1
 pub leavesMta-unset : Demand2 leavesMta → ⊥
 unfolding computed whether-set
 leavesMta-unset d =
-    let s : List ℕ = reached leavesMta (asks pair [] connect ++ begun pair [] uploadFirst) in
-    let e : _≡_ {A = ℕ} 0 1 = ap whether-set (d .setsMta s pair [] (lastByte uploadFirst) uploadFirst (5 ∷ []) refl (record { command = record { ends = refl; opened = refl; free = refl }; code = refl; answer = refl }))
+    let s : List ℕ = reached leavesMta fetchingFirst in
+    let e : _≡_ {A = ℕ} 0 1 = ap whether-set (d .setsMta s pair [] (lastByte uploadFirst) 0xF4 uploadFirst (5 ∷ []) refl (inl refl) (record { command = record { ends = refl; opened = refl; free = refl }; code = refl; answer = refl }))
+    in omega arith
+
+-- so it does after SHORT_DOWNLOAD
+pub loadLeavesMta-fails : Demand2 loadLeavesMta → ⊥
+unfolding computed whether-set
+loadLeavesMta-fails d =
+    let s : List ℕ = reached loadLeavesMta (loadingFirst [] 7) in
+    let e : _≡_ {A = ℕ} 0 1 = ap whether-set (d .setsMta s pair [] (lastByte (downloadFirst 7)) 0xED (downloadFirst 7) [] refl (inr refl) (record { command = record { ends = refl; opened = refl; free = refl }; code = refl; answer = refl }))
     in omega arith
 
 -- a byte of 5 is sampled, another comes while it is 6, and 6 is sent

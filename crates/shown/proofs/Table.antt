@@ -19,7 +19,7 @@ use Rattle.demands.specs.Slave.{AnySlave}
 use Rattle.demands.specs.Heard.{packetEnded, readBy}
 use Rattle.demands.specs.Demand2.{Demand2}
 use Rattle.shown.specs.Exchange.{lastByte}
-use Rattle.shown.specs.Table.{Comes, Holds, connectFrame, connectAnswer, synchFrame, synchAnswer, escapedPacket, escapedCtr, seedGiven, calibrationKey, calibrationOpens, listsKey, listsOpen, weightSent, sixDone, sixRefused, sevenRefused, fiveStarts, sixStarts, table, download, sixBegunAt}
+use Rattle.shown.specs.Table.{Comes, Holds, connectFrame, connectAnswer, synchFrame, synchAnswer, escapedPacket, escapedCtr, seedGiven, calibrationKey, calibrationOpens, listsKey, listsOpen, weightSent, download62Done, download62Refused, download63Refused, odt61Starts, odt62Refused, table, data62, download, begun62At}
 use Rattle.demands.proofs.Received.{received-by, commanded}
 use Rattle.shown.proofs.Computed.{computed}
 
@@ -72,32 +72,32 @@ weight-sent : Comes (weightSent 7)
 unfolding computed
 weight-sent = refl
 
-six-done : Comes (sixDone 8)
+download62-done : Comes (download62Done 8)
 unfolding computed
-six-done = refl
+download62-done = refl
 
-six-refused : Comes (sixRefused 8)
+download62-refused : Comes (download62Refused 8)
 unfolding computed
-six-refused = refl
+download62-refused = refl
 
-seven-refused : Comes (sevenRefused 9)
+download63-refused : Comes (download63Refused 9)
 unfolding computed
-seven-refused = refl
+download63-refused = refl
 
-five-starts : Comes (fiveStarts 10)
+odt61-starts : Comes (odt61Starts 10)
 unfolding computed
-five-starts = refl
+odt61-starts = refl
 
-six-starts : Comes (sixStarts 10)
+odt62-refused : Comes (odt62Refused 10)
 unfolding computed
-six-starts = refl
+odt62-refused = refl
 
 -- all of them
 pub bench-sheet : Holds table
-bench-sheet = (connect-frame, (connect-answer, (synch-frame, (synch-answer, (escaped-packet, (escaped-ctr, (seed-given, (calibration-key, (calibration-opens, (lists-key, (lists-open, (weight-sent, (six-done, (six-refused, (seven-refused, (five-starts, (six-starts, tt)))))))))))))))))
+bench-sheet = (connect-frame, (connect-answer, (synch-frame, (synch-answer, (escaped-packet, (escaped-ctr, (seed-given, (calibration-key, (calibration-opens, (lists-key, (lists-open, (weight-sent, (download62-done, (download62-refused, (download63-refused, (odt61-starts, (odt62-refused, tt)))))))))))))))))
 
 -- ---- case 8 with whatever memory of 4,096 bytes, of every slave that meets demand 2
--- how DOWNLOAD of 6 stands at its last byte b
+-- how DOWNLOAD of 62 stands at its last byte b
 record Standing : Type 0 where
   sound : Bool
   ended : Option (List ℕ)
@@ -108,34 +108,34 @@ standing : List ℕ → ℕ → Standing
 standing s b = record { sound = consistent s; ended = packetEnded s b; waiting = hasAnswer (viewOf s); opened = sessionOf s .opened }
 
 ready : Standing
-ready = record { sound = true; ended = some (download 6); waiting = false; opened = true }
+ready = record { sound = true; ended = some (download 62); waiting = false; opened = true }
 
 -- the deed follows from the memory's length
-six : (v : AnySlave) (s cal meas : List ℕ) (b : ℕ) (d : Deed) → Demand2 v → standing s b ≡ ready → length cal ≡ addressable → ((nm : ℕ) → judgeIn (download 6) (sessionOf s) addressable nm ≡ d)
-    → v .receive s cal meas b ≡ obeyed d (download 6) (readBy s b) cal meas
+the-62 : (v : AnySlave) (s cal meas : List ℕ) (b : ℕ) (d : Deed) → Demand2 v → standing s b ≡ ready → length cal ≡ addressable → ((nm : ℕ) → judgeIn (download 62) (sessionOf s) addressable nm ≡ d)
+    → v .receive s cal meas b ≡ obeyed d (download 62) (readBy s b) cal meas
 unfolding standing ready
-six v s cal meas b d meets e long j =
+the-62 v s cal meas b d meets e long j =
     let c : consistent s ≡ true = ap (λ x. x .sound) e in
     meets .reads s cal meas b c ∙ sym (received-by s cal meas b c)
-    ∙ commanded s cal meas b (download 6) c (record { ends = ap (λ x. x .ended) e; opened = ap (λ x. x .opened) e; free = ap (λ x. x .waiting) e })
-    ∙ ap (λ x. obeyed x (download 6) (readBy s b) cal meas) (subst (λ n. judgeIn (download 6) (sessionOf s) n (length meas) ≡ d) (sym long) (j (length meas)))
+    ∙ commanded s cal meas b (download 62) c (record { ends = ap (λ x. x .ended) e; opened = ap (λ x. x .opened) e; free = ap (λ x. x .waiting) e })
+    ∙ ap (λ x. obeyed x (download 62) (readBy s b) cal meas) (subst (λ n. judgeIn (download 62) (sessionOf s) n (length meas) ≡ d) (sym long) (j (length meas)))
 
--- at 4,090 the answer is FF, and the six bytes are written
-pub six-at-4090 : (v : AnySlave) (cal meas : List ℕ) → Demand2 v → length cal ≡ addressable
-    → (viewOf (v .receive (sixBegunAt 0xFA 0x0F) cal meas (lastByte (download 6)) .state) .answer ≡ 0xFF ∷ [])
-    × (v .receive (sixBegunAt 0xFA 0x0F) cal meas (lastByte (download 6)) .cal ≡ sets cal 4090 (1 ∷ 2 ∷ 3 ∷ 4 ∷ 5 ∷ 6 ∷ []))
+-- at 4,034 the answer is FF, and the 62 bytes are written
+pub download62-at-4034 : (v : AnySlave) (cal meas : List ℕ) → Demand2 v → length cal ≡ addressable
+    → (viewOf (v .receive (begun62At 0xC2 0x0F) cal meas (lastByte (download 62)) .state) .answer ≡ 0xFF ∷ [])
+    × (v .receive (begun62At 0xC2 0x0F) cal meas (lastByte (download 62)) .cal ≡ sets cal 4034 data62)
 unfolding computed standing ready
-six-at-4090 v cal meas meets long =
-    let e : v .receive (sixBegunAt 0xFA 0x0F) cal meas (lastByte (download 6)) ≡ obeyed (Download 4090 6) (download 6) (readBy (sixBegunAt 0xFA 0x0F) (lastByte (download 6))) cal meas
-    = six v (sixBegunAt 0xFA 0x0F) cal meas (lastByte (download 6)) (Download 4090 6) meets refl long (λ nm. refl) in
+download62-at-4034 v cal meas meets long =
+    let e : v .receive (begun62At 0xC2 0x0F) cal meas (lastByte (download 62)) ≡ obeyed (Download 2 4034 62) (download 62) (readBy (begun62At 0xC2 0x0F) (lastByte (download 62))) cal meas
+    = the-62 v (begun62At 0xC2 0x0F) cal meas (lastByte (download 62)) (Download 2 4034 62) meets refl long (λ nm. refl) in
     (ap (λ o. viewOf (o .state) .answer) e, ap (λ o. o .cal) e)
 
--- at 4,091 the answer is FE 24, and no byte changes
-pub six-at-4091 : (v : AnySlave) (cal meas : List ℕ) → Demand2 v → length cal ≡ addressable
-    → (viewOf (v .receive (sixBegunAt 0xFB 0x0F) cal meas (lastByte (download 6)) .state) .answer ≡ 0xFE ∷ 0x24 ∷ [])
-    × (v .receive (sixBegunAt 0xFB 0x0F) cal meas (lastByte (download 6)) .cal ≡ cal)
+-- at 4,035 the answer is FE 24, and no byte changes
+pub download62-at-4035 : (v : AnySlave) (cal meas : List ℕ) → Demand2 v → length cal ≡ addressable
+    → (viewOf (v .receive (begun62At 0xC3 0x0F) cal meas (lastByte (download 62)) .state) .answer ≡ 0xFE ∷ 0x24 ∷ [])
+    × (v .receive (begun62At 0xC3 0x0F) cal meas (lastByte (download 62)) .cal ≡ cal)
 unfolding computed standing ready
-six-at-4091 v cal meas meets long =
-    let e : v .receive (sixBegunAt 0xFB 0x0F) cal meas (lastByte (download 6)) ≡ obeyed (Refuse NotInside) (download 6) (readBy (sixBegunAt 0xFB 0x0F) (lastByte (download 6))) cal meas
-    = six v (sixBegunAt 0xFB 0x0F) cal meas (lastByte (download 6)) (Refuse NotInside) meets refl long (λ nm. refl) in
+download62-at-4035 v cal meas meets long =
+    let e : v .receive (begun62At 0xC3 0x0F) cal meas (lastByte (download 62)) ≡ obeyed (Refuse NotInside) (download 62) (readBy (begun62At 0xC3 0x0F) (lastByte (download 62))) cal meas
+    = the-62 v (begun62At 0xC3 0x0F) cal meas (lastByte (download 62)) (Refuse NotInside) meets refl long (λ nm. refl) in
     (ap (λ o. viewOf (o .state) .answer) e, ap (λ o. o .cal) e)

@@ -96,6 +96,10 @@ uploadFirst = 0xF4 ∷ 1 ∷ 0 ∷ 0 ∷ 0 ∷ 0 ∷ 0 ∷ 0 ∷ []
 abbrev pub downloadOne : ℕ → List ℕ
 downloadOne b = 0xF0 ∷ 1 ∷ b ∷ []
 
+-- SHORT_DOWNLOAD of one byte to the first place
+abbrev pub downloadFirst : ℕ → List ℕ
+downloadFirst b = 0xED ∷ 1 ∷ 0 ∷ 0 ∷ 0 ∷ 0 ∷ 0 ∷ 0 ∷ b ∷ []
+
 -- a session with calibration unlocked; one with lists unlocked
 abbrev pub writable : List Call
 writable = askAll [] [] (connect ∷ seedOfCalibration ∷ keyOfCalibration ∷ [])
@@ -110,10 +114,17 @@ downloading b cal = writable ++ (asks cal [] (mtaTo 0 0) ++ begun cal [] (downlo
 abbrev pub uploading : List ℕ → ℕ → List Call
 uploading cal n = askAll cal [] (connect ∷ mtaTo 0 0 ∷ []) ++ begun cal [] (upload n)
 
--- two calibration bytes; after SHORT_UPLOAD of the first a slot for its answer, and UPLOAD of the second but for its last byte
+-- two calibration bytes; a session up to SHORT_DOWNLOAD to the first, after these commands, but for its last byte; one up to SHORT_UPLOAD of it likewise
 abbrev pub pair : List ℕ
 pair = 5 ∷ 6 ∷ []
 
+abbrev pub loadingFirst : List (List ℕ) → ℕ → List Call
+loadingFirst ps b = writable ++ (askAll pair [] ps ++ begun pair [] (downloadFirst b))
+
+abbrev pub fetchingFirst : List Call
+fetchingFirst = asks pair [] connect ++ begun pair [] uploadFirst
+
+-- after SHORT_UPLOAD of the first a slot for its answer, and UPLOAD of the second but for its last byte
 abbrev pub readingOn : List Call
 readingOn = slot ∷ begun pair [] (upload 1)
 

@@ -1,5 +1,5 @@
 -- The bench sheet: its starred cases, each with what the definitions come to and what the sheet says, as bytes.
-use Prim.Native.Nat.{ℕ}
+use Prim.Native.Nat.{ℕ, zero, suc}
 use mathlib.Core.Path.{_≡_}
 use mathlib.Core.List.{List, [], _∷_, _++_}
 use lib.ListN.{set, replicate}
@@ -40,25 +40,33 @@ sent cs = sentFrom (powered 1) cs
 abbrev pub answer : List Call → List ℕ
 answer cs = packetRead (sent cs)
 
--- DOWNLOAD of n, with six bytes of data
+-- n bytes that count on from a
+abbrev pub countedOn : ℕ → ℕ → List ℕ
+countedOn a zero = []
+countedOn a (suc n) = a ∷ countedOn (suc a) n
+
+-- DOWNLOAD of n, with 62 bytes of data
+abbrev pub data62 : List ℕ
+data62 = countedOn 1 62
+
 abbrev pub download : ℕ → List ℕ
-download n = 0xF0 ∷ n ∷ 1 ∷ 2 ∷ 3 ∷ 4 ∷ 5 ∷ 6 ∷ []
+download n = 0xF0 ∷ n ∷ data62
 
 -- calibration unlocked and the MTA at an address with these low bytes
 abbrev pub writableAt : ℕ → ℕ → List ℕ
 writableAt a b = reached ours (writable ++ asks [] [] (mtaTo a b))
 
--- the same, with DOWNLOAD of 6 but for its last byte
-abbrev pub sixBegunAt : ℕ → ℕ → List ℕ
-sixBegunAt a b = run ours (writableAt a b) (begun [] [] (download 6))
+-- the same, with DOWNLOAD of 62 but for its last byte
+abbrev pub begun62At : ℕ → ℕ → List ℕ
+begun62At a b = run ours (writableAt a b) (begun [] [] (download 62))
 
--- the answer to DOWNLOAD of 6 with 4,096 bytes lent
-abbrev pub sixAt : ℕ → ℕ → List ℕ
-sixAt a b = replyIn (judgeIn (download 6) (sessionOf (writableAt a b)) addressable 0) (sessionOf (writableAt a b)) [] []
+-- the answer to DOWNLOAD of 62 with 4,096 bytes lent
+abbrev pub answer62At : ℕ → ℕ → List ℕ
+answer62At a b = replyIn (judgeIn (download 62) (sessionOf (writableAt a b)) addressable 0) (sessionOf (writableAt a b)) [] []
 
--- the start of list 0, whose ODT 0 has an entry of 4 bytes and one of n
+-- the start of list 0, whose ODT 0 has fifteen entries of 4 bytes and one of n
 abbrev pub startWith : ℕ → List Call
-startWith n = listable ++ askAll [] (replicate 4 0) (pointTo 0 0 0 ∷ entryCommand 4 ∷ entryCommand n ∷ onEvent0 0 ∷ start 0 ∷ [])
+startWith n = listable ++ askAll [] (replicate 4 0) (pointTo 0 0 0 ∷ (replicate 15 (entryCommand 4) ++ entryCommand n ∷ onEvent0 0 ∷ start 0 ∷ []))
 
 -- list 1 with two bytes runs, and nine frames have gone
 abbrev pub weighing : List Call
@@ -69,7 +77,7 @@ abbrev pub connectFrame : ℕ → Row
 connectFrame number = row number (frame 0 connect) (0x9A ∷ 0x02 ∷ 0x00 ∷ 0xFF ∷ 0x00 ∷ 0x01 ∷ [])
 
 abbrev pub connectAnswer : ℕ → Row
-connectAnswer number = row number (sent (asks [] [] connect)) (0x9A ∷ 0x08 ∷ 0x00 ∷ 0xFF ∷ 0x05 ∷ 0x00 ∷ 0x08 ∷ 0x08 ∷ 0x00 ∷ 0x01 ∷ 0x01 ∷ 0x1E ∷ [])
+connectAnswer number = row number (sent (asks [] [] connect)) (0x9A ∷ 0x08 ∷ 0x00 ∷ 0xFF ∷ 0x05 ∷ 0x00 ∷ 0x40 ∷ 0x40 ∷ 0x00 ∷ 0x01 ∷ 0x01 ∷ 0x8E ∷ [])
 
 -- SYNCH at CTR 1 and its answer
 abbrev pub synchFrame : ℕ → Row
@@ -107,23 +115,23 @@ listsOpen number = row number (answer (askAll [] [] (connect ∷ seedOfLists ∷
 abbrev pub weightSent : ℕ → Row
 weightSent number = row number (sent (weighing ++ Event [] (0x64 ∷ 0x00 ∷ []) 0 0x1234 ∷ slot ∷ [])) (0x9A ∷ 0x05 ∷ 0x09 ∷ 0x02 ∷ 0x34 ∷ 0x12 ∷ 0x64 ∷ 0x00 ∷ 0xBA ∷ [])
 
--- DOWNLOAD of 6 at 4,090 and at 4,091
-abbrev pub sixDone : ℕ → Row
-sixDone number = row number (sixAt 0xFA 0x0F) (0xFF ∷ [])
+-- DOWNLOAD of 62 at 4,034 and at 4,035
+abbrev pub download62Done : ℕ → Row
+download62Done number = row number (answer62At 0xC2 0x0F) (0xFF ∷ [])
 
-abbrev pub sixRefused : ℕ → Row
-sixRefused number = row number (sixAt 0xFB 0x0F) (0xFE ∷ 0x24 ∷ [])
+abbrev pub download62Refused : ℕ → Row
+download62Refused number = row number (answer62At 0xC3 0x0F) (0xFE ∷ 0x24 ∷ [])
 
--- DOWNLOAD of 7
-abbrev pub sevenRefused : ℕ → Row
-sevenRefused number = row number (answer (writable ++ askAll [] [] (mtaTo 0 0 ∷ download 7 ∷ []))) (0xFE ∷ 0x22 ∷ [])
+-- DOWNLOAD of 63
+abbrev pub download63Refused : ℕ → Row
+download63Refused number = row number (answer (writable ++ askAll [] [] (mtaTo 0 0 ∷ download 63 ∷ []))) (0xFE ∷ 0x22 ∷ [])
 
--- ODT 0 of 5 bytes and of 6
-abbrev pub fiveStarts : ℕ → Row
-fiveStarts number = row number (answer (startWith 1)) (0xFF ∷ 0x00 ∷ [])
+-- ODT 0 of 61 bytes and of 62
+abbrev pub odt61Starts : ℕ → Row
+odt61Starts number = row number (answer (startWith 1)) (0xFF ∷ 0x00 ∷ [])
 
-abbrev pub sixStarts : ℕ → Row
-sixStarts number = row number (answer (startWith 2)) (0xFE ∷ 0x2A ∷ [])
+abbrev pub odt62Refused : ℕ → Row
+odt62Refused number = row number (answer (startWith 2)) (0xFE ∷ 0x2A ∷ [])
 
 abbrev pub table : List Row
 table =
@@ -139,11 +147,11 @@ table =
     ∷ listsKey 6
     ∷ listsOpen 6
     ∷ weightSent 7
-    ∷ sixDone 8
-    ∷ sixRefused 8
-    ∷ sevenRefused 9
-    ∷ fiveStarts 10
-    ∷ sixStarts 10
+    ∷ download62Done 8
+    ∷ download62Refused 8
+    ∷ download63Refused 9
+    ∷ odt61Starts 10
+    ∷ odt62Refused 10
     ∷ []
 
 -- a row comes to what the sheet says, and every row does

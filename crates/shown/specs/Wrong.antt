@@ -10,6 +10,7 @@ use Rattle.line.specs.Message.{sum}
 use Rattle.line.specs.Writer.{atFront}
 use Rattle.line.specs.Number.{outcomeNumber}
 use Rattle.state.specs.Layout.{wrongKeysAt, calibrationAt, listsAt, firstOdt, entryCount}
+use Rattle.state.specs.Bytes.{put32}
 use Rattle.state.specs.Generator.{staysShut}
 use Rattle.state.specs.State.{consistent, wrongKeysOf, ctrOf, openOf, maskOf, mtaOf, setMta, waits, answered}
 use Rattle.state.specs.Lists.{storedLength}
@@ -178,12 +179,27 @@ moved o mta n = record { received = o .received; state = movedOn mta n (o .state
 abbrev pub movesAfterRefusal : AnySlave
 movesAfterRefusal = heeding (λ p s cal meas. cond (eqb (getD p 0 0) 0xF5) (moved (heeded p s cal meas) (mtaOf s) (getD p 1 0)) (heeded p s cal meas))
 
--- the MTA is after SHORT_UPLOAD what it was before, set or unset
+-- the MTA is after a command with that code what it was before, set or unset
 abbrev pub unmoved : Step → Mta → Step
 unmoved o mta = record { received = o .received; state = setMta (o .state) mta; cal = o .cal }
 
+abbrev pub leavesMtaAfter : ℕ → AnySlave
+leavesMtaAfter code = heeding (λ p s cal meas. cond (eqb (getD p 0 0) code) (unmoved (heeded p s cal meas) (mtaOf s)) (heeded p s cal meas))
+
+-- after SHORT_UPLOAD; after SHORT_DOWNLOAD
 abbrev pub leavesMta : AnySlave
-leavesMta = heeding (λ p s cal meas. cond (eqb (getD p 0 0) 0xF4) (unmoved (heeded p s cal meas) (mtaOf s)) (heeded p s cal meas))
+leavesMta = leavesMtaAfter 0xF4
+
+abbrev pub loadLeavesMta : AnySlave
+loadLeavesMta = leavesMtaAfter 0xED
+
+-- SHORT_DOWNLOAD writes at the MTA, if that is set, and not at its own address
+abbrev pub addressedBy : Mta → List ℕ → List ℕ
+addressedBy Unset p = p
+addressedBy (At e a) p = put32 p 4 a
+
+abbrev pub loadsAtMta : AnySlave
+loadsAtMta = heeding (λ p s cal meas. cond (eqb (getD p 0 0) 0xED) (heeded (addressedBy (mtaOf s) p) s cal meas) (heeded p s cal meas))
 
 -- where a packet of ODT 1 waits, its bytes are taken from the memories lent now
 abbrev pub reread : List ℕ → ℕ → List ℕ → List ℕ → List ℕ

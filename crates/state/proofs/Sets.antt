@@ -10,7 +10,7 @@ use lib.Dec.{ltb}
 use lib.ListN.{drop-of-length-le, length, getD, set, drop, replicate, length-set, length-drop, length-replicate, replicate-append-replicate}
 use lib.Seq.{set-out, sets-eq, sets, take-suc, length-take-le, getD-drop, length-sets}
 use Rattle.line.proofs.Laws.{cond-ind, sets-append}
-use Rattle.state.specs.Bytes.{block, copied, cleared, put16, put32}
+use Rattle.state.specs.Bytes.{block, copied, cleared, put32}
 
 -- one byte more
 pub sets-next : (l : List ℕ) (i : ℕ) (xs : List ℕ) (n a : ℕ) → length xs ≡ n → set (sets l i xs) (i + n) a ≡ sets l i (xs ++ a ∷ [])
@@ -35,10 +35,6 @@ block-next s i n h =
 pub copied-next : (d : List ℕ) (at : ℕ) (s : List ℕ) (from n : ℕ) → from + n < length s → set (copied d at s from n) (at + n) (getD s (from + n) 0) ≡ copied d at s from (n + 1)
 unfolding copied
 copied-next d at s from n h = sets-next d at (block s from n) n (getD s (from + n) 0) (block-length s from n (omega arith)) ∙ ap (sets d at) (sym (block-next s from n h))
-
-pub put16-length : (s : List ℕ) (i x : ℕ) → length (put16 s i x) ≡ length s
-unfolding put16
-put16-length s i x = simp length-set
 
 pub put32-length : (s : List ℕ) (i x : ℕ) → length (put32 s i x) ≡ length s
 unfolding put32

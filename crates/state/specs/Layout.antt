@@ -4,7 +4,7 @@ use mathlib.Core.Bool.{Bool, cond}
 use lib.Dec.{eqb}
 use Rattle.line.specs.Message.{most, longest}
 
--- four lists, each two ODTs of four entries
+-- four lists, each two ODTs of sixteen entries
 abbrev pub lists : ℕ
 lists = 4
 
@@ -12,7 +12,7 @@ abbrev pub odts : ℕ
 odts = 2
 
 abbrev pub entries : ℕ
-entries = 4
+entries = 16
 
 abbrev pub lastList : ℕ
 lastList = lists - 1
@@ -43,12 +43,22 @@ clockSize = 2
 abbrev pub entryMost : ℕ
 entryMost = 4
 
--- most bytes of an UPLOAD, after FF, and of a DOWNLOAD, after its code and count
+-- most bytes of an UPLOAD, after FF
 abbrev pub uploadMost : ℕ
 uploadMost = packetMost - 1
 
+-- where the data lies in a DOWNLOAD, behind its code and count, and in a SHORT_DOWNLOAD, behind its address; and most bytes of it
+abbrev pub downloadFrom : ℕ
+downloadFrom = 2
+
+abbrev pub shortDownloadFrom : ℕ
+shortDownloadFrom = 8
+
 abbrev pub downloadMost : ℕ
-downloadMost = packetMost - 2
+downloadMost = packetMost - downloadFrom
+
+abbrev pub shortDownloadMost : ℕ
+shortDownloadMost = packetMost - shortDownloadFrom
 
 -- after so many wrong keys it stays shut
 abbrev pub wrongMost : ℕ
@@ -80,7 +90,7 @@ odtMost k = cond (isFirst k) (storedMost - clockSize) storedMost
 
 -- ---- the mark that power-up writes; it changes with every layout
 abbrev pub mark : ℕ
-mark = 0x33504358
+mark = 0x34504358
 
 abbrev pub markAt : ℕ
 markAt = 0
@@ -123,7 +133,7 @@ answerAt = messageAt + longest
 abbrev pub answerBytesAt : ℕ
 answerBytesAt = answerAt + 1
 
--- ---- the session's own bytes, up to the end; written 0 when it closes
+-- ---- the session's own bytes: up to the entries they are written 0 when it closes
 abbrev pub sessionAt : ℕ
 sessionAt = answerBytesAt + packetMost
 
@@ -165,15 +175,19 @@ selectedAt l = modeAt l + 1
 abbrev pub runningAt : ℕ → ℕ
 runningAt l = modeAt l + 2
 
--- of each ODT, by its absolute number: its entries, of size, extension, address
+-- of each ODT, by its absolute number: how many of its entries are in use; from there on each is empty, whatever its bytes are
+abbrev pub usedAt : ℕ → ℕ
+usedAt k = modeAt lists + k
+
+-- of each ODT: its entries, each two bytes of size, extension and address
 abbrev pub entrySize : ℕ
-entrySize = 4
+entrySize = 2
 
 abbrev pub odtSize : ℕ
 odtSize = entries * entrySize
 
 abbrev pub entriesAt : ℕ → ℕ
-entriesAt k = modeAt lists + odtSize * k
+entriesAt k = usedAt allOdts + odtSize * k
 
 abbrev pub entryAt : ℕ → ℕ → ℕ
 entryAt k e = entriesAt k + entrySize * e
@@ -189,4 +203,4 @@ abbrev pub size : ℕ
 size = sampleAt allOdts
 
 abbrev pub sessionSize : ℕ
-sessionSize = size - sessionAt
+sessionSize = entriesAt 0 - sessionAt

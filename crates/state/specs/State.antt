@@ -1,5 +1,5 @@
 -- How each byte of the state reads, and the state with a field changed. Every value of every byte reads as some legal value.
-use Prim.Native.Nat.{ℕ, _+_, _-_, _%_, _<_}
+use Prim.Native.Nat.{ℕ, zero, suc, _+_, _-_, _%_, _<_}
 use mathlib.Core.Bool.{Bool, false, cond}
 use mathlib.Core.List.{List, _∷_, _++_}
 use lib.Dec.{eqb, ltb, leb}
@@ -8,7 +8,7 @@ use lib.Seq.{sets}
 use Rattle.line.specs.Message.{longest}
 use Rattle.line.specs.declared.Place.{Place}
 use Rattle.line.specs.declared.Place.the-variants.{Outside, Inside, Escaped}
-use Rattle.state.specs.Layout.{allOdts, entryCount, packetMost, wrongMost, mark, markAt, generatorAt, wrongKeysAt, ctrAt, openAt, calibrationAt, listsAt, seedAt, mtaAt, addressAt, pointerAt, pointerEntryAt, placeAt, countAt, messageAt, answerAt, answerBytesAt, sessionAt, sessionSize, size}
+use Rattle.state.specs.Layout.{allOdts, entryCount, packetMost, wrongMost, mark, markAt, generatorAt, wrongKeysAt, ctrAt, openAt, calibrationAt, listsAt, seedAt, mtaAt, addressAt, pointerAt, pointerEntryAt, placeAt, countAt, messageAt, answerAt, answerBytesAt, sessionAt, sessionSize, sampleAt, size}
 use Rattle.state.specs.Bytes.{u32At, put32, block, cleared}
 use Rattle.state.specs.Generator.{startOf, staysShut, oneWrongMore}
 use Rattle.words.specs.declared.Resource.{Resource}
@@ -111,9 +111,14 @@ abbrev pub Pointed : Pointer → Type 0
 Pointed NoEntry = Unit
 Pointed (Entry k e) = (k < allOdts) × (e < entryCount k)
 
+-- the packets of the n ODTs from k on dropped: of none is there a length
+unfoldable pub dropped : List ℕ → ℕ → ℕ → List ℕ
+dropped s k zero = s
+dropped s k (suc n) = set (dropped s k n) (sampleAt (k + n)) 0
+
 -- a closed session, with everything in it as in a fresh one; and a fresh one
 unfoldable pub closed : List ℕ → List ℕ
-closed s = cleared s sessionAt sessionSize
+closed s = dropped (cleared s sessionAt sessionSize) 0 allOdts
 
 unfoldable pub fresh : List ℕ → List ℕ
 fresh s = set (closed s) openAt 1
@@ -134,7 +139,7 @@ messageOf s = block s messageAt longest
 unfoldable pub setMessage : List ℕ → List ℕ → List ℕ
 setMessage s m = take messageAt s ++ (m ++ drop answerAt s)
 
--- ---- the waiting answer: none, or 1 to 8 bytes
+-- ---- the waiting answer: none, or 1 to 64 bytes
 unfoldable pub answerLength : List ℕ → ℕ
 answerLength s = cond (eqb (getD s answerAt 0) 0) 0 (cond (ltb packetMost (getD s answerAt 0)) 0 (getD s answerAt 0))
 

@@ -4,7 +4,7 @@ ghost use Prim.Native.Nat.{_-_, _≤_, _<_, _%_};
 ghost use mathlib.Core.Bool.{cond};
 ghost use lib.Dec.{ltb};
 ghost use lib.ListN.{getD, set};
-ghost use Rattle.state.specs.Bytes.{u16At, u32At, put16, put32, cleared};
+ghost use Rattle.state.specs.Bytes.{u16At, u32At, put32, cleared};
 
 // A byte, 0 where there is none.
 pub fn get(s: &[u8], at: usize) -> u8
@@ -28,7 +28,7 @@ pub fn wide(x: u8) -> u32
     x as u32
 }
 
-fn low(x: u32) -> u8
+pub fn low(x: u32) -> u8
     ensures { λ r. ⌜ r ≡ x % 256 ⌝ }
 {
     (x % 256) as u8
@@ -53,15 +53,6 @@ pub fn get32(s: &[u8], at: usize) -> u32
         + 256 * wide(get(s, at + 1))
         + 65536 * wide(get(s, at + 2))
         + 16777216 * wide(get(s, at + 3))
-}
-
-pub fn store16(s: &mut [u8], at: usize, x: u32)
-    ensures { λ _. ⌜ now (s .exit) ≡ put16 (now (s .entry)) at x ⌝ }
-{
-    if at < s.len() {
-        put(s, at, low(x));
-        put(s, at + 1, low(x / 256));
-    }
 }
 
 pub fn store32(s: &mut [u8], at: usize, x: u32)

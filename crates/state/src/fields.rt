@@ -4,7 +4,7 @@ ghost use Prim.Native.Nat.{_≤_};
 ghost use lib.ListN.{length, set};
 ghost use Rattle.state.specs.Layout.{packetMost, size, markAt};
 ghost use Rattle.state.specs.Bytes.{u32At};
-ghost use Rattle.state.specs.State.{consistent, flagOf, generatorOf, setGenerator, wrongKeysOf, countedWrong, lockAt, bitOf, maskOf, seedOf, setSeed, mtaTag, mtaOf, setMta, pointerOf, setPointer, closed, fresh, answerLength, answerKind};
+ghost use Rattle.state.specs.State.{consistent, flagOf, generatorOf, setGenerator, wrongKeysOf, countedWrong, lockAt, bitOf, maskOf, seedOf, setSeed, mtaTag, mtaOf, setMta, pointerOf, setPointer, dropped, closed, fresh, answerLength, answerKind};
 use crate::Generator;
 use crate::bytes::clear;
 use crate::bytes::get;
@@ -224,11 +224,25 @@ pub fn set_pointer(s: &mut [u8], pointer: Pointer)
     }
 }
 
+// The packets of the n ODTs from k on dropped.
+pub fn drop_packets(s: &mut [u8], k: u16, n: u8)
+    ensures { λ _. ⌜ now (s .exit) ≡ dropped (now (s .entry)) k n ⌝ }
+{
+    let mut at = layout::sample_at(k);
+    let mut j: u8 = 0;
+    while j < n {
+        put(s, at, 0);
+        at += layout::SAMPLE_SIZE;
+        j += 1;
+    }
+}
+
 // The session's end: everything in it as in a fresh one.
 pub fn close(s: &mut [u8])
     ensures { λ _. ⌜ now (s .exit) ≡ closed (now (s .entry)) ⌝ }
 {
     clear(s, layout::SESSION, layout::SESSION_SIZE);
+    drop_packets(s, 0, layout::ALL_ODTS);
 }
 
 pub fn begin(s: &mut [u8])

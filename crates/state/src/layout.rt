@@ -1,13 +1,13 @@
 // Where everything lies in the lent state. docs/STATE.md says how each value reads.
 ghost use mathlib.Core.Path.{_≡_};
-ghost use Rattle.state.specs.Layout.{modeAt, selectedAt, runningAt, entriesAt, entryAt, sampleAt, firstOdt, listOf, isFirst, odtMost};
+ghost use Rattle.state.specs.Layout.{modeAt, selectedAt, runningAt, usedAt, entriesAt, entryAt, sampleAt, firstOdt, listOf, isFirst, odtMost};
 
-// Four lists, each of two ODTs of four entries.
+// Four lists, each of two ODTs of sixteen entries.
 pub const LISTS: u8 = 4;
 
 pub const ODTS: u8 = 2;
 
-pub const ENTRIES: u8 = 4;
+pub const ENTRIES: u8 = 16;
 
 pub const EVENTS: u8 = 2;
 
@@ -36,10 +36,17 @@ pub const CLOCK_SIZE: u8 = 2;
 // Most bytes of an entry.
 pub const ENTRY_MOST: u8 = 4;
 
-// Most bytes of an UPLOAD, after FF, and of a DOWNLOAD, after its code and count.
+// Most bytes of an UPLOAD, after FF.
 pub const UPLOAD_MOST: u8 = PACKET_MOST - 1;
 
-pub const DOWNLOAD_MOST: u8 = PACKET_MOST - 2;
+// Where the data lies in a DOWNLOAD, behind its code and count, and in a SHORT_DOWNLOAD, behind its address; and most bytes of it.
+pub const DOWNLOAD_FROM: u8 = 2;
+
+pub const SHORT_DOWNLOAD_FROM: u8 = 8;
+
+pub const DOWNLOAD_MOST: u8 = PACKET_MOST - DOWNLOAD_FROM;
+
+pub const SHORT_DOWNLOAD_MOST: u8 = PACKET_MOST - SHORT_DOWNLOAD_FROM;
 
 // After so many wrong keys it stays shut.
 pub const WRONG_MOST: u8 = 3;
@@ -53,7 +60,7 @@ pub const CHECKSUM_MOST: u32 = ADDRESSABLE as u32;
 pub const ROOM: usize = line::ROOM;
 
 // The mark that power-up writes; it changes with every layout.
-pub const MARK: u32 = 0x3350_4358;
+pub const MARK: u32 = 0x3450_4358;
 
 pub const MARK_AT: usize = 0;
 
@@ -114,7 +121,7 @@ pub const ANSWER_6: usize = ANSWER_BYTES + 6;
 
 pub const ANSWER_7: usize = ANSWER_BYTES + 7;
 
-// The session's own bytes, up to the end; written 0 when it closes.
+// The session's own bytes: up to the entries they are written 0 when it closes.
 pub const SESSION: usize = ANSWER_BYTES + line::MOST;
 
 pub const OPEN: usize = SESSION;
@@ -139,14 +146,15 @@ pub const MODE: usize = POINTER_ENTRY + 1;
 
 pub const LIST_SIZE: usize = 3;
 
-// Of each ODT: its entries, of size, extension and address.
-pub const ENTRY: usize = MODE + LIST_SIZE * LISTS as usize;
+// Of each ODT: how many of its entries are in use.
+pub const USED: usize = MODE + LIST_SIZE * LISTS as usize;
 
-pub const ENTRY_SIZE: usize = 4;
+// Of each ODT: its entries, each two bytes of size, extension and address.
+pub const ENTRY: usize = USED + ALL_ODTS as usize;
+
+pub const ENTRY_SIZE: usize = 2;
 
 pub const ODT_SIZE: usize = ENTRIES as usize * ENTRY_SIZE;
-
-pub const LIST_ENTRIES_SIZE: usize = ODTS as usize * ODT_SIZE;
 
 // Of each ODT: the length of its waiting packet without the number, and its bytes.
 pub const SAMPLE: usize = ENTRY + ODT_SIZE * ALL_ODTS as usize;
@@ -155,7 +163,7 @@ pub const SAMPLE_SIZE: usize = 1 + STORED_MOST as usize;
 
 pub const STATE: usize = SAMPLE + SAMPLE_SIZE * ALL_ODTS as usize;
 
-pub const SESSION_SIZE: usize = STATE - SESSION;
+pub const SESSION_SIZE: usize = ENTRY - SESSION;
 
 // Places are reckoned in 32 bits: a small processor has no product of 64.
 
@@ -210,6 +218,13 @@ pub fn odt_most(k: u16) -> u8
         return STORED_MOST - CLOCK_SIZE;
     }
     STORED_MOST
+}
+
+// How many of an ODT's entries are in use.
+pub fn used_at(k: u16) -> usize
+    ensures { λ r. ⌜ r ≡ usedAt k ⌝ }
+{
+    USED + k as usize
 }
 
 // An ODT's entries, and one of them.

@@ -1,6 +1,6 @@
 // The lent memories.
 ghost use mathlib.Core.Path.{_≡_};
-ghost use Rattle.state.specs.Memory.{reach, pick, insideOf, byteOf};
+ghost use Rattle.state.specs.Memory.{reach, pick, insideOf};
 use crate::layout::ADDRESSABLE;
 use words::Extension;
 
@@ -30,11 +30,4 @@ pub fn inside(address: u32, n: u32, length: usize) -> bool
     ensures { λ r. ⌜ r ≡ insideOf address n length ⌝ }
 {
     address as u64 + n as u64 <= reach(length) as u64
-}
-
-// A byte of a memory, 0 where it is not inside.
-pub fn byte(mem: &[u8], at: usize) -> u8
-    ensures { λ r. ⌜ r ≡ byteOf (now (mem .entry)) at ⌝ }
-{
-    if at < reach(mem.len()) { mem[at] } else { 0 }
 }

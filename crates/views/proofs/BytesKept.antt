@@ -21,7 +21,7 @@ use Rattle.state.specs.Layout.{size, lists, lastList, events, allOdts, odtCount
 use Rattle.state.specs.Bytes.{put32, bytes32, block}
 use Rattle.state.specs.Generator.{nextOf, startOf}
 use Rattle.state.specs.Memory.{pick, reach, byteOf, bytesOf, blockSum}
-use Rattle.state.specs.State.{consistent, generatorOf, setGenerator, wrongKeysOf, closed, ctrOf, lockAt, bitOf, maskBy, answerLength, answerKind, answerOf, waits}
+use Rattle.state.specs.State.{consistent, generatorOf, setGenerator, wrongKeysOf, setPointer, closed, ctrOf, lockAt, bitOf, maskBy, answerLength, answerKind, answerOf, waits}
 use Rattle.state.specs.Lists.{storedLength}
 use Rattle.words.specs.Command.{codeOf}
 use Rattle.words.specs.declared.Resource.{Resource}
@@ -47,7 +47,7 @@ use Rattle.model.specs.Calls.{blockIn, blocksIn, leadOf, contentsIn, packetFrom
 use Rattle.model.specs.View.{odtOf, sessionOf, viewOf}
 use Rattle.model.proofs.Shown.{packet-by}
 use Rattle.judge.specs.Doable.{Doable}
-use Rattle.lists.specs.Lists.{entryCleared, entrySet}
+use Rattle.lists.specs.Lists.{entrySet}
 use Rattle.lists.specs.Event.{samplingOf, contentsOf, stored, capturedOdts, sampledState, tally, Happened, eventOf}
 use Rattle.lists.specs.Slot.{turnOf, Slot, ctrNext, answerSent, packetSent, sentBy, slotOf}
 use Rattle.lists.proofs.Fitting.{Fitting, sampling-fits, fit-each}
@@ -62,9 +62,12 @@ use Rattle.fields.proofs.Effects.{answering}
 use Rattle.views.proofs.Bytes.{bytes-cons, bytes-four, bytes-set, bytes-block, fed-bytes}
 use Rattle.views.proofs.Effect.{next-pointed}
 use Rattle.views.proofs.Fit.{Fit, generator-fits, judged-fits}
-use Rattle.views.proofs.BytesStored.{no-bytes, literal, one-byte, bytes-append, bytes-zeros, bytes-sets, bytes-modulo, bytes-put32, bytes-seed, bytes-generator, bytes-mta, bytes-pointer, bytes-counted, bytes-closed, bytes-fresh, bytes-readOn, bytes-answered, bytes-switched, bytes-listCleared, bytes-modeSet, bytes-entryCleared, bytes-entrySet, bytes-selected, bytes-stopEach, bytes-startSelected, bytes-stopSelected}
+use Rattle.views.proofs.BytesStored.{no-bytes, literal, one-byte, bytes-append, bytes-zeros, bytes-sets, bytes-modulo, bytes-put32, bytes-seed, bytes-generator, bytes-mta, bytes-pointer, bytes-counted, bytes-closed, bytes-fresh, bytes-readOn, bytes-answered, bytes-switched, bytes-listCleared, bytes-modeSet, bytes-entrySet, bytes-selected, bytes-stopEach, bytes-startSelected, bytes-stopSelected}
 
 -- ---- a deed
+bytes-entered : (s : List ℕ) (k e n : ℕ) (x : Extension) (a : ℕ) → k < allOdts → e < entryCount k → Bytes s → Bytes (setPointer (entrySet s (listOf k) k e n x a) (nextEntry k e))
+bytes-entered s k e n x a p q w = bytes-pointer (entrySet s (listOf k) k e n x a) (nextEntry k e) (next-pointed k e p q) (bytes-entrySet s (listOf k) k e n x a w)
+
 bytes-effect : (d : Deed) (s : List ℕ) (n nc nm g i : ℕ) → Doable d n nc nm → Fit d g i → Bytes s → Bytes (effect d s)
 unfolding effect
 bytes-effect (Refuse r) s n nc nm g i h f w = w
@@ -80,12 +83,11 @@ bytes-effect (Unlock r) s n nc nm g i h f w = bytes-seed (set s (lockAt r) 1) No
 bytes-effect (SetMta e a) s n nc nm g i h f w = bytes-mta s (At e a) w
 bytes-effect (Upload e a m) s n nc nm g i h f w = bytes-mta s _ w
 bytes-effect (Checksum e a m) s n nc nm g i h f w = bytes-mta s (At e (a + m)) w
-bytes-effect (Download a m) s n nc nm g i h f w = bytes-mta s (At CalibrationMemory (a + m)) w
+bytes-effect (Download from a m) s n nc nm g i h f w = bytes-mta s (At CalibrationMemory (a + m)) w
 bytes-effect (ClearList l) s n nc nm g i h f w = bytes-listCleared s l w
 bytes-effect (SetPointer k e) s n nc nm g i h f w = bytes-pointer s (Points k e) h w
-bytes-effect (ClearEntry k e) s n nc nm g i h f w = bytes-pointer (entryCleared s (listOf k) k e) (nextEntry k e) (next-pointed k e (h .0) (h .1)) (bytes-entryCleared s (listOf k) k e w)
-bytes-effect (WriteEntry k e m x a) s n nc nm g i h f w =
-    bytes-pointer (entrySet s (listOf k) k e m x a) (nextEntry k e) (next-pointed k e (h .0) (h .1)) (bytes-entrySet s (listOf k) k e m x a (f .0) w)
+bytes-effect (ClearEntry k e) s n nc nm g i h f w = bytes-entered s k e 0 CalibrationMemory 0 (h .0) (h .1) w
+bytes-effect (WriteEntry k e m x a) s n nc nm g i h f w = bytes-entered s k e m x a (h .0) (h .1) w
 bytes-effect (SetMode l event) s n nc nm g i h f w = bytes-modeSet s l event w
 bytes-effect (Stop l) s n nc nm g i h f w = bytes-switched s l 0 (lit< tt) w
 bytes-effect (Start l) s n nc nm g i h f w = bytes-switched s l 1 (lit< tt) w
@@ -167,7 +169,7 @@ module _ (cal meas : List ℕ) (wc : Bytes cal) (wm : Bytes meas) where
       let front : List ℕ = 0xFF ∷ 0x02 ∷ 0x00 ∷ 0x00 ∷ [] in
       let total : ℕ = blockSum (pick e cal meas) a m in
       bytes-append front (bytes32 total) (literal front tt) (bytes-four total)
-  bytes-reply (Download a m) c n nc nm h = ok
+  bytes-reply (Download from a m) c n nc nm h = ok
   bytes-reply (ClearList l) c n nc nm h = ok
   bytes-reply (SetPointer k e) c n nc nm h = ok
   bytes-reply (ClearEntry k e) c n nc nm h = ok
@@ -186,7 +188,7 @@ module _ (cal meas : List ℕ) (wc : Bytes cal) (wm : Bytes meas) where
 -- what it writes into calibration
 bytes-written : (x : Option Write) (p cal : List ℕ) → Bytes p → Bytes cal → Bytes (memoryAfter x p cal)
 bytes-written none p cal v w = w
-bytes-written (some x) p cal v w = bytes-sets (block p 2 (x .count)) cal (x .address) w (bytes-block p 2 (x .count) v)
+bytes-written (some x) p cal v w = bytes-sets (block p (x .from) (x .count)) cal (x .address) w (bytes-block p (x .from) (x .count) v)
 
 -- ---- a received byte
 abbrev Low : Step → Type 0

@@ -1,6 +1,6 @@
 -- What the writers of the state store is of bytes, if what they are given is. Assumes nothing.
 use Prim.{tt}
-use Prim.Native.Nat.{ℕ, zero, suc, _+_, _/_, _%_, _≤_, _<_}
+use Prim.Native.Nat.{ℕ, zero, suc, _+_, _*_, _-_, _/_, _%_, _≤_, _<_}
 use mathlib.Core.Path.{_≡_, refl}
 use mathlib.Core.Bool.{Bool, true, false, cond}
 use mathlib.Core.List.{List, [], _∷_, _++_}
@@ -15,11 +15,11 @@ use Rattle.line.specs.declared.Place.{Place}
 use Rattle.line.specs.declared.Place.the-variants.{Outside, Inside, Escaped}
 use Rattle.line.specs.declared.Outcome.the-variants as line
 use Rattle.line.proofs.Laws.{cond-ind}
-use Rattle.state.specs.Layout.{odtCount, firstOdt, entryCount, entriesAt, listSize, entrySize, entryMost, packetMost, wrongMost, generatorAt, wrongKeysAt, placeAt, countAt, messageAt, answerAt, sessionAt, sessionSize, openAt, seedAt, mtaAt, addressAt, pointerAt, pointerEntryAt, modeAt, selectedAt, runningAt, entryAt, sampleAt}
-use Rattle.state.specs.Bytes.{put16, put32, cleared}
+use Rattle.state.specs.Layout.{odtCount, firstOdt, allOdts, entryCount, usedAt, listSize, entrySize, packetMost, wrongMost, generatorAt, wrongKeysAt, placeAt, countAt, messageAt, answerAt, sessionAt, sessionSize, openAt, seedAt, mtaAt, addressAt, pointerAt, pointerEntryAt, modeAt, selectedAt, runningAt, entryAt, sampleAt}
+use Rattle.state.specs.Bytes.{put32, cleared}
 use Rattle.state.specs.Generator.{oneWrongMore}
-use Rattle.state.specs.State.{setGenerator, wrongKeysOf, countedWrong, bitOf, setSeed, mtaTag, setMta, setPointer, Pointed, closed, fresh, setPlace, setMessage, answered}
-use Rattle.state.specs.Lists.{selectedOf}
+use Rattle.state.specs.State.{setGenerator, wrongKeysOf, countedWrong, bitOf, setSeed, mtaTag, setMta, setPointer, Pointed, dropped, closed, fresh, setPlace, setMessage, answered}
+use Rattle.state.specs.Lists.{usedOf, selectedOf}
 use Rattle.words.specs.declared.Resource.{Resource}
 use Rattle.words.specs.declared.Resource.the-variants.{Calibration, Lists}
 use Rattle.words.specs.declared.Extension.{Extension}
@@ -32,7 +32,7 @@ use Rattle.words.specs.declared.Pointer.{Pointer}
 use Rattle.words.specs.declared.Pointer.the-variants.{Unset as NoEntry, At as Points}
 use Rattle.words.specs.declared.Reason.the-variants as reason
 use Rattle.model.specs.Model.{Bytes}
-use Rattle.lists.specs.Lists.{runsOf, tagOf, dropped, switched, stopped, listCleared, modeSet, entryCleared, entrySet, stopEach, startOne, startSelected, stopOne, stopSelected}
+use Rattle.lists.specs.Lists.{runsOf, tagOf, switched, stopped, listCleared, modeSet, entryReached, headOf, entrySet, stopEach, startOne, startSelected, stopOne, stopSelected}
 use Rattle.session.specs.Receive.{readOn}
 use Rattle.fields.proofs.Fields.{more-few}
 use Rattle.views.proofs.Bytes.{bytes-cons, bytes-set, bytes-take, bytes-drop}
@@ -77,10 +77,6 @@ bytes-cleared s i n w = bytes-sets (replicate n 0) s i w (bytes-zeros n)
 pub bytes-modulo : (s : List ℕ) (i x : ℕ) → Bytes s → Bytes (set s i (x % 256))
 bytes-modulo s i x w = bytes-set s i (x % 256) w (mod-lt x (lit< tt))
 
-bytes-put16 : (s : List ℕ) (i x : ℕ) → Bytes s → Bytes (put16 s i x)
-unfolding put16
-bytes-put16 s i x w = bytes-modulo (set s i (x % 256)) (i + 1) (x / 256) (bytes-modulo s i x w)
-
 pub bytes-put32 : (s : List ℕ) (i x : ℕ) → Bytes s → Bytes (put32 s i x)
 unfolding put32
 bytes-put32 s i x w =
@@ -103,14 +99,14 @@ pub bytes-generator : (s : List ℕ) (x : ℕ) → Bytes s → Bytes (setGenerat
 unfolding setGenerator
 bytes-generator s x w = bytes-put32 s generatorAt x w
 
-tag-low : (e : Extension) → (mtaTag e < 256) × (tagOf e < 256)
-tag-low CalibrationMemory = (lit< tt, lit< tt)
-tag-low Measured = (lit< tt, lit< tt)
+tag-low : (e : Extension) → mtaTag e < 256
+tag-low CalibrationMemory = lit< tt
+tag-low Measured = lit< tt
 
 pub bytes-mta : (s : List ℕ) (m : Mta) → Bytes s → Bytes (setMta s m)
 unfolding setMta
 bytes-mta s Unset w = bytes-set s mtaAt 0 w (lit< tt)
-bytes-mta s (At e a) w = bytes-put32 (set s mtaAt (mtaTag e)) addressAt a (bytes-set s mtaAt (mtaTag e) w (tag-low e .0))
+bytes-mta s (At e a) w = bytes-put32 (set s mtaAt (mtaTag e)) addressAt a (bytes-set s mtaAt (mtaTag e) w (tag-low e))
 
 pub bytes-pointer : (s : List ℕ) (p : Pointer) → Pointed p → Bytes s → Bytes (setPointer s p)
 unfolding setPointer
@@ -121,9 +117,14 @@ pub bytes-counted : (s : List ℕ) → Bytes s → Bytes (countedWrong s)
 unfolding countedWrong
 bytes-counted s w = bytes-set s wrongKeysAt _ w (let few : oneWrongMore (wrongKeysOf s) ≤ wrongMost = more-few (wrongKeysOf s) in omega arith)
 
+bytes-dropped : (s : List ℕ) (k n : ℕ) → Bytes s → Bytes (dropped s k n)
+unfolding dropped
+bytes-dropped s k zero w = w
+bytes-dropped s k (suc n) w = bytes-set (dropped s k n) (sampleAt (k + n)) 0 (bytes-dropped s k n w) (lit< tt)
+
 pub bytes-closed : (s : List ℕ) → Bytes s → Bytes (closed s)
 unfolding closed
-bytes-closed s w = bytes-cleared s sessionAt sessionSize w
+bytes-closed s w = bytes-dropped (cleared s sessionAt sessionSize) 0 allOdts (bytes-cleared s sessionAt sessionSize w)
 
 pub bytes-fresh : (s : List ℕ) → Bytes s → Bytes (fresh s)
 unfolding fresh
@@ -149,34 +150,30 @@ unfolding answered
 bytes-answered s bs w v few = bytes-sets (length bs ∷ bs) s answerAt w (bytes-cons (length bs) bs (omega arith) v)
 
 -- ---- the lists
-bytes-dropped : (s : List ℕ) (k n : ℕ) → Bytes s → Bytes (dropped s k n)
-unfolding dropped
-bytes-dropped s k zero w = w
-bytes-dropped s k (suc n) w = bytes-set (dropped s k n) (sampleAt (k + n)) 0 (bytes-dropped s k n w) (lit< tt)
-
 pub bytes-switched : (s : List ℕ) (l on : ℕ) → on < 256 → Bytes s → Bytes (switched s l on)
 unfolding switched
 bytes-switched s l on h w = bytes-dropped (set s (runningAt l) on) (firstOdt l) (odtCount l) (bytes-set s (runningAt l) on w h)
 
 pub bytes-listCleared : (s : List ℕ) (l : ℕ) → Bytes s → Bytes (listCleared s l)
 unfolding listCleared
-bytes-listCleared s l w = bytes-cleared (cleared s (modeAt l) listSize) (entriesAt (firstOdt l)) _ (bytes-cleared s (modeAt l) listSize w)
+bytes-listCleared s l w = bytes-cleared (cleared s (modeAt l) listSize) (usedAt (firstOdt l)) _ (bytes-cleared s (modeAt l) listSize w)
 
 pub bytes-modeSet : (s : List ℕ) (l event : ℕ) → Bytes s → Bytes (modeSet s l event)
 unfolding modeSet
 bytes-modeSet s l event w = bytes-set (set s (modeAt l) ((event + 1) % 256)) (runningAt l) 0 (bytes-modulo s (modeAt l) (event + 1) w) (lit< tt)
 
-pub bytes-entryCleared : (s : List ℕ) (l k e : ℕ) → Bytes s → Bytes (entryCleared s l k e)
-unfolding entryCleared
-bytes-entryCleared s l k e w = bytes-cleared (set s (runningAt l) 0) (entryAt k e) entrySize (bytes-set s (runningAt l) 0 w (lit< tt))
+bytes-reached : (s : List ℕ) (k e : ℕ) → Bytes s → Bytes (entryReached s k e)
+unfolding entryReached
+bytes-reached s k e w =
+    let n : ℕ = entrySize * (e + 1 - usedOf s k) in
+    cond-ind Bytes (ltb e (usedOf s k)) (λ _. w) (λ _. bytes-modulo (cleared s (entryAt k (usedOf s k)) n) (usedAt k) (e + 1) (bytes-cleared s (entryAt k (usedOf s k)) n w))
 
-pub bytes-entrySet : (s : List ℕ) (l k e n : ℕ) (x : Extension) (a : ℕ) → n ≤ entryMost → Bytes s → Bytes (entrySet s l k e n x a)
+pub bytes-entrySet : (s : List ℕ) (l k e n : ℕ) (x : Extension) (a : ℕ) → Bytes s → Bytes (entrySet s l k e n x a)
 unfolding entrySet
-bytes-entrySet s l k e n x a few w =
-    let s₁ : List ℕ = set s (runningAt l) 0 in
-    let s₂ : List ℕ = set s₁ (entryAt k e) n in
-    bytes-put16 (set s₂ (entryAt k e + 1) (tagOf x)) (entryAt k e + 2) a
-    (bytes-set s₂ (entryAt k e + 1) (tagOf x) (bytes-set s₁ (entryAt k e) n (bytes-set s (runningAt l) 0 w (lit< tt)) (omega arith)) (tag-low x .1))
+bytes-entrySet s l k e n x a w =
+    let s₁ : List ℕ = entryReached (set s (runningAt l) 0) k e in
+    bytes-modulo (set s₁ (entryAt k e) (headOf n x a)) (entryAt k e + 1) a
+    (bytes-modulo s₁ (entryAt k e) (32 * n + 16 * tagOf x + a / 256) (bytes-reached (set s (runningAt l) 0) k e (bytes-set s (runningAt l) 0 w (lit< tt))))
 
 pub bytes-selected : (s : List ℕ) (l on : ℕ) → on < 256 → Bytes s → Bytes (set s (selectedAt l) on)
 bytes-selected s l on h w = bytes-set s (selectedAt l) on w h

@@ -110,9 +110,9 @@ module _ (s : List ℕ) (k : ℕ) (h : length s ≡ size) (k8 : k < allOdts) whe
       changes l (withoutPacket (odtIn k)) s t (omega arith)
       (list-from (mode-own l (spared w (omega arith))) (flag-reads (selectedAt l) (spared w (omega arith))) (flag-reads (runningAt l) (spared w (omega arith)))
       (upTo-put (odtCount l) noOdt (omega arith)
-      (odt-from (entries-own (firstOdt l + odtIn k) (spared w (omega arith))) (store-gone t (getD-set-same s (sampleAt k) 0 0 (omega arith)))
+      (odt-from (entries-own (firstOdt l + odtIn k) (spared w (omega arith)) (spared w (omega arith))) (store-gone t (getD-set-same s (sampleAt k) 0 0 (omega arith)))
       ∙ ap emptied (sym (upTo-at (odtCount l) (odtIn k) noOdt (λ o. odtOf s (firstOdt l + o)) (omega arith))))
-      (λ j p n. odt-own (firstOdt l + j) (spared w (omega arith)) (spared w (omega arith)))))
+      (λ j p n. odt-own (firstOdt l + j) (spared w (omega arith)) (spared w (omega arith)) (spared w (omega arith)))))
       (λ j p n. list-own j (own-one w (omega arith)))
 
   pub view-packetSent : viewOf (packetSent s k) ≡ packetGone k (viewOf s)
@@ -238,7 +238,7 @@ module _ (s : List ℕ) (l clock : ℕ) (cal meas : List ℕ) (long : length s �
 
   captured-odt : (o : ℕ) → o < odtCount l → odtOf (captured s l clock cal meas) (firstOdt l + o) ≡ withPacket (contentsIn (firstOdt l + o) clock cal meas (odtOf s (firstOdt l + o))) (odtOf s (firstOdt l + o))
   captured-odt o h =
-      odt-from (entries-own (firstOdt l + o) (spared captured-only (omega arith))) (first-store (odtCount l) o (omega arith) h)
+      odt-from (entries-own (firstOdt l + o) (spared captured-only (omega arith)) (spared captured-only (omega arith))) (first-store (odtCount l) o (omega arith) h)
 
   captured-odts : daqOf (captured s l clock cal meas) l .odt ≡ sampled l clock cal meas (daqOf s l) .odt
   captured-odts =
@@ -298,7 +298,7 @@ module _ (start : ℕ) where
   powered-zero j p q = powered-only .bytes j (out-above markAt placeAt j p) ∙ getD-replicate size j 0 0 q
 
   powered-bare : Bare (powered start)
-  powered-bare j p q = powered-zero j (omega arith) q
+  powered-bare = record { nought = λ j p q. powered-zero j (omega arith) (omega arith); stores = λ k p. powered-zero (sampleAt k) (omega arith) (omega arith) }
 
   powered-generator : start < 2 ^ 32 → generatorOf (powered start) ≡ startOf start
   unfolding powered

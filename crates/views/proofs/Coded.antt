@@ -7,7 +7,7 @@ use lib.Dec.{eqb}
 use Rattle.line.proofs.Laws.{cond-ind}
 use Rattle.words.specs.Command.{commandOf}
 use Rattle.words.specs.declared.Command.{Command}
-use Rattle.words.specs.declared.Command.the-variants.{Unknown, Connect, Disconnect, GetStatus, Synch, GetSeed, Unlock, SetMta, Upload, ShortUpload, BuildChecksum, Download, ClearDaqList, SetDaqPtr, WriteDaq, SetDaqListMode, StartStopDaqList, StartStopSynch, GetDaqProcessorInfo, GetDaqResolutionInfo}
+use Rattle.words.specs.declared.Command.the-variants.{Unknown, Connect, Disconnect, GetStatus, Synch, GetSeed, Unlock, SetMta, Upload, ShortUpload, BuildChecksum, Download, ShortDownload, ClearDaqList, SetDaqPtr, WriteDaq, SetDaqListMode, StartStopDaqList, StartStopSynch, GetDaqProcessorInfo, GetDaqResolutionInfo}
 
 abbrev pub Coded : ℕ → Command → Type 0
 Coded n Unknown = Unit
@@ -22,6 +22,7 @@ Coded n Upload = n ≡ 0xF5
 Coded n ShortUpload = n ≡ 0xF4
 Coded n BuildChecksum = n ≡ 0xF3
 Coded n Download = n ≡ 0xF0
+Coded n ShortDownload = n ≡ 0xED
 Coded n ClearDaqList = n ≡ 0xE3
 Coded n SetDaqPtr = n ≡ 0xE2
 Coded n WriteDaq = n ≡ 0xE1
@@ -45,6 +46,7 @@ coded n =
     cond-ind (Coded n) (eqb n 0xF4) (λ e. eqb-true n 0xF4 e) (λ _.
     cond-ind (Coded n) (eqb n 0xF3) (λ e. eqb-true n 0xF3 e) (λ _.
     cond-ind (Coded n) (eqb n 0xF0) (λ e. eqb-true n 0xF0 e) (λ _.
+    cond-ind (Coded n) (eqb n 0xED) (λ e. eqb-true n 0xED e) (λ _.
     cond-ind (Coded n) (eqb n 0xE3) (λ e. eqb-true n 0xE3 e) (λ _.
     cond-ind (Coded n) (eqb n 0xE2) (λ e. eqb-true n 0xE2 e) (λ _.
     cond-ind (Coded n) (eqb n 0xE1) (λ e. eqb-true n 0xE1 e) (λ _.
@@ -52,4 +54,4 @@ coded n =
     cond-ind (Coded n) (eqb n 0xDE) (λ e. eqb-true n 0xDE e) (λ _.
     cond-ind (Coded n) (eqb n 0xDD) (λ e. eqb-true n 0xDD e) (λ _.
     cond-ind (Coded n) (eqb n 0xDA) (λ e. eqb-true n 0xDA e) (λ _.
-    cond-ind (Coded n) (eqb n 0xD9) (λ e. eqb-true n 0xD9 e) (λ _. tt)))))))))))))))))))
+    cond-ind (Coded n) (eqb n 0xD9) (λ e. eqb-true n 0xD9 e) (λ _. tt))))))))))))))))))))

@@ -6,7 +6,7 @@ use mathlib.Core.Bool.{Bool, true, false, cond}
 use mathlib.Core.List.{List}
 use native.Mathlib.Omega.{arith}
 use borrow.Author.Tests.{ltb-true, ltb-false, lt-ltb, le-ltb, eqb-true, eqb-false}
-use lib.Dec.{eqb, ltb, lit≤}
+use lib.Dec.{eqb, ltb, lit<, lit≤}
 use lib.ListN.{length, set}
 use Rattle.line.proofs.Laws.{cond-ind}
 use Rattle.state.specs.Layout.{size, lists, allOdts, entryCount, listOf, lastEntry, modeAt, selectedAt, sampleAt}
@@ -18,6 +18,7 @@ use Rattle.state.specs.Lists.{selectedOf}
 use Rattle.judge.specs.Doable.{Doable}
 use Rattle.model.specs.Step.{nextEntry, withSession, withSeed, withPointer, withLists, switch, select, stopIt, startIfSelected, stopIfSelected, stepIn, step}
 use Rattle.session.specs.Perform.{effect}
+use Rattle.words.specs.declared.Extension.the-variants.{Calibration as CalibrationMemory}
 use Rattle.words.specs.declared.Seed.the-variants.{None, For}
 use Rattle.model.specs.declared.Deed.{Deed}
 use Rattle.model.specs.declared.Deed.the-variants.{Refuse, RefuseSize, WrongKey, Connect, Disconnect, Status, Synch, NoSeed, GiveSeed, Unlock, SetMta, Upload, Checksum, Download, ClearList, SetPointer, ClearEntry, WriteEntry, SetMode, Stop, Start, KeepRunning, Select, StopAll, StartSelected, StopSelected, ProcessorInfo, ResolutionInfo}
@@ -25,14 +26,14 @@ use Rattle.state.proofs.Inside.{inside-le}
 use Rattle.fields.proofs.Frames.{Only, only-none, only-set, only-wider, only-generator, only-lock}
 use Rattle.fields.proofs.Fields.{Given}
 use Rattle.fields.proofs.Readers.{apart, wrongKeys-reads, open-reads}
-use Rattle.fields.proofs.Effects.{effected, only-switched, only-listCleared, only-modeSet, only-entryCleared, only-entrySet, only-stopEach, only-startSelected, only-stopSelected}
+use Rattle.fields.proofs.Effects.{effected, only-switched, only-listCleared, only-modeSet, only-entrySet, only-stopEach, only-startSelected, only-stopSelected}
 use Rattle.model.specs.Model.{put, DaqList, noList, Session, runs}
 use Rattle.model.specs.View.{daqOf, listsOf, sessionOf, viewOf}
 use Rattle.views.proofs.Fit.{Fit}
 use Rattle.model.proofs.Shown.{selected-at}
 use Rattle.model.proofs.Bounded.{either, upTo-above}
 use Rattle.views.proofs.Parts.{put-here, in-session, in-lists}
-use Rattle.views.proofs.Shows.{shows-seed, shows-generator, shows-mta, shows-pointer, shows-lock, shows-closed, shows-fresh, shows-counted, Changes, changes-switched, changes-selected, changes-mode, changes-cleared, changes-entryCleared, changes-entrySet}
+use Rattle.views.proofs.Shows.{shows-seed, shows-generator, shows-mta, shows-pointer, shows-lock, shows-closed, shows-fresh, shows-counted, Changes, changes-switched, changes-selected, changes-mode, changes-cleared, changes-entrySet}
 
 -- ---- one list changed
 shows-lists : {s t : List ℕ} {f : ℕ → DaqList} → Only (modeAt 0) size s t → listsOf t ≡ f → sessionOf t ≡ withLists (sessionOf s) f
@@ -182,13 +183,13 @@ session-effect (Unlock r) s n nc nm h can fit =
 session-effect (SetMta e a) s n nc nm h can fit = shows-mta s h _ fit
 session-effect (Upload e a m) s n nc nm h can fit = shows-mta s h _ (low a m (pick e nc nm) (can .1))
 session-effect (Checksum e a m) s n nc nm h can fit = shows-mta s h _ (low a m (pick e nc nm) (can .1))
-session-effect (Download a m) s n nc nm h can fit = shows-mta s h _ (low a m nc (can .1 .1))
+session-effect (Download from a m) s n nc nm h can fit = shows-mta s h _ (low a m nc (can .1 .1))
 session-effect (ClearList l) s n nc nm h can fit = shows-lists (only-wider (lit≤ tt) (lit≤ tt) (only-listCleared s l can)) (changes-cleared s l h can)
 session-effect (SetPointer k e) s n nc nm h can fit = shows-pointer s h _ can
 session-effect (ClearEntry k e) s n nc nm h can fit =
-    then-next k e h (can .0) (can .1) (only-entryCleared s (listOf k) k e (list-of k (can .0)) (can .0) (can .1)) (changes-entryCleared s k e h (can .0) (can .1))
+    then-next k e h (can .0) (can .1) (only-entrySet s (listOf k) k e 0 CalibrationMemory 0 (list-of k (can .0)) (can .0) (can .1)) (changes-entrySet s k e 0 0 CalibrationMemory h (can .0) (can .1) (lit≤ tt) (lit< tt))
 session-effect (WriteEntry k e m x a) s n nc nm h can fit =
-    then-next k e h (can .0) (can .1) (only-entrySet s (listOf k) k e m x a (list-of k (can .0)) (can .0) (can .1)) (changes-entrySet s k e h (can .0) (can .1) m x a (fit .0) (fit .1))
+    then-next k e h (can .0) (can .1) (only-entrySet s (listOf k) k e m x a (list-of k (can .0)) (can .0) (can .1)) (changes-entrySet s k e m a x h (can .0) (can .1) (fit .0) (fit .1))
 session-effect (SetMode l event) s n nc nm h can fit =
     shows-lists (only-wider (lit≤ tt) (lit≤ tt) (only-modeSet s l event (can .0))) (changes-mode s l h (can .0) event (can .1))
 session-effect (Stop l) s n nc nm h can fit = shows-lists (only-switched s l 0 can) (changes-switched s l h can 0)

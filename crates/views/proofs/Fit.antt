@@ -10,7 +10,7 @@ use lib.Dec.{eqb}
 use Rattle.model.specs.Judge.{seenIn, judgeIn, extensionFrom, judge}
 use Rattle.model.specs.View.{sessionOf}
 use Rattle.line.proofs.Laws.{cond-ind}
-use Rattle.state.specs.Layout.{entryMost, generatorAt}
+use Rattle.state.specs.Layout.{entryMost, addressable, generatorAt}
 use Rattle.state.specs.Bytes.{u16At, u32At}
 use Rattle.state.specs.Generator.{nextOf, startOf, staysShut}
 use Rattle.state.specs.Memory.{pick, insideOf}
@@ -25,7 +25,7 @@ use Rattle.model.specs.declared.Deed.{Deed}
 use Rattle.model.specs.declared.Deed.the-variants.{Refuse, RefuseSize, WrongKey, Connect, Disconnect, Status, Synch, NoSeed, GiveSeed, Unlock, SetMta, Upload, Checksum, Download, ClearList, SetPointer, ClearEntry, WriteEntry, SetMode, Stop, Start, KeepRunning, Select, StopAll, StartSelected, StopSelected, ProcessorInfo, ResolutionInfo}
 use Rattle.look.specs.Look.{judgeOf}
 use Rattle.model.specs.Model.{Bytes}
-use Rattle.views.proofs.Verdict.{Verdict, refused, connects, disconnects, tells, synchs, no-seed, gives, unlocks, wrong, sets, uploads, shorts, no-size, sums, downloads, clears, points, zeroes, writes, modes, stops, starts, goes-on, selects, stops-all, starts-all, stops-some, processor, resolution, found}
+use Rattle.views.proofs.Verdict.{Verdict, refused, connects, disconnects, tells, synchs, no-seed, gives, unlocks, wrong, sets, uploads, shorts, no-size, sums, downloads, short-downloads, clears, points, zeroes, writes, modes, stops, starts, goes-on, selects, stops-all, starts-all, stops-some, processor, resolution, found}
 
 -- a seed, an address and an entry fit in the bytes that they are stored in, and a seed is given while fewer than three keys were wrong; g is the
 -- generator, w the count of wrong keys
@@ -43,11 +43,11 @@ Fit (Unlock r) g w = Unit
 Fit (SetMta e a) g w = a < 2 ^ 32
 Fit (Upload e a n) g w = Unit
 Fit (Checksum e a n) g w = Unit
-Fit (Download a n) g w = Unit
+Fit (Download from a n) g w = Unit
 Fit (ClearList l) g w = Unit
 Fit (SetPointer k e) g w = Unit
 Fit (ClearEntry k e) g w = Unit
-Fit (WriteEntry k e n x a) g w = (n ≤ entryMost) × (a < 2 ^ 16)
+Fit (WriteEntry k e n x a) g w = (n ≤ entryMost) × (a < addressable)
 Fit (SetMode l event) g w = Unit
 Fit (Stop l) g w = Unit
 Fit (Start l) g w = Unit
@@ -71,8 +71,8 @@ pub generator-fits : (s : List ℕ) → Bytes s → generatorOf s < 2 ^ 32
 unfolding generatorOf startOf
 generator-fits s w = cond-ind (λ (n : ℕ). n < 2 ^ 32) (eqb (u32At s generatorAt) 0) (λ _. omega arith) (λ _. number-fits s generatorAt w)
 
-pub entry-low : (a n len : ℕ) → insideOf a n len ≡ true → a < 2 ^ 16
-entry-low a n len e = omega (arith, inside-le a n len e)
+pub entry-low : (a n len : ℕ) → n ≢ 0 → insideOf a n len ≡ true → a < addressable
+entry-low a n len some e = omega (arith, some, inside-le a n len e)
 
 -- ---- command by command
 -- ---- what is judged fits
@@ -93,10 +93,11 @@ module _ (p : Packet) (v : Seen) (nc nm : ℕ) (low : p .d4 < 2 ^ 32) (few : v .
   by-verdict _ _ no-size = tt
   by-verdict _ _ (sums x a there inside) = tt
   by-verdict _ _ (downloads a free there long inside) = tt
+  by-verdict _ _ (short-downloads free named long inside) = tt
   by-verdict _ _ (clears free list still) = tt
   by-verdict _ _ (points free list odt entry) = tt
   by-verdict _ _ (zeroes k e free w) = tt
-  by-verdict _ _ (writes k e free w inside) = (inside .0, entry-low (p .d4) (p .b2) (pick (extensionFrom (p .b3)) nc nm) (inside .1))
+  by-verdict _ _ (writes k e free w some inside) = (inside .0, entry-low (p .d4) (p .b2) (pick (extensionFrom (p .b3)) nc nm) some (inside .1))
   by-verdict _ _ (modes free list event still) = tt
   by-verdict _ _ (stops free list) = tt
   by-verdict _ _ (starts free list still) = tt

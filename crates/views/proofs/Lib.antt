@@ -4,6 +4,7 @@ pub mod Bytes
 pub mod Coded
 pub mod Verdict
 pub mod Fit
+pub mod Reached
 pub mod Shows
 pub mod Effect
 pub mod Stepped

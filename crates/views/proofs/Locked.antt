@@ -32,7 +32,7 @@ use Rattle.views.specs.Locked.{SettingsKept, endsSession, Shields}
 use Rattle.model.proofs.Bounded.{either}
 use Rattle.views.proofs.SessionLaws.{blank-fresh}
 use Rattle.views.proofs.Coded.{Coded, coded}
-use Rattle.views.proofs.Verdict.{Verdict, refused, connects, disconnects, tells, synchs, no-seed, gives, unlocks, wrong, sets, uploads, shorts, no-size, sums, downloads, clears, points, zeroes, writes, modes, stops, starts, goes-on, selects, stops-all, starts-all, stops-some, processor, resolution, found}
+use Rattle.views.proofs.Verdict.{Verdict, refused, connects, disconnects, tells, synchs, no-seed, gives, unlocks, wrong, sets, uploads, shorts, no-size, sums, downloads, short-downloads, clears, points, zeroes, writes, modes, stops, starts, goes-on, selects, stops-all, starts-all, stops-some, processor, resolution, found}
 
 module _ (p : List ℕ) (c : Session) (cal meas : List ℕ) where
   abbrev Keeps : Deed → Type 0
@@ -73,10 +73,11 @@ module _ (p : List ℕ) (c : Session) (cal meas : List ℕ) where
     by-verdict _ _ o no-size = as-was
     by-verdict _ _ o (sums x a there inside) = other-parts
     by-verdict _ _ o (downloads a free there long inside) = other-parts
+    by-verdict _ _ o (short-downloads free named long inside) = other-parts
     by-verdict _ _ o (clears free list still) = shut free
     by-verdict _ _ o (points free list odt entry) = shut free
     by-verdict _ _ o (zeroes k e free w) = shut free
-    by-verdict _ _ o (writes k e free w inside) = shut free
+    by-verdict _ _ o (writes k e free w some inside) = shut free
     by-verdict _ _ o (modes free list event still) = shut free
     by-verdict _ _ o (stops free list) = shut free
     by-verdict _ _ o (starts free list still) = shut free

@@ -1,4 +1,4 @@
--- F6 to F0: what a command that is answered FF makes of the MTA and the memory, and what it answers. Assumes nothing.
+-- F6 to ED: what a command that is answered FF makes of the MTA and the memory, and what it answers. Assumes nothing.
 use Prim.Native.Nat.{ℕ, zero, suc, _+_, _*_, _-_, _/_, _%_, _^_, _≤_, _<_}
 use mathlib.Core.Path.{_≡_, refl, sym, ap, subst, _∙_}
 use mathlib.Core.Logic.{_≢_}
@@ -7,12 +7,12 @@ use mathlib.Core.List.{List, [], _∷_}
 use native.Mathlib.Nat.{le-refl, mod-lt}
 use native.Mathlib.Numerals.{add-one}
 use native.Mathlib.Omega.{arith}
-use borrow.Author.Tests.{ltb-true, ltb-false}
+use borrow.Author.Tests.{eqb-false, ltb-true, ltb-false}
 use lib.Dec.{eqb, ltb, lit≤, lit<}
 use lib.ListN.{length, drop}
 use lib.Seq.{length-sets, getD-take, getD-drop, drop-cons}
 use Rattle.line.specs.Message.{sum}
-use Rattle.state.specs.Layout.{uploadMost, downloadMost, addressable}
+use Rattle.state.specs.Layout.{uploadMost, downloadFrom, downloadMost, shortDownloadFrom, shortDownloadMost, addressable}
 use Rattle.state.specs.Bytes.{u32At, put32, block, bytes32}
 use Rattle.state.specs.Memory.{pick, insideOf, blockSum}
 use Rattle.state.proofs.Inside.{inside-le}
@@ -24,7 +24,7 @@ use Rattle.words.specs.declared.Extension.the-variants.{Calibration as Calibrat
 use Rattle.words.specs.declared.Mta.{Mta}
 use Rattle.words.specs.declared.Mta.the-variants.{Unset, At}
 use Rattle.words.specs.declared.Reason.the-variants.{OutOfRange, DataMissing, NotInside}
-use Rattle.model.specs.Judge.{extensionFrom, setMtaDeed, uploadDeed, shortUploadDeed, checksumDeed, downloadTo, downloadDeed, judgeThe, judgeIn}
+use Rattle.model.specs.Judge.{extensionFrom, setMtaDeed, uploadDeed, shortUploadDeed, checksumDeed, downloadTo, downloadDeed, shortDownloadDeed, judgeThe, judgeIn}
 use Rattle.model.specs.declared.Deed.{Deed}
 use Rattle.model.specs.declared.Deed.the-variants.{Upload, Checksum, Download}
 use Rattle.model.specs.Answers.{replyIn, doneBy, writes}
@@ -32,7 +32,7 @@ use Rattle.fields.proofs.Stores.{sets-in, put32-same}
 use Rattle.fields.proofs.Frames.{only-sets}
 use Rattle.model.specs.Model.{byte, Session}
 use Rattle.model.specs.Step.{withMta, stepIn}
-use Rattle.views.specs.Commands.{four, extensionNumber, memoryOf, sumFrom, TheGenerator, TheWrongKeys, Whether-open, TheLocks, TheSeed, TheMta, ThePointer, TheLists, AllBut, SET-MTA, Carries, UPLOAD, SHORT-UPLOAD, BUILD-CHECKSUM, DOWNLOAD}
+use Rattle.views.specs.Commands.{four, extensionNumber, memoryOf, sumFrom, TheGenerator, TheWrongKeys, Whether-open, TheLocks, TheSeed, TheMta, ThePointer, TheLists, AllBut, SET-MTA, Carries, UPLOAD, SHORT-UPLOAD, BUILD-CHECKSUM, Loads, DOWNLOAD, SHORT-DOWNLOAD}
 use Rattle.model.proofs.Bounded.{either}
 use Rattle.views.proofs.Parts.{aside}
 use Rattle.views.proofs.Bytes.{bytes-cons, bytes-four}
@@ -195,43 +195,101 @@ module _ (p : List ℕ) (c : Session) (cal meas : List ℕ) where
   unfolding judgeThe commandOf
   build-checksum code = judged p c cal meas (Leads BUILD-CHECKSUM p c cal meas) 0xF3 command.BuildChecksum refl code (checksum-at (c .mta) refl)
 
-  -- ---- F0 DOWNLOAD
-  loaded : (a : ℕ) → c .mta ≡ At CalibrationMemory a → byte p 1 + 2 ≤ length p → insideOf a (byte p 1) (length cal) ≡ true → Leads DOWNLOAD p c cal meas (Download a (byte p 1))
-  unfolding stepIn writes replyIn
-  loaded a e there inside =
-      let n : ℕ = byte p 1 in
-      let xs : List ℕ = block p 2 n in
-      let long′ : length xs ≡ n = block-length p 2 n (omega arith) in
-      let room : a + n ≤ length cal = inside-le a n (length cal) inside .0 in
-      let within : (j : ℕ) → ((i : ℕ) → i < n → j ≢ a + i) → a ≤ j → a + n ≤ j =
-      λ j f h. either (ltb j (a + n)) (λ b. let k : j < a + n = ltb-true j (a + n) b in absurd (f (j - a) (omega arith) (omega arith))) (λ b. ltb-false j (a + n) b) in
-      record {
-        address = a;
-        at = e;
-        stored = λ i h. sets-in cal a xs i (omega arith) (omega arith) ∙ block-byte p 2 n i h ∙ ap (byte p) (omega arith);
-        others = λ j f. only-sets {lo = a} {hi = a + n} cal a xs (le-refl a) (omega arith) .bytes j (aside a (a + n) j (within j f));
-        long = length-sets cal a xs;
-        mta = refl;
-        rest = but-mta c (At CalibrationMemory (a + n));
-        answer = refl;
-      }
+  -- ---- F0 DOWNLOAD, ED SHORT_DOWNLOAD
+  -- a deed that stores as many bytes as byte 1 says, which lie in the packet from byte `from` on, all inside, to where `To` holds
+  pub record Loading (from : ℕ) (To : ℕ → Type 0) (d : Deed) : Type 0 where
+    pub address : ℕ
+    pub to : To address
+    pub deed : d ≡ Download from address (byte p 1)
+    pub some : byte p 1 ≢ 0
+    pub few : byte p 1 ≤ downloadMost
+    pub there : byte p 1 + from ≤ length p
+    pub inside : insideOf address (byte p 1) (length cal) ≡ true
 
-  download-to : (x : Extension) (a : ℕ) → c .mta ≡ At x a → byte p 1 + 2 ≤ length p
-      → Taken p c cal meas (downloadTo x a (byte p 1) (length cal)) → Leads DOWNLOAD p c cal meas (downloadTo x a (byte p 1) (length cal))
+  download-to : (P : Deed → Type 0) (from : ℕ) (x : Extension) (a : ℕ) → (x ≡ CalibrationMemory → insideOf a (byte p 1) (length cal) ≡ true → P (Download from a (byte p 1)))
+      → Taken p c cal meas (downloadTo from x a (byte p 1) (length cal)) → P (downloadTo from x a (byte p 1) (length cal))
   unfolding downloadTo replyIn
-  download-to CalibrationMemory a e there = provided p c cal meas (Leads DOWNLOAD p c cal meas) (insideOf a (byte p 1) (length cal)) NotInside (λ inside _. loaded a e there inside)
-  download-to Measured a e there = λ t. absurd (fe-ff t)
+  download-to P from CalibrationMemory a done = provided p c cal meas P (insideOf a (byte p 1) (length cal)) NotInside (λ inside _. done refl inside)
+  download-to P from Measured a done = λ t. absurd (fe-ff t)
 
-  download-at : (m : Mta) → c .mta ≡ m → Taken p c cal meas (downloadDeed m (byte p 1) (length p) (length cal)) → Leads DOWNLOAD p c cal meas (downloadDeed m (byte p 1) (length p) (length cal))
+  download-at : (m : Mta) → c .mta ≡ m → Taken p c cal meas (downloadDeed m (byte p 1) (length p) (length cal))
+      → Loading downloadFrom (λ a. c .mta ≡ At CalibrationMemory a) (downloadDeed m (byte p 1) (length p) (length cal))
   unfolding downloadDeed replyIn
   download-at Unset e = λ t. absurd (fe-ff t)
   download-at (At x a) e =
-      let P : Deed → Type 0 = Leads DOWNLOAD p c cal meas in
+      let P : Deed → Type 0 = Loading downloadFrom (λ b. c .mta ≡ At CalibrationMemory b) in
       let n : ℕ = byte p 1 in
-      unless p c cal meas P (eqb n 0) OutOfRange (λ _.
-      unless p c cal meas P (ltb downloadMost n) OutOfRange (λ _.
-      unless p c cal meas P (ltb (length p) (n + 2)) DataMissing (λ there. download-to x a e (ltb-false (length p) (n + 2) there))))
+      unless p c cal meas P (eqb n 0) OutOfRange (λ none.
+      unless p c cal meas P (ltb downloadMost n) OutOfRange (λ few.
+      unless p c cal meas P (ltb (length p) (n + downloadFrom)) DataMissing (λ there.
+      download-to P downloadFrom x a (λ is inside. record {
+        address = a;
+        to = e ∙ ap (λ (y : Extension). At y a) is;
+        deed = refl;
+        some = eqb-false n 0 none;
+        few = ltb-false downloadMost n few;
+        there = ltb-false (length p) (n + downloadFrom) there;
+        inside = inside;
+      }))))
+
+  -- DOWNLOAD stores at the MTA
+  pub download-loads : byte p 0 ≡ 0xF0 → Taken p c cal meas (judgeIn p c (length cal) (length meas))
+      → Loading downloadFrom (λ a. c .mta ≡ At CalibrationMemory a) (judgeIn p c (length cal) (length meas))
+  unfolding judgeThe commandOf
+  download-loads code = judged p c cal meas (Loading downloadFrom (λ a. c .mta ≡ At CalibrationMemory a)) 0xF0 command.Download refl code (download-at (c .mta) refl)
+
+  -- SHORT_DOWNLOAD at its own address
+  pub short-loads : byte p 0 ≡ 0xED → Taken p c cal meas (judgeIn p c (length cal) (length meas))
+      → Loading shortDownloadFrom (Own p c cal meas CalibrationMemory) (judgeIn p c (length cal) (length meas))
+  unfolding judgeThe commandOf shortDownloadDeed
+  short-loads code =
+      let P : Deed → Type 0 = Loading shortDownloadFrom (Own p c cal meas CalibrationMemory) in
+      let n : ℕ = byte p 1 in
+      let x : Extension = extensionFrom (byte p 3) in
+      let a : ℕ = u32At p 4 in
+      judged p c cal meas P 0xED command.ShortDownload refl code
+      (unless p c cal meas P (eqb n 0) OutOfRange (λ none.
+      unless p c cal meas P (ltb shortDownloadMost n) OutOfRange (λ few.
+      unless p c cal meas P (ltb 1 (byte p 3)) OutOfRange (λ one.
+      unless p c cal meas P (ltb (length p) (n + shortDownloadFrom)) DataMissing (λ there.
+      download-to P shortDownloadFrom x a (λ is inside. record {
+        address = a;
+        to = (sym is, named-by (byte p 3) one ∙ ap extensionNumber is, refl);
+        deed = refl;
+        some = eqb-false n 0 none;
+        few = omega (arith, ltb-false shortDownloadMost n few);
+        there = ltb-false (length p) (n + shortDownloadFrom) there;
+        inside = inside;
+      }))))))
+
+  -- what such a deed comes to
+  loaded : {from : ℕ} {To : ℕ → Type 0} {d : Deed} (r : Loading from To d) → Loads from (r .address) p c cal (doneBy d p c cal meas)
+  unfolding stepIn writes replyIn
+  loaded {from} {To} {d} r = subst (λ (y : Deed). Loads from (r .address) p c cal (doneBy y p c cal meas)) (sym (r .deed)) (stored (r .address) (r .there) (r .inside)) where
+    stored : (a : ℕ) → byte p 1 + from ≤ length p → insideOf a (byte p 1) (length cal) ≡ true → Loads from a p c cal (doneBy (Download from a (byte p 1)) p c cal meas)
+    stored a there inside =
+        let n : ℕ = byte p 1 in
+        let xs : List ℕ = block p from n in
+        let long′ : length xs ≡ n = block-length p from n (omega arith) in
+        let room : a + n ≤ length cal = inside-le a n (length cal) inside .0 in
+        let within : (j : ℕ) → ((i : ℕ) → i < n → j ≢ a + i) → a ≤ j → a + n ≤ j =
+        λ j f h. either (ltb j (a + n)) (λ b. let k : j < a + n = ltb-true j (a + n) b in absurd (f (j - a) (omega arith) (omega arith))) (λ b. ltb-false j (a + n) b) in
+        record {
+          stored = λ i h. sets-in cal a xs i (omega arith) (omega arith) ∙ block-byte p from n i h ∙ ap (byte p) (omega arith);
+          others = λ j f. only-sets {lo = a} {hi = a + n} cal a xs (le-refl a) (omega arith) .bytes j (aside a (a + n) j (within j f));
+          long = length-sets cal a xs;
+          mta = refl;
+          rest = but-mta c (At CalibrationMemory (a + n));
+          answer = refl;
+        }
 
   pub download : byte p 0 ≡ 0xF0 → Taken p c cal meas (judgeIn p c (length cal) (length meas)) → Leads DOWNLOAD p c cal meas (judgeIn p c (length cal) (length meas))
-  unfolding judgeThe commandOf
-  download code = judged p c cal meas (Leads DOWNLOAD p c cal meas) 0xF0 command.Download refl code (download-at (c .mta) refl)
+  download code t = let r = download-loads code t in record { address = r .address; at = r .to; loads = loaded r }
+
+  pub short-download : byte p 0 ≡ 0xED → Taken p c cal meas (judgeIn p c (length cal) (length meas)) → Leads SHORT-DOWNLOAD p c cal meas (judgeIn p c (length cal) (length meas))
+  short-download code t =
+      let r = short-loads code t in
+      record {
+        named = r .to .1;
+        loads = subst (λ (a : ℕ). Loads 8 a p c cal (doneBy (judgeIn p c (length cal) (length meas)) p c cal meas)) (r .to .2 ∙ four-is p 4) (loaded r);
+      }

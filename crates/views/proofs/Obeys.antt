@@ -10,7 +10,7 @@ use Rattle.views.specs.Commands.{Way, Law, SYNCH, STAYS-SHUT, WRONG-KEY,
 use Rattle.views.proofs.Taken.{Taken, Leads}
 use Rattle.views.proofs.SessionLaws.{connect, disconnect, get-status, synch, get-seed, unlock-law, processor-info, resolution-info}
 use Rattle.views.proofs.WrongKeys.{stays-shut, wrong-key}
-use Rattle.views.proofs.MemoryLaws.{set-mta, upload, short-upload, build-checksum, download}
+use Rattle.views.proofs.MemoryLaws.{set-mta, upload, short-upload, build-checksum, download, short-download}
 use Rattle.views.proofs.ListLaws.{clear-daq-list, set-daq-ptr, write-daq, set-daq-list-mode, start-stop-daq-list, start-stop-synch}
 
 -- what a way leads to is what the model does
@@ -41,6 +41,7 @@ module _ (R : Way) (same : AsModel R) where
     shortUpload = law 0xF4 _ short-upload;
     buildChecksum = law 0xF3 _ build-checksum;
     download = law 0xF0 _ download;
+    shortDownload = law 0xED _ short-download;
     clearDaqList = law 0xE3 _ clear-daq-list;
     setDaqPtr = law 0xE2 _ set-daq-ptr;
     writeDaq = law 0xE1 _ write-daq;

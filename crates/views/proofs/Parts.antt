@@ -8,7 +8,7 @@ use native.Mathlib.Omega.{arith}
 use borrow.Author.Tests.{ltb-false, eqb-true, eqb-false, eq-eqb, ne-eqb}
 use lib.Dec.{T, eqb, ltb, leb, le→leb, lit<, lit≤}
 use Rattle.line.proofs.Laws.{cond-ind}
-use Rattle.state.specs.Layout.{size, lists, firstOdt, odtCount, generatorAt, wrongKeysAt, ctrAt, servedAt, lastAt, calibrationAt, seedAt, mtaAt, pointerAt, modeAt, selectedAt, runningAt, entriesAt, sampleAt}
+use Rattle.state.specs.Layout.{size, lists, firstOdt, odtCount, generatorAt, wrongKeysAt, ctrAt, servedAt, lastAt, calibrationAt, seedAt, mtaAt, pointerAt, modeAt, selectedAt, runningAt, usedAt, entriesAt, sampleAt}
 use Rattle.state.specs.State.{generatorOf, unlockedOf, mtaOf, seedOf, pointerOf}
 use Rattle.state.specs.Lists.{modeOf}
 use Rattle.fields.proofs.Stores.{out}
@@ -70,40 +70,46 @@ module _ {s t : List ℕ} where
   unfolding modeOf
   mode-own l w = rw (w .byte (modeAt l) (omega arith) (omega arith))
 
-  pub odt-own : (k : ℕ) → Same (entriesAt k) (entriesAt (k + 1)) s t → Same (sampleAt k) (sampleAt (k + 1)) s t → odtOf t k ≡ odtOf s k
-  odt-own k w v = odt-from (entries-own k w) (store-own k v)
+  pub odt-own : (k : ℕ) → Same (usedAt k) (usedAt (k + 1)) s t → Same (entriesAt k) (entriesAt (k + 1)) s t → Same (sampleAt k) (sampleAt (k + 1)) s t → odtOf t k ≡ odtOf s k
+  odt-own k u w v = odt-from (entries-own k u w) (store-own k v)
 
-  pub odts-own : (l : ℕ) → Same (entriesAt (firstOdt l)) (entriesAt (firstOdt l + odtCount l)) s t → Same (sampleAt (firstOdt l)) (sampleAt (firstOdt l + odtCount l)) s t
-      → daqOf t l .odt ≡ daqOf s l .odt
-  odts-own l w v = upTo-same (odtCount l) noOdt (λ o p. odt-own (firstOdt l + o) (same-part (omega arith) (omega arith) w) (same-part (omega arith) (omega arith) v))
+  pub odts-own : (l : ℕ) → Same (usedAt (firstOdt l)) (usedAt (firstOdt l + odtCount l)) s t → Same (entriesAt (firstOdt l)) (entriesAt (firstOdt l + odtCount l)) s t
+      → Same (sampleAt (firstOdt l)) (sampleAt (firstOdt l + odtCount l)) s t → daqOf t l .odt ≡ daqOf s l .odt
+  odts-own l u w v =
+      upTo-same (odtCount l) noOdt (λ o p. odt-own (firstOdt l + o) (same-part (omega arith) (omega arith) u) (same-part (omega arith) (omega arith) w) (same-part (omega arith) (omega arith) v))
 
--- list l's three runs of bytes
+-- list l's four runs of bytes
 pub record Own (l : ℕ) (s t : List ℕ) : Type 0 where
   pub head : Same (modeAt l) (modeAt (l + 1)) s t
+  pub used : Same (usedAt (firstOdt l)) (usedAt (firstOdt l + odtCount l)) s t
   pub entered : Same (entriesAt (firstOdt l)) (entriesAt (firstOdt l + odtCount l)) s t
   pub stores : Same (sampleAt (firstOdt l)) (sampleAt (firstOdt l + odtCount l)) s t
 
 pub record Spares (l lo hi : ℕ) : Type 0 where
   pub head : Misses lo hi (modeAt l) (modeAt (l + 1))
+  pub used : Misses lo hi (usedAt (firstOdt l)) (usedAt (firstOdt l + odtCount l))
   pub entered : Misses lo hi (entriesAt (firstOdt l)) (entriesAt (firstOdt l + odtCount l))
   pub stores : Misses lo hi (sampleAt (firstOdt l)) (sampleAt (firstOdt l + odtCount l))
 
 pub own-one : {lo hi l : ℕ} {s t : List ℕ} → Only lo hi s t → Spares l lo hi → Own l s t
-own-one w m = record { head = spared w (m .head); entered = spared w (m .entered); stores = spared w (m .stores) }
+own-one w m = record { head = spared w (m .head); used = spared w (m .used); entered = spared w (m .entered); stores = spared w (m .stores) }
+
+pub own-then : {l : ℕ} {s t u : List ℕ} → Own l s t → Own l t u → Own l s u
+own-then w v = record { head = same-then (w .head) (v .head); used = same-then (w .used) (v .used); entered = same-then (w .entered) (v .entered); stores = same-then (w .stores) (v .stores) }
 
 pub own-both : {lo hi lo′ hi′ l : ℕ} {s t u : List ℕ} → Only lo hi s t → Only lo′ hi′ t u → Spares l lo hi × Spares l lo′ hi′ → Own l s u
-own-both w v m = record { head = both w v (m .0 .head, m .1 .head); entered = both w v (m .0 .entered, m .1 .entered); stores = both w v (m .0 .stores, m .1 .stores) }
+own-both w v m = own-then (own-one w (m .0)) (own-one v (m .1))
 
 module _ {s t : List ℕ} where
   pub list-own : (l : ℕ) → Own l s t → daqOf t l ≡ daqOf s l
   list-own l w =
       list-from (mode-own l (same-part (omega arith) (omega arith) (w .head))) (flag-reads (selectedAt l) (same-part (omega arith) (omega arith) (w .head)))
-      (flag-reads (runningAt l) (same-part (omega arith) (omega arith) (w .head))) (odts-own l (w .entered) (w .stores))
+      (flag-reads (runningAt l) (same-part (omega arith) (omega arith) (w .head))) (odts-own l (w .used) (w .entered) (w .stores))
 
   pub lists-reads : Same (modeAt 0) size s t → listsOf t ≡ listsOf s
   unfolding listsOf
   lists-reads w =
-      upTo-same lists noList (λ l p. list-own l (record { head = same-part (omega arith) (omega arith) w; entered = same-part (omega arith) (omega arith) w; stores = same-part (omega arith) (omega arith) w }))
+      upTo-same lists noList (λ l p. list-own l (record { head = same-part (omega arith) (omega arith) w; used = same-part (omega arith) (omega arith) w; entered = same-part (omega arith) (omega arith) w; stores = same-part (omega arith) (omega arith) w }))
 
   pub locks-reads : Same calibrationAt seedAt s t → unlockedOf t ≡ unlockedOf s
   locks-reads w = fun-ext (λ r. lock-reads r w)

@@ -32,7 +32,7 @@ read-as : (mem : List ℕ) (a : ℕ) → ReadAs mem a (byteOf mem a)
 unfolding byteOf
 read-as mem a =
     let most : reach (length mem) ≤ length mem = min-le-left (length mem) addressable in
-    let reached : reach (length mem) ≤ addressable = min-le-right (length mem) addressable in
+    let entryReached : reach (length mem) ≤ addressable = min-le-right (length mem) addressable in
     record {
       inside = λ h k. rw (lt-ltb a (reach (length mem)) (omega arith));
       behind = λ h. rw (le-ltb a (reach (length mem)) (omega arith));

@@ -23,7 +23,7 @@ module _ {s t : List ℕ} (w : Same sessionAt (sampleAt 0) s t) where
   unfolding upTo
   of-entry l o e h =
       either (ltb o (odtCount l))
-      (λ b. let p : o < odtCount l = ltb-true o (odtCount l) b in rw b (ap (λ (f : ℕ → Entry). f e) (entries-own (firstOdt l + o) (same-part (omega arith) (omega arith) w))))
+      (λ b. let p : o < odtCount l = ltb-true o (odtCount l) b in rw b (ap (λ (f : ℕ → Entry). f e) (entries-own (firstOdt l + o) (same-part (omega arith) (omega arith) w) (same-part (omega arith) (omega arith) w))))
       (λ b. rw b)
 
   pub settings-read : SettingsKept (sessionOf s) (sessionOf t)

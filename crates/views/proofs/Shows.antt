@@ -1,38 +1,38 @@
 -- What each writer of the state shows: the slave with that one part changed. Assumes nothing.
-use Prim.Native.Nat.{ℕ, zero, suc, _+_, _*_, _%_, _^_, _≤_, _<_}
-use mathlib.Core.Path.{_≡_, refl, sym, ap, subst, _∙_, fun-ext}
+use Prim.Native.Nat.{ℕ, _+_, _%_, _^_, _≤_, _<_}
+use mathlib.Core.Path.{_≡_, refl, sym, ap, _∙_, fun-ext}
 use mathlib.Core.Logic.{_≢_}
-use mathlib.Core.Bool.{true, false, cond}
+use mathlib.Core.Bool.{true, false}
 use mathlib.Core.List.{List, []}
 use native.Mathlib.Nat.{mod-eq-of-lt}
 use native.Mathlib.Omega.{arith}
-use borrow.Author.Tests.{eqb-true, eqb-false, le-ltb}
+use borrow.Author.Tests.{le-ltb}
 use lib.Dec.{eqb}
 use lib.ListN.{length, getD, set, length-set}
-use lib.Seq.{getD-set-same, getD-set-other}
-use Rattle.state.specs.Layout.{size, lists, firstOdt, odtCount, allOdts, entryCount, listOf, events, listSize, entrySize, odtSize, entryMost, modeAt, selectedAt, runningAt, entriesAt, entryAt, sampleAt}
-use Rattle.state.specs.Bytes.{u16At, cleared, put16}
-use Rattle.state.specs.State.{flagOf, generatorOf, setGenerator, wrongKeysOf, countedWrong, openOf, unlockedOf, lockAt, setSeed, setMta, setPointer, Pointed, closed, fresh}
-use Rattle.state.specs.Lists.{sizeOf, extensionOf, addressOf, modeOf}
-use Rattle.lists.specs.Lists.{dropped, switched, listCleared, modeSet, tagOf, entryCleared, entrySet}
+use lib.Seq.{getD-set-same}
+use Rattle.state.specs.Layout.{size, lists, firstOdt, odtCount, allOdts, entryCount, listOf, events, listSize, entrySize, entryMost, addressable, modeAt, selectedAt, runningAt, usedAt, entriesAt, entryAt, sampleAt}
+use Rattle.state.specs.Bytes.{cleared}
+use Rattle.state.specs.State.{flagOf, generatorOf, setGenerator, wrongKeysOf, countedWrong, openOf, unlockedOf, lockAt, setSeed, setMta, setPointer, Pointed, dropped, closed, fresh}
+use Rattle.state.specs.Lists.{usedOf, modeOf}
+use Rattle.lists.specs.Lists.{switched, listCleared, modeSet, entryReached, headOf, entrySet}
 use Rattle.state.specs.Generator.{oneWrongMore}
 use Rattle.words.specs.declared.Resource.{Resource}
 use Rattle.words.specs.declared.Resource.the-variants.{Calibration, Lists}
 use Rattle.words.specs.declared.Extension.{Extension}
-use Rattle.words.specs.declared.Extension.the-variants.{Calibration as CalibrationMemory, Measured}
 use Rattle.words.specs.declared.Seed.{Seed}
 use Rattle.words.specs.declared.Mta.{Mta}
 use Rattle.words.specs.declared.Pointer.{Pointer}
 use Rattle.state.proofs.Xorshift.{start-same}
-use Rattle.fields.proofs.Stores.{cleared-in, put16-same}
-use Rattle.fields.proofs.Fields.{Addressed, mta-same, pointer-same, Given, wrongKeys-counted, seed-same, generator-same, lock-same, lock-other, Bare, bare-locked, bare-seed, bare-mta, bare-pointer, empty-stored, closed-open, closed-bare, counted-bare, fresh-open, fresh-bare}
-use Rattle.fields.proofs.Frames.{Only, only-none, only-then, only-wider, only-generator, only-counted, only-set, only-put16, only-cleared, only-seed, only-mta, only-pointer, only-lock, only-closed, only-fresh}
-use Rattle.fields.proofs.Readers.{apart, flag-reads, generator-reads, wrongKeys-reads, open-reads, seed-reads, mta-reads, pointer-reads, entry-own, entries-own, store-own}
+use Rattle.fields.proofs.Stores.{cleared-in}
+use Rattle.fields.proofs.Fields.{Addressed, mta-same, pointer-same, Given, wrongKeys-counted, seed-same, generator-same, lock-same, lock-other, Bare, bare-locked, bare-seed, bare-mta, bare-pointer, empty-stored, dropped-empty, closed-open, closed-bare, counted-bare, fresh-open, fresh-bare}
+use Rattle.fields.proofs.Frames.{Only, only-generator, only-counted, only-set, only-cleared, only-dropped, only-seed, only-mta, only-pointer, only-lock, only-closed, only-fresh}
+use Rattle.fields.proofs.Readers.{Same, same-then, apart, flag-reads, generator-reads, wrongKeys-reads, open-reads, seed-reads, mta-reads, pointer-reads, entries-own, store-own}
 use Rattle.model.specs.Model.{put, Entry, noEntry, noOdt, DaqList, noList, blank}
 use Rattle.model.specs.Step.{unlock, withGenerator, withLock, withSeed, withMta, withPointer, emptied, switch, select, unset, clear, setMode, withEntry, setEntry, odtIn}
-use Rattle.model.specs.View.{entryOf, odtOf, daqOf, listsOf, sessionOf}
-use Rattle.model.proofs.Bounded.{either, upTo-at, upTo-is, upTo-map, upTo-put}
-use Rattle.views.proofs.Parts.{spared, both, odt-from, list-from, mode-own, odt-own, odts-own, own-one, own-both, list-own, lists-reads, in-generator, in-seed, in-mta, in-pointer}
+use Rattle.model.specs.View.{odtOf, daqOf, listsOf, sessionOf}
+use Rattle.model.proofs.Bounded.{upTo-at, upTo-is, upTo-map, upTo-put}
+use Rattle.views.proofs.Parts.{Misses, spared, both, odt-from, list-from, mode-own, odt-own, odts-own, own-one, own-both, list-own, lists-reads, in-generator, in-seed, in-mta, in-pointer}
+use Rattle.views.proofs.Reached.{reached-long, reached-beside, reached-used, reached-entries, only-entry, entry-put}
 
 -- ---- single fields
 module _ (s : List ℕ) (h : length s ≡ size) where
@@ -79,20 +79,20 @@ flag-zero s i e = rw e
 pub store-empty : (s : List ℕ) (k : ℕ) → getD s (sampleAt k) 0 ≡ 0 → odtOf s k .store ≡ []
 store-empty s k e = rw (empty-stored s k e)
 
-entry-zero : (s : List ℕ) (k e : ℕ) → ((i : ℕ) → entryAt k e ≤ i → i < entryAt k e + entrySize → getD s i 0 ≡ 0) → entryOf s k e ≡ noEntry
-unfolding sizeOf extensionOf addressOf u16At flagOf
-entry-zero s k e z =
-    simp (z (entryAt k e) (omega arith) (omega arith), z (entryAt k e + 1) (omega arith) (omega arith), z (entryAt k e + 2) (omega arith) (omega arith), z (entryAt k e + 2 + 1) (omega arith) (omega arith))
+-- no entry is in use
+unused : (s : List ℕ) (k : ℕ) → getD s (usedAt k) 0 ≡ 0 → odtOf s k .entry ≡ λ e. noEntry
+unfolding usedOf
+unused s k z = rw z (upTo-is 0 noEntry (λ e p. absurd (omega arith)) (λ e p. refl))
 
 -- ---- a session with nothing set
 module _ (s : List ℕ) (z : Bare s) where
   bare-list : (l : ℕ) → l < lists → daqOf s l ≡ noList
   unfolding modeOf
   bare-list l p =
-      list-from (simp (z (modeAt l) (omega arith) (omega arith))) (flag-zero s (selectedAt l) (z (selectedAt l) (omega arith) (omega arith))) (flag-zero s (runningAt l) (z (runningAt l) (omega arith) (omega arith)))
-      (upTo-is (odtCount l) noOdt (λ o q. odt-from
-      (upTo-is (entryCount (firstOdt l + o)) noEntry (λ e r. entry-zero s (firstOdt l + o) e (λ i a b. z i (omega arith) (omega arith))) (λ e r. refl))
-      (store-empty s (firstOdt l + o) (z (sampleAt (firstOdt l + o)) (omega arith) (omega arith)))) (λ o q. refl))
+      list-from (simp (z .nought (modeAt l) (omega arith) (omega arith))) (flag-zero s (selectedAt l) (z .nought (selectedAt l) (omega arith) (omega arith)))
+      (flag-zero s (runningAt l) (z .nought (runningAt l) (omega arith) (omega arith)))
+      (upTo-is (odtCount l) noOdt (λ o q. odt-from (unused s (firstOdt l + o) (z .nought (usedAt (firstOdt l + o)) (omega arith) (omega arith)))
+      (store-empty s (firstOdt l + o) (z .stores (firstOdt l + o) (omega arith)))) (λ o q. refl))
 
   bare-lists : listsOf s ≡ λ l. noList
   unfolding listsOf
@@ -138,24 +138,6 @@ pub changes : (l : ℕ) (f : DaqList → DaqList) (s t : List ℕ) → l < lists
 unfolding listsOf
 changes l f s t l4 e h = upTo-put lists noList l4 (e ∙ ap f (sym (upTo-at lists l noList (daqOf s) l4))) h
 
--- packets dropped
-only-dropped : (s : List ℕ) (k n : ℕ) → Only (sampleAt k) (sampleAt (k + n)) s (dropped s k n)
-unfolding dropped
-only-dropped s k zero = only-none
-only-dropped s k (suc n) =
-    only-then (only-wider (omega arith) (omega arith) (only-dropped s k n)) (only-set (dropped s k n) (sampleAt (k + n)) 0 (omega arith) (omega arith))
-
-dropped-empty : (s : List ℕ) (k n j : ℕ) → length s ≡ size → k + n ≤ allOdts → j < n → getD (dropped s k n) (sampleAt (k + j)) 0 ≡ 0
-unfolding dropped
-dropped-empty s k zero j h q p = absurd (omega arith)
-dropped-empty s k (suc n) j h q p =
-    let t : List ℕ = dropped s k n in
-    let long : length t ≡ size = only-dropped s k n .long ∙ h in
-    either (eqb j n)
-    (λ b. subst (λ (i : ℕ). getD (set t (sampleAt (k + n)) 0) (sampleAt (k + i)) 0 ≡ 0) (sym (eqb-true j n b)) (getD-set-same t (sampleAt (k + n)) 0 0 (omega arith)))
-    (λ b. let m : j ≢ n = eqb-false j n b in
-    getD-set-other t (sampleAt (k + n)) (sampleAt (k + j)) 0 0 (omega arith) ∙ dropped-empty s k n j h (omega arith) (omega arith))
-
 module _ (s : List ℕ) (l : ℕ) (h : length s ≡ size) (l4 : l < lists) where
   pub changes-switched : (on : ℕ) → Changes l (switch (eqb on 1)) s (switched s l on)
   unfolding switched
@@ -167,7 +149,7 @@ module _ (s : List ℕ) (l : ℕ) (h : length s ≡ size) (l4 : l < lists) where
       changes l (switch (eqb on 1)) s t l4
       (list-from (mode-own l (both w v (omega arith))) (flag-reads (selectedAt l) (both w v (omega arith)))
       (flag-reads (runningAt l) (spared v (omega arith)) ∙ flag-set s (runningAt l) on (omega arith))
-      (upTo-map (odtCount l) noOdt emptied refl (λ o p. odt-from (entries-own (firstOdt l + o) (both w v (omega arith)))
+      (upTo-map (odtCount l) noOdt emptied refl (λ o p. odt-from (entries-own (firstOdt l + o) (both w v (omega arith)) (both w v (omega arith)))
       (store-empty t (firstOdt l + o) (dropped-empty s₁ (firstOdt l) (odtCount l) o (w .long ∙ h) (omega arith) p)))))
       (λ j p n. list-own j (own-both w v (omega arith)))
 
@@ -176,7 +158,7 @@ module _ (s : List ℕ) (l : ℕ) (h : length s ≡ size) (l4 : l < lists) where
       let t : List ℕ = set s (selectedAt l) on in
       let w : Only (selectedAt l) (selectedAt l + 1) s t = only-set s (selectedAt l) on (omega arith) (omega arith) in
       changes l (select (eqb on 1)) s t l4
-      (list-from (mode-own l (spared w (omega arith))) (flag-set s (selectedAt l) on (omega arith)) (flag-reads (runningAt l) (spared w (omega arith))) (odts-own l (spared w (omega arith)) (spared w (omega arith))))
+      (list-from (mode-own l (spared w (omega arith))) (flag-set s (selectedAt l) on (omega arith)) (flag-reads (runningAt l) (spared w (omega arith))) (odts-own l (spared w (omega arith)) (spared w (omega arith)) (spared w (omega arith))))
       (λ j p n. list-own j (own-one w (omega arith)))
 
   mode-set : (event : ℕ) → event < events → modeOf (set s (modeAt l) ((event + 1) % 256)) l ≡ event + 1
@@ -194,83 +176,63 @@ module _ (s : List ℕ) (l : ℕ) (h : length s ≡ size) (l4 : l < lists) where
       let v : Only (runningAt l) (runningAt l + 1) s₁ s₂ = only-set s₁ (runningAt l) 0 (omega arith) (omega arith) in
       changes l (setMode event) s s₂ l4
       (list-from (mode-own l (spared v (omega arith)) ∙ mode-set event e2) (flag-reads (selectedAt l) (both w v (omega arith))) (flag-set s₁ (runningAt l) 0 (rw length-set (omega arith)))
-      (odts-own l (both w v (omega arith)) (both w v (omega arith))))
+      (odts-own l (both w v (omega arith)) (both w v (omega arith)) (both w v (omega arith))))
       (λ j p n. list-own j (own-both w v (omega arith)))
 
   pub changes-cleared : Changes l clear s (listCleared s l)
   unfolding listCleared modeOf
   changes-cleared =
       let s₁ : List ℕ = cleared s (modeAt l) listSize in
-      let s₂ : List ℕ = cleared s₁ (entriesAt (firstOdt l)) (odtCount l * odtSize) in
+      let s₂ : List ℕ = cleared s₁ (usedAt (firstOdt l)) (odtCount l) in
       let w : Only (modeAt l) (modeAt (l + 1)) s s₁ = only-cleared s (modeAt l) listSize (omega arith) (omega arith) in
-      let v : Only (entriesAt (firstOdt l)) (entriesAt (firstOdt l + odtCount l)) s₁ s₂ = only-cleared s₁ (entriesAt (firstOdt l)) (odtCount l * odtSize) (omega arith) (omega arith) in
+      let v : Only (usedAt (firstOdt l)) (usedAt (firstOdt l + odtCount l)) s₁ s₂ = only-cleared s₁ (usedAt (firstOdt l)) (odtCount l) (omega arith) (omega arith) in
       let z : (i : ℕ) → modeAt l ≤ i → i < modeAt (l + 1) → getD s₂ i 0 ≡ 0 =
       λ i p q. spared {a = i} {b = i + 1} v (omega arith) .byte i (omega arith) (omega arith) ∙ cleared-in s (modeAt l) listSize i (omega arith) p (omega arith) in
-      let y : (i : ℕ) → entriesAt (firstOdt l) ≤ i → i < entriesAt (firstOdt l + odtCount l) → getD s₂ i 0 ≡ 0 =
-      λ i a b. cleared-in s₁ (entriesAt (firstOdt l)) (odtCount l * odtSize) i (rw (w .long) (omega arith)) (omega arith) (omega arith) in
       changes l clear s s₂ l4
       (list-from (simp (z (modeAt l) (omega arith) (omega arith))) (flag-zero s₂ (selectedAt l) (z (selectedAt l) (omega arith) (omega arith))) (flag-zero s₂ (runningAt l) (z (runningAt l) (omega arith) (omega arith)))
       (upTo-map (odtCount l) noOdt unset refl (λ o p. odt-from
-      (upTo-is (entryCount (firstOdt l + o)) noEntry (λ e q. entry-zero s₂ (firstOdt l + o) e (λ i a b. y i (omega arith) (omega arith))) (λ e q. refl))
+      (unused s₂ (firstOdt l + o) (cleared-in s₁ (usedAt (firstOdt l)) (odtCount l) (usedAt (firstOdt l + o)) (rw (w .long) (omega arith)) (omega arith) (omega arith)))
       (store-own (firstOdt l + o) (both w v (omega arith))))))
       (λ j p n. list-own j (own-both w v (omega arith)))
 
--- an entry reads as it was set
-extension-set : (x : Extension) → cond (eqb (tagOf x) 1) Measured CalibrationMemory ≡ x
-extension-set CalibrationMemory = refl
-extension-set Measured = refl
+-- ---- an entry
+-- what is neither whether list l was started, nor how many entries of ODT k are in use, nor one of them
+pub record Beside (l k a b : ℕ) : Type 0 where
+  pub started : Misses (runningAt l) (runningAt l + 1) a b
+  pub used : Misses (usedAt k) (usedAt k + 1) a b
+  pub entered : Misses (entriesAt k) (entriesAt (k + 1)) a b
 
-module _ (s : List ℕ) (k e n a : ℕ) (x : Extension) (h : length s ≡ size) (k8 : k < allOdts) (e4 : e < entryCount k) (n4 : n ≤ entryMost) (low : a < 2 ^ 16) where
-  entry-set : entryOf (put16 (set (set s (entryAt k e) n) (entryAt k e + 1) (tagOf x)) (entryAt k e + 2) a) k e ≡ record { size = n; extension = x; address = a }
-  unfolding sizeOf extensionOf addressOf flagOf
-  entry-set =
-      let i : ℕ = entryAt k e in
-      let s₁ : List ℕ = set s i n in
-      let s₂ : List ℕ = set s₁ (i + 1) (tagOf x) in
-      let w : Only (i + 2) (i + 4) s₂ (put16 s₂ (i + 2) a) = only-put16 s₂ (i + 2) a (omega arith) (omega arith) in
-      let l₁ : length s₁ ≡ size = length-set s i n ∙ h in
-      let l₂ : length s₂ ≡ size = length-set s₁ (i + 1) (tagOf x) ∙ l₁ in
-      let b₀ : getD (put16 s₂ (i + 2) a) i 0 ≡ n =
-      spared {a = i} {b = i + 1} w (omega arith) .byte i (omega arith) (omega arith) ∙ getD-set-other s₁ (i + 1) i (tagOf x) 0 (omega arith) ∙ getD-set-same s i n 0 (omega arith) in
-      let b₁ : getD (put16 s₂ (i + 2) a) (i + 1) 0 ≡ tagOf x =
-      spared {a = i + 1} {b = i + 2} w (omega arith) .byte (i + 1) (omega arith) (omega arith) ∙ getD-set-same s₁ (i + 1) (tagOf x) 0 (omega arith) in
-      simp (b₀, b₁, put16-same s₂ (i + 2) a (omega arith) low, le-ltb entryMost n n4, extension-set x)
-
--- both ways of writing an entry: the running flag off, then its own bytes
-module _ (s t : List ℕ) (l o e : ℕ) (x : Entry) (h : length s ≡ size) (l4 : l < lists) (o2 : o < odtCount l) (e4 : e < entryCount (firstOdt l + o))
-    (v : Only (entryAt (firstOdt l + o) e) (entryAt (firstOdt l + o) e + entrySize) (set s (runningAt l) 0) t) (q : entryOf t (firstOdt l + o) e ≡ x) where
+-- entry e of an ODT is x: its list no longer counts as started, and all else is as it was
+module _ (s t : List ℕ) (l o e : ℕ) (x : Entry) (l4 : l < lists) (o2 : o < odtCount l) (off : flagOf t (runningAt l) ≡ false)
+    (rest : (a b : ℕ) → Beside l (firstOdt l + o) a b → Same a b s t) (q : odtOf t (firstOdt l + o) .entry ≡ put e x (odtOf s (firstOdt l + o) .entry)) where
   changes-entry : Changes l (setEntry o e x) s t
   changes-entry =
-      let w : Only (runningAt l) (runningAt l + 1) s (set s (runningAt l) 0) = only-set s (runningAt l) 0 (omega arith) (omega arith) in
       changes l (setEntry o e x) s t l4
-      (list-from (mode-own l (both w v (omega arith))) (flag-reads (selectedAt l) (both w v (omega arith))) (flag-reads (runningAt l) (spared v (omega arith)) ∙ flag-set s (runningAt l) 0 (omega arith))
+      (list-from (mode-own l (rest _ _ (omega arith))) (flag-reads (selectedAt l) (rest _ _ (omega arith))) off
       (upTo-put (odtCount l) noOdt o2
-      (odt-from (upTo-put (entryCount (firstOdt l + o)) noEntry e4 q (λ j p n. entry-own (firstOdt l + o) j (both w v (omega arith)))) (store-own (firstOdt l + o) (both w v (omega arith)))
-      ∙ ap (withEntry e x) (sym (upTo-at (odtCount l) o noOdt (λ o. odtOf s (firstOdt l + o)) o2)))
-      (λ j p n. odt-own (firstOdt l + j) (both w v (omega arith)) (both w v (omega arith)))))
-      (λ j p n. list-own j (own-both w v (omega arith)))
+      (odt-from q (store-own (firstOdt l + o) (rest _ _ (omega arith))) ∙ ap (withEntry e x) (sym (upTo-at (odtCount l) o noOdt (λ o. odtOf s (firstOdt l + o)) o2)))
+      (λ j p n. odt-own (firstOdt l + j) (rest _ _ (omega arith)) (rest _ _ (omega arith)) (rest _ _ (omega arith)))))
+      (λ j p n. list-own j (record { head = rest _ _ (omega arith); used = rest _ _ (omega arith); entered = rest _ _ (omega arith); stores = rest _ _ (omega arith) }))
 
 -- ODT k is that one of its list
 pub as-odt : (k : ℕ) → firstOdt (listOf k) + odtIn k ≡ k
 as-odt k = omega arith
 
-module _ (s : List ℕ) (k e : ℕ) (h : length s ≡ size) (k8 : k < allOdts) (e4 : e < entryCount k) where
-  pub changes-entryCleared : Changes (listOf k) (setEntry (odtIn k) e noEntry) s (entryCleared s (listOf k) k e)
-  unfolding entryCleared
-  changes-entryCleared =
-      let s₁ : List ℕ = set s (runningAt (listOf k)) 0 in
-      let t : List ℕ = cleared s₁ (entryAt k e) entrySize in
-      changes-entry s t (listOf k) (odtIn k) e noEntry h (omega arith) (omega arith) e4
-      (rw (as-odt k) (only-cleared s₁ (entryAt k e) entrySize (omega arith) (omega arith)))
-      (rw (as-odt k) (entry-zero t k e (λ i p q. cleared-in s₁ (entryAt k e) entrySize i (rw length-set (omega arith)) p q)))
-
-  pub changes-entrySet : (n : ℕ) (x : Extension) (a : ℕ) → n ≤ entryMost → a < 2 ^ 16 → Changes (listOf k) (setEntry (odtIn k) e (record { size = n; extension = x; address = a })) s (entrySet s (listOf k) k e n x a)
+module _ (s : List ℕ) (k e n a : ℕ) (x : Extension) (h : length s ≡ size) (k8 : k < allOdts) (few : e < entryCount k) (n4 : n ≤ entryMost) (low : a < addressable) where
+  pub changes-entrySet : Changes (listOf k) (setEntry (odtIn k) e (record { size = n; extension = x; address = a })) s (entrySet s (listOf k) k e n x a)
   unfolding entrySet
-  changes-entrySet n x a n4 low =
-      let i : ℕ = entryAt k e in
-      let s₁ : List ℕ = set s (runningAt (listOf k)) 0 in
-      let s₂ : List ℕ = set s₁ i n in
-      let s₃ : List ℕ = set s₂ (i + 1) (tagOf x) in
-      changes-entry s (put16 s₃ (i + 2) a) (listOf k) (odtIn k) e _ h (omega arith) (omega arith) e4
-      (rw (as-odt k) (only-then (only-set s₁ i n (omega arith) (omega arith)) (only-then (only-set s₂ (i + 1) (tagOf x) (omega arith) (omega arith)) (only-put16 s₃ (i + 2) a (omega arith) (omega arith)))))
-      (rw (as-odt k) (entry-set s₁ k e n a x (length-set s (runningAt (listOf k)) 0 ∙ h) k8 e4 n4 low))
+  changes-entrySet =
+      let l : ℕ = listOf k in
+      let s₁ : List ℕ = set s (runningAt l) 0 in
+      let s₂ : List ℕ = entryReached s₁ k e in
+      let t : List ℕ = set (set s₂ (entryAt k e) (headOf n x a)) (entryAt k e + 1) (a % 256) in
+      let w : Only (runningAt l) (runningAt l + 1) s s₁ = only-set s (runningAt l) 0 (omega arith) (omega arith) in
+      let long : length s₁ ≡ size = w .long ∙ h in
+      let v : Only (entryAt k e) (entryAt k e + entrySize) s₂ t = only-entry s₂ k e (headOf n x a) (a % 256) in
+      let rest : (a b : ℕ) → Beside l k a b → Same a b s t =
+      λ a b m. same-then (spared w (m .started)) (same-then (reached-beside s₁ k e long k8 few a b (m .used) (m .entered)) (spared v (λ i p q r. let y : entriesAt (k + 1) ≤ i = m .entered i p q (omega arith) in omega arith))) in
+      changes-entry s t l (odtIn k) e _ (omega arith) (omega arith)
+      (flag-reads (runningAt l) (same-then (reached-beside s₁ k e long k8 few (runningAt l) (runningAt l + 1) (omega arith) (omega arith)) (spared v (omega arith))) ∙ flag-set s (runningAt l) 0 (omega arith))
+      (rw (as-odt k) rest)
+      (rw (as-odt k) (entry-put s₂ k e n a x (reached-long s₁ k e ∙ long) k8 (reached-used s₁ k e long k8 few) few n4 low
+      ∙ ap (put e (record { size = n; extension = x; address = a })) (reached-entries s₁ k e long k8 few ∙ entries-own k (spared w (omega arith)) (spared w (omega arith)))))

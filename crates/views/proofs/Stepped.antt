@@ -1,11 +1,11 @@
 -- What a deed leaves of the lists, the locks and the count of wrong keys shows what it makes of them, whatever numbers the state holds: a generator or an address of more than
 -- its bytes would read as another, but no list and no lock looks at these. Assumes nothing.
 use Prim.{tt}
-use Prim.Native.Nat.{ℕ, _^_, _≤_, _<_}
+use Prim.Native.Nat.{ℕ, _≤_, _<_}
 use mathlib.Core.Path.{_≡_, refl, ap, _∙_}
 use mathlib.Core.List.{List}
 use lib.ListN.{length}
-use Rattle.state.specs.Layout.{size, entryMost}
+use Rattle.state.specs.Layout.{size, entryMost, addressable}
 use Rattle.state.specs.Generator.{nextOf}
 use Rattle.state.specs.State.{generatorOf, seedOf, mtaOf, setGenerator, setSeed, setMta}
 use Rattle.judge.specs.Doable.{Doable}
@@ -35,7 +35,7 @@ steps e = record { opened = ap (λ (x : Session). x .opened) e; wrongKeys = ap (
 
 -- an entry fits in the bytes that it is stored in
 abbrev pub Entered : Deed → Type 0
-Entered d = (k e n : ℕ) (x : Extension) (a : ℕ) → d ≡ WriteEntry k e n x a → (n ≤ entryMost) × (a < 2 ^ 16)
+Entered d = (k e n : ℕ) (x : Extension) (a : ℕ) → d ≡ WriteEntry k e n x a → (n ≤ entryMost) × (a < addressable)
 
 -- ---- a seed, an address: the other parts are as they were
 given : (r : Resource) (s : List ℕ) → Steps (stepIn (GiveSeed r) (sessionOf s)) (sessionOf (effect (GiveSeed r) s))
@@ -66,7 +66,7 @@ stepped (Unlock r) s n nc nm h can enter = steps (session-effect (Unlock r) s n 
 stepped (SetMta x a) s n nc nm h can enter = moved x a s
 stepped (Upload x a m) s n nc nm h can enter = steps (session-effect (Upload x a m) s n nc nm h can tt)
 stepped (Checksum x a m) s n nc nm h can enter = steps (session-effect (Checksum x a m) s n nc nm h can tt)
-stepped (Download a m) s n nc nm h can enter = steps (session-effect (Download a m) s n nc nm h can tt)
+stepped (Download from a m) s n nc nm h can enter = steps (session-effect (Download from a m) s n nc nm h can tt)
 stepped (ClearList l) s n nc nm h can enter = steps (session-effect (ClearList l) s n nc nm h can tt)
 stepped (SetPointer k e) s n nc nm h can enter = steps (session-effect (SetPointer k e) s n nc nm h can tt)
 stepped (ClearEntry k e) s n nc nm h can enter = steps (session-effect (ClearEntry k e) s n nc nm h can tt)

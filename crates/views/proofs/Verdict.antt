@@ -1,19 +1,20 @@
 -- What judging a command has found out, by the deed that it leads to: one case a deed, with the facts of packet and session that it was judged by. What
 -- is said of every verdict goes by these cases, and not through the checks again. Assumes nothing.
 use Prim.Native.Nat.{ℕ, _+_, _≤_, _<_}
-use mathlib.Core.Path.{_≡_, refl}
+use mathlib.Core.Path.{_≡_, refl, ap, _∙_}
+use mathlib.Core.Logic.{_≢_}
 use mathlib.Core.Bool.{Bool, true, false}
-use borrow.Author.Tests.{eqb-true, ltb-false, leb-false, not-false}
+use borrow.Author.Tests.{eqb-true, eqb-false, ltb-false, leb-false, not-false}
 use lib.Dec.{eqb, ltb, leb}
 use Rattle.line.proofs.Laws.{cond-ind}
-use Rattle.state.specs.Layout.{lists, odtCount, firstOdt, entryCount, events, entryMost, uploadMost, downloadMost, addressable}
+use Rattle.state.specs.Layout.{lists, odtCount, firstOdt, entryCount, events, entryMost, uploadMost, downloadFrom, downloadMost, shortDownloadFrom, shortDownloadMost, addressable}
 use Rattle.state.specs.Generator.{keyOf, staysShut}
 use Rattle.state.specs.Memory.{pick, insideOf}
 use Rattle.words.specs.Command.{commandOf, fewest, needsOf}
-use Rattle.model.specs.Judge.{extensionFrom, connectDeed, seedDeed, getSeedDeed, unlockBy, setMtaDeed, uploadDeed, shortUploadDeed, checksumDeed, downloadTo, downloadDeed, clearDeed, pointerDeed, writeBlock, writeDeed, modeDeed, startDeed, startStopDeed, synchDeed, lockedBy, judgeThe, judgeBy, judge}
+use Rattle.model.specs.Judge.{extensionFrom, connectDeed, seedDeed, getSeedDeed, unlockBy, setMtaDeed, uploadDeed, shortUploadDeed, checksumDeed, downloadTo, downloadDeed, shortDownloadDeed, clearDeed, pointerDeed, writeBlock, writeDeed, modeDeed, startDeed, startStopDeed, synchDeed, lockedBy, judgeThe, judgeBy, judge}
 use Rattle.judge.specs.Doable.{Inside}
 use Rattle.words.specs.declared.Command.{Command}
-use Rattle.words.specs.declared.Command.the-variants.{Unknown, Connect, Disconnect, GetStatus, Synch, GetSeed, Unlock, SetMta, Upload, ShortUpload, BuildChecksum, Download, ClearDaqList, SetDaqPtr, WriteDaq, SetDaqListMode, StartStopDaqList, StartStopSynch, GetDaqProcessorInfo, GetDaqResolutionInfo}
+use Rattle.words.specs.declared.Command.the-variants.{Unknown, Connect, Disconnect, GetStatus, Synch, GetSeed, Unlock, SetMta, Upload, ShortUpload, BuildChecksum, Download, ShortDownload, ClearDaqList, SetDaqPtr, WriteDaq, SetDaqListMode, StartStopDaqList, StartStopSynch, GetDaqProcessorInfo, GetDaqResolutionInfo}
 use Rattle.words.specs.declared.Reason.{Reason}
 use Rattle.words.specs.declared.Resource.{Resource}
 use Rattle.words.specs.declared.Resource.the-variants.{Calibration, Lists}
@@ -56,11 +57,14 @@ pub data Verdict (p : Packet) (v : Seen) (nc nm : ℕ) : Command → Deed → Ty
   shorts : Inside uploadMost (p .d4) (p .b1) (pick (extensionFrom (p .b3)) nc nm) → Verdict p v nc nm ShortUpload (deed.Upload (extensionFrom (p .b3)) (p .d4) (p .b1))
   no-size : Verdict p v nc nm BuildChecksum deed.RefuseSize
   sums : (x : Extension) (a : ℕ) → v .mta ≡ At x a → Inside addressable a (p .d4) (pick x nc nm) → Verdict p v nc nm BuildChecksum (deed.Checksum x a (p .d4))
-  downloads : (a : ℕ) → v .calibration ≡ true → v .mta ≡ At CalibrationMemory a → p .b1 + 2 ≤ p .n → Inside downloadMost a (p .b1) nc → Verdict p v nc nm Download (deed.Download a (p .b1))
+  downloads : (a : ℕ) → v .calibration ≡ true → v .mta ≡ At CalibrationMemory a → p .b1 + downloadFrom ≤ p .n → Inside downloadMost a (p .b1) nc
+      → Verdict p v nc nm Download (deed.Download downloadFrom a (p .b1))
+  short-downloads : v .calibration ≡ true → extensionFrom (p .b3) ≡ CalibrationMemory → p .b1 + shortDownloadFrom ≤ p .n → Inside shortDownloadMost (p .d4) (p .b1) nc
+      → Verdict p v nc nm ShortDownload (deed.Download shortDownloadFrom (p .d4) (p .b1))
   clears : v .lists ≡ true → p .w2 < lists → v .runs ≡ false → Verdict p v nc nm ClearDaqList (deed.ClearList (p .w2))
   points : v .lists ≡ true → p .w2 < lists → p .b4 < odtCount (p .w2) → p .b5 < entryCount (firstOdt (p .w2) + p .b4) → Verdict p v nc nm SetDaqPtr (deed.SetPointer (firstOdt (p .w2) + p .b4) (p .b5))
   zeroes : (k e : ℕ) → v .lists ≡ true → Pointing v k e → Verdict p v nc nm WriteDaq (deed.ClearEntry k e)
-  writes : (k e : ℕ) → v .lists ≡ true → Pointing v k e → Inside entryMost (p .d4) (p .b2) (pick (extensionFrom (p .b3)) nc nm)
+  writes : (k e : ℕ) → v .lists ≡ true → Pointing v k e → p .b2 ≢ 0 → Inside entryMost (p .d4) (p .b2) (pick (extensionFrom (p .b3)) nc nm)
       → Verdict p v nc nm WriteDaq (deed.WriteEntry k e (p .b2) (extensionFrom (p .b3)) (p .d4))
   modes : v .lists ≡ true → p .w2 < lists → p .w4 < events → v .runs ≡ false → Verdict p v nc nm SetDaqListMode (deed.SetMode (p .w2) (p .w4))
   stops : v .lists ≡ true → p .w2 < lists → Verdict p v nc nm StartStopDaqList (deed.Stop (p .w2))
@@ -131,11 +135,11 @@ module _ (p : Packet) (v : Seen) (nc nm : ℕ) where
       cond-ind (Led BuildChecksum) (ltb addressable (p .d4)) (λ _. no-size) (λ few.
       cond-ind (Led BuildChecksum) (insideOf a (p .d4) (pick x nc nm)) (λ inside. sums x a there (ltb-false addressable (p .d4) few, inside)) (λ _. refused BuildChecksum _)))
 
-  download-to-found : v .calibration ≡ true → (x : Extension) (a : ℕ) → v .mta ≡ At x a → p .b1 ≤ downloadMost → p .b1 + 2 ≤ p .n → Led Download (downloadTo x a (p .b1) nc)
+  download-to-found : (c : Command) (from : ℕ) (x : Extension) (a : ℕ) → (x ≡ CalibrationMemory → insideOf a (p .b1) nc ≡ true → Led c (deed.Download from a (p .b1)))
+      → Led c (downloadTo from x a (p .b1) nc)
   unfolding downloadTo
-  download-to-found free CalibrationMemory a there few long =
-      cond-ind (Led Download) (insideOf a (p .b1) nc) (λ inside. downloads a free there long (few, inside)) (λ _. refused Download _)
-  download-to-found free Measured a there few long = refused Download _
+  download-to-found c from CalibrationMemory a done = cond-ind (Led c) (insideOf a (p .b1) nc) (done refl) (λ _. refused c _)
+  download-to-found c from Measured a done = refused c _
 
   download-found : v .calibration ≡ true → (m : Mta) → v .mta ≡ m → Led Download (downloadDeed m (p .b1) (p .n) nc)
   unfolding downloadDeed
@@ -143,8 +147,19 @@ module _ (p : Packet) (v : Seen) (nc nm : ℕ) where
   download-found free (At x a) there =
       cond-ind (Led Download) (eqb (p .b1) 0) (λ _. refused Download _) (λ _.
       cond-ind (Led Download) (ltb downloadMost (p .b1)) (λ _. refused Download _) (λ few.
-      cond-ind (Led Download) (ltb (p .n) (p .b1 + 2)) (λ _. refused Download _) (λ long.
-      download-to-found free x a there (ltb-false downloadMost (p .b1) few) (ltb-false (p .n) (p .b1 + 2) long))))
+      cond-ind (Led Download) (ltb (p .n) (p .b1 + downloadFrom)) (λ _. refused Download _) (λ long.
+      download-to-found Download downloadFrom x a (λ is inside. downloads a free (there ∙ ap (λ (y : Extension). At y a) is) (ltb-false (p .n) (p .b1 + downloadFrom) long)
+      (ltb-false downloadMost (p .b1) few, inside)))))
+
+  short-download-found : v .calibration ≡ true → Led ShortDownload (shortDownloadDeed (p .b1) (p .b3) (p .d4) (p .n) nc)
+  unfolding shortDownloadDeed
+  short-download-found free =
+      cond-ind (Led ShortDownload) (eqb (p .b1) 0) (λ _. refused ShortDownload _) (λ _.
+      cond-ind (Led ShortDownload) (ltb shortDownloadMost (p .b1)) (λ _. refused ShortDownload _) (λ few.
+      cond-ind (Led ShortDownload) (ltb 1 (p .b3)) (λ _. refused ShortDownload _) (λ _.
+      cond-ind (Led ShortDownload) (ltb (p .n) (p .b1 + shortDownloadFrom)) (λ _. refused ShortDownload _) (λ long.
+      download-to-found ShortDownload shortDownloadFrom (extensionFrom (p .b3)) (p .d4) (λ is inside. short-downloads free is (ltb-false (p .n) (p .b1 + shortDownloadFrom) long)
+      (ltb-false shortDownloadMost (p .b1) few, inside))))))
 
   -- ---- the lists, which are unlocked
   module _ (free : v .lists ≡ true) where
@@ -170,9 +185,9 @@ module _ (p : Packet) (v : Seen) (nc nm : ℕ) where
         cond-ind (Led WriteDaq) (ltb entryMost (p .b2)) (λ _. refused WriteDaq _) (λ few.
         cond-ind (Led WriteDaq) (ltb 1 (p .b3)) (λ _. refused WriteDaq _) (λ _.
         cond-ind (Led WriteDaq) (v .pointed) (λ _. refused WriteDaq _) (λ still.
-        cond-ind (Led WriteDaq) (eqb (p .b2) 0) (λ _. zeroes k e free (record { here = here; still = still })) (λ _.
+        cond-ind (Led WriteDaq) (eqb (p .b2) 0) (λ _. zeroes k e free (record { here = here; still = still })) (λ some.
         cond-ind (Led WriteDaq) (insideOf (p .d4) (p .b2) (pick (extensionFrom (p .b3)) nc nm))
-        (λ inside. writes k e free (record { here = here; still = still }) (ltb-false entryMost (p .b2) few, inside)) (λ _. refused WriteDaq _)))))) (λ _. refused WriteDaq _)
+        (λ inside. writes k e free (record { here = here; still = still }) (eqb-false (p .b2) 0 some) (ltb-false entryMost (p .b2) few, inside)) (λ _. refused WriteDaq _)))))) (λ _. refused WriteDaq _)
 
     mode-found : Led SetDaqListMode (modeDeed (v .runs) (p .b1) (p .w2) (p .w4) (p .b6) (p .b7))
     unfolding modeDeed
@@ -219,6 +234,7 @@ module _ (p : Packet) (v : Seen) (nc nm : ℕ) where
   the-found ShortUpload free = short-upload-found
   the-found BuildChecksum free = checksum-found (v .mta) refl
   the-found Download free = download-found (not-false (v .calibration) free) (v .mta) refl
+  the-found ShortDownload free = short-download-found (not-false (v .calibration) free)
   the-found ClearDaqList free = clear-found (not-false (v .lists) free)
   the-found SetDaqPtr free = pointer-found (not-false (v .lists) free)
   the-found WriteDaq free = write-found (not-false (v .lists) free) (v .pointer) refl

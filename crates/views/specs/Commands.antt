@@ -105,7 +105,7 @@ pub record CONNECT (p : List ℕ) (c : Session) (cal meas : List ℕ) (o : Done)
   pub fresh : Fresh c (o .session)
   pub wrongKeys : o .session .wrongKeys ≡ c .wrongKeys
   pub memory : o .memory ≡ cal
-  pub answer : o .answer ≡ 0xFF ∷ 0x05 ∷ 0x00 ∷ 0x08 ∷ 0x08 ∷ 0x00 ∷ 0x01 ∷ 0x01 ∷ []
+  pub answer : o .answer ≡ 0xFF ∷ 0x05 ∷ 0x00 ∷ 0x40 ∷ 0x40 ∷ 0x00 ∷ 0x01 ∷ 0x01 ∷ []
 
 -- ---- FE DISCONNECT
 pub record DISCONNECT (p : List ℕ) (c : Session) (cal meas : List ℕ) (o : Done) : Type 0 where
@@ -212,16 +212,25 @@ pub record BUILD-CHECKSUM (p : List ℕ) (c : Session) (cal meas : List ℕ) (o 
   pub rest : AllBut TheMta c (o .session)
   pub memory : o .memory ≡ cal
 
--- ---- F0 DOWNLOAD: bytes 2 and on, as many as byte 1 says, stored at the MTA, which is in calibration
+-- ---- F0 DOWNLOAD, ED SHORT_DOWNLOAD: bytes `from` and on, as many as byte 1 says, stored at address a of calibration; the MTA then lies behind them
+pub record Loads (from a : ℕ) (p : List ℕ) (c : Session) (cal : List ℕ) (o : Done) : Type 0 where
+  pub stored : (i : ℕ) → i < byte p 1 → byte (o .memory) (a + i) ≡ byte p (i + from)
+  pub others : (j : ℕ) → ((i : ℕ) → i < byte p 1 → j ≢ a + i) → byte (o .memory) j ≡ byte cal j
+  pub long : length (o .memory) ≡ length cal
+  pub mta : o .session .mta ≡ At CalibrationMemory (a + byte p 1)
+  pub rest : AllBut TheMta c (o .session)
+  pub answer : o .answer ≡ 0xFF ∷ []
+
+-- bytes 2 and on, at the MTA
 pub record DOWNLOAD (p : List ℕ) (c : Session) (cal meas : List ℕ) (o : Done) : Type 0 where
   pub address : ℕ
   pub at : c .mta ≡ At CalibrationMemory address
-  pub stored : (i : ℕ) → i < byte p 1 → byte (o .memory) (address + i) ≡ byte p (i + 2)
-  pub others : (j : ℕ) → ((i : ℕ) → i < byte p 1 → j ≢ address + i) → byte (o .memory) j ≡ byte cal j
-  pub long : length (o .memory) ≡ length cal
-  pub mta : o .session .mta ≡ At CalibrationMemory (address + byte p 1)
-  pub rest : AllBut TheMta c (o .session)
-  pub answer : o .answer ≡ 0xFF ∷ []
+  pub loads : Loads 2 address p c cal o
+
+-- bytes 8 and on, at its own address, wherever the MTA was, or unset
+pub record SHORT-DOWNLOAD (p : List ℕ) (c : Session) (cal meas : List ℕ) (o : Done) : Type 0 where
+  pub named : byte p 3 ≡ extensionNumber CalibrationMemory
+  pub loads : Loads 8 (four p 4) p c cal o
 
 -- ---- E3 CLEAR_DAQ_LIST
 pub record CLEAR-DAQ-LIST (p : List ℕ) (c : Session) (cal meas : List ℕ) (o : Done) : Type 0 where
@@ -350,6 +359,7 @@ pub record Obeys (R : Way) : Type 0 where
   pub shortUpload : Law R 0xF4 SHORT-UPLOAD
   pub buildChecksum : Law R 0xF3 BUILD-CHECKSUM
   pub download : Law R 0xF0 DOWNLOAD
+  pub shortDownload : Law R 0xED SHORT-DOWNLOAD
   pub clearDaqList : Law R 0xE3 CLEAR-DAQ-LIST
   pub setDaqPtr : Law R 0xE2 SET-DAQ-PTR
   pub writeDaq : Law R 0xE1 WRITE-DAQ

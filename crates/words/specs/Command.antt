@@ -3,7 +3,7 @@ use Prim.Native.Nat.{ℕ}
 use mathlib.Core.Bool.{cond}
 use lib.Dec.{eqb}
 use Rattle.words.specs.declared.Command.{Command}
-use Rattle.words.specs.declared.Command.the-variants.{Unknown, Connect, Disconnect, GetStatus, Synch, GetSeed, Unlock, SetMta, Upload, ShortUpload, BuildChecksum, Download, ClearDaqList, SetDaqPtr, WriteDaq, SetDaqListMode, StartStopDaqList, StartStopSynch, GetDaqProcessorInfo, GetDaqResolutionInfo}
+use Rattle.words.specs.declared.Command.the-variants.{Unknown, Connect, Disconnect, GetStatus, Synch, GetSeed, Unlock, SetMta, Upload, ShortUpload, BuildChecksum, Download, ShortDownload, ClearDaqList, SetDaqPtr, WriteDaq, SetDaqListMode, StartStopDaqList, StartStopSynch, GetDaqProcessorInfo, GetDaqResolutionInfo}
 use Rattle.words.specs.declared.Needs.{Needs}
 use Rattle.words.specs.declared.Needs.the-variants.{Nothing, Unlocked}
 use Rattle.words.specs.declared.Resource.the-variants.{Calibration, Lists}
@@ -24,6 +24,7 @@ commandOf code =
     (cond (eqb code 0xF4) ShortUpload
     (cond (eqb code 0xF3) BuildChecksum
     (cond (eqb code 0xF0) Download
+    (cond (eqb code 0xED) ShortDownload
     (cond (eqb code 0xE3) ClearDaqList
     (cond (eqb code 0xE2) SetDaqPtr
     (cond (eqb code 0xE1) WriteDaq
@@ -32,7 +33,7 @@ commandOf code =
     (cond (eqb code 0xDD) StartStopSynch
     (cond (eqb code 0xDA) GetDaqProcessorInfo
     (cond (eqb code 0xD9) GetDaqResolutionInfo
-    Unknown))))))))))))))))))
+    Unknown)))))))))))))))))))
 
 -- an unknown command is never too short
 abbrev pub fewest : Command → ℕ
@@ -48,6 +49,7 @@ fewest Upload = 2
 fewest ShortUpload = 8
 fewest BuildChecksum = 8
 fewest Download = 2
+fewest ShortDownload = 8
 fewest ClearDaqList = 4
 fewest SetDaqPtr = 6
 fewest WriteDaq = 8
@@ -57,7 +59,7 @@ fewest StartStopSynch = 2
 fewest GetDaqProcessorInfo = 1
 fewest GetDaqResolutionInfo = 1
 
--- F0 needs calibration, E3 to D9 need lists
+-- F0 and ED need calibration, E3 to D9 need lists
 abbrev pub needsOf : Command → Needs
 needsOf Unknown = Nothing
 needsOf Connect = Nothing
@@ -71,6 +73,7 @@ needsOf Upload = Nothing
 needsOf ShortUpload = Nothing
 needsOf BuildChecksum = Nothing
 needsOf Download = Unlocked Calibration
+needsOf ShortDownload = Unlocked Calibration
 needsOf ClearDaqList = Unlocked Lists
 needsOf SetDaqPtr = Unlocked Lists
 needsOf WriteDaq = Unlocked Lists

@@ -47,6 +47,7 @@ pub enum Command {
     ShortUpload,
     BuildChecksum,
     Download,
+    ShortDownload,
     ClearDaqList,
     SetDaqPtr,
     WriteDaq,

@@ -124,29 +124,32 @@ download-requires c κs = search needs
 enum-told-13 : tie.Need-enum-told-13
 enum-told-13 c = search needs
 
-get16-requires : tie.Need-get16-requires
-get16-requires c κs = search needs
-
-clear-list-requires : tie.Need-clear-list-requires
-clear-list-requires c κs = search needs
-
-enum-told-14 : tie.Need-enum-told-14
-enum-told-14 c = search needs
-
-get16-requires-2 : tie.Need-get16-requires-2
-get16-requires-2 c κs = search needs
-
 get-requires-10 : tie.Need-get-requires-10
 get-requires-10 c κs = search needs
 
 get-requires-11 : tie.Need-get-requires-11
 get-requires-11 c κs = search needs
 
-set-pointer-requires : tie.Need-set-pointer-requires
-set-pointer-requires c κs = search needs
+get32-requires-5 : tie.Need-get32-requires-5
+get32-requires-5 c κs = search needs
+
+short-download-requires : tie.Need-short-download-requires
+short-download-requires c κs = search needs
+
+enum-told-14 : tie.Need-enum-told-14
+enum-told-14 c = search needs
+
+get16-requires : tie.Need-get16-requires
+get16-requires c κs = search needs
+
+clear-list-requires : tie.Need-clear-list-requires
+clear-list-requires c κs = search needs
 
 enum-told-15 : tie.Need-enum-told-15
 enum-told-15 c = search needs
+
+get16-requires-2 : tie.Need-get16-requires-2
+get16-requires-2 c κs = search needs
 
 get-requires-12 : tie.Need-get-requires-12
 get-requires-12 c κs = search needs
@@ -154,20 +157,32 @@ get-requires-12 c κs = search needs
 get-requires-13 : tie.Need-get-requires-13
 get-requires-13 c κs = search needs
 
-get-requires-14 : tie.Need-get-requires-14
-get-requires-14 c κs = search needs
-
-get32-requires-5 : tie.Need-get32-requires-5
-get32-requires-5 c κs = search needs
-
-write-entry-requires : tie.Need-write-entry-requires
-write-entry-requires c κs = search needs
+set-pointer-requires : tie.Need-set-pointer-requires
+set-pointer-requires c κs = search needs
 
 enum-told-16 : tie.Need-enum-told-16
 enum-told-16 c = search needs
 
+get-requires-14 : tie.Need-get-requires-14
+get-requires-14 c κs = search needs
+
 get-requires-15 : tie.Need-get-requires-15
 get-requires-15 c κs = search needs
+
+get-requires-16 : tie.Need-get-requires-16
+get-requires-16 c κs = search needs
+
+get32-requires-6 : tie.Need-get32-requires-6
+get32-requires-6 c κs = search needs
+
+write-entry-requires : tie.Need-write-entry-requires
+write-entry-requires c κs = search needs
+
+enum-told-17 : tie.Need-enum-told-17
+enum-told-17 c = search needs
+
+get-requires-17 : tie.Need-get-requires-17
+get-requires-17 c κs = search needs
 
 get16-requires-3 : tie.Need-get16-requires-3
 get16-requires-3 c κs = search needs
@@ -175,20 +190,20 @@ get16-requires-3 c κs = search needs
 get16-requires-4 : tie.Need-get16-requires-4
 get16-requires-4 c κs = search needs
 
-get-requires-16 : tie.Need-get-requires-16
-get-requires-16 c κs = search needs
+get-requires-18 : tie.Need-get-requires-18
+get-requires-18 c κs = search needs
 
-get-requires-17 : tie.Need-get-requires-17
-get-requires-17 c κs = search needs
+get-requires-19 : tie.Need-get-requires-19
+get-requires-19 c κs = search needs
 
 set-mode-requires : tie.Need-set-mode-requires
 set-mode-requires c κs = search needs
 
-enum-told-17 : tie.Need-enum-told-17
-enum-told-17 c = search needs
+enum-told-18 : tie.Need-enum-told-18
+enum-told-18 c = search needs
 
-get-requires-18 : tie.Need-get-requires-18
-get-requires-18 c κs = search needs
+get-requires-20 : tie.Need-get-requires-20
+get-requires-20 c κs = search needs
 
 get16-requires-5 : tie.Need-get16-requires-5
 get16-requires-5 c κs = search needs
@@ -196,20 +211,20 @@ get16-requires-5 c κs = search needs
 start-stop-requires : tie.Need-start-stop-requires
 start-stop-requires c κs = search needs
 
-enum-told-18 : tie.Need-enum-told-18
-enum-told-18 c = search needs
+enum-told-19 : tie.Need-enum-told-19
+enum-told-19 c = search needs
 
-get-requires-19 : tie.Need-get-requires-19
-get-requires-19 c κs = search needs
+get-requires-21 : tie.Need-get-requires-21
+get-requires-21 c κs = search needs
 
 start-stop-synch-requires : tie.Need-start-stop-synch-requires
 start-stop-synch-requires c κs = search needs
 
-enum-told-19 : tie.Need-enum-told-19
-enum-told-19 c = search needs
-
 enum-told-20 : tie.Need-enum-told-20
 enum-told-20 c = search needs
+
+enum-told-21 : tie.Need-enum-told-21
+enum-told-21 c = search needs
 
 returns : tie.Need-returns
 unfolding judgeThe
@@ -261,35 +276,39 @@ returns-12 c = rw (c .before .before .before .enum-told12 .given .1) (c .downloa
 
 returns-13 : tie.Need-returns-13
 unfolding judgeThe
-returns-13 c = rw (c .before .before .enum-told13 .given .1) (c .clear-list .ensures ∙ rw (c .before .get16 .ensures))
+returns-13 c = rw (c .before .before .before .before .enum-told13 .given .1) (c .short-download .ensures ∙ rw (c .before .before .before .get10 .ensures, c .before .before .get11 .ensures, c .before .get325 .ensures))
 
 returns-14 : tie.Need-returns-14
 unfolding judgeThe
-returns-14 c = rw (c .before .before .before .before .enum-told14 .given .1) (c .set-pointer .ensures ∙ rw (c .before .before .before .get162 .ensures, c .before .before .get10 .ensures, c .before .get11 .ensures))
+returns-14 c = rw (c .before .before .enum-told14 .given .1) (c .clear-list .ensures ∙ rw (c .before .get16 .ensures))
 
 returns-15 : tie.Need-returns-15
 unfolding judgeThe
-returns-15 c = rw (c .before .before .before .before .before .enum-told15 .given .1) (c .write-entry .ensures ∙ rw (c .before .before .before .before .get12 .ensures, c .before .before .before .get13 .ensures, c .before .before .get14 .ensures, c .before .get325 .ensures))
+returns-15 c = rw (c .before .before .before .before .enum-told15 .given .1) (c .set-pointer .ensures ∙ rw (c .before .before .before .get162 .ensures, c .before .before .get12 .ensures, c .before .get13 .ensures))
 
 returns-16 : tie.Need-returns-16
 unfolding judgeThe
-returns-16 c = rw (c .before .before .before .before .before .before .enum-told16 .given .1) (c .set-mode .ensures ∙ rw (c .before .before .before .before .before .get15 .ensures, c .before .before .before .before .get163 .ensures, c .before .before .before .get164 .ensures, c .before .before .get17 .ensures, c .before .get18 .ensures))
+returns-16 c = rw (c .before .before .before .before .before .enum-told16 .given .1) (c .write-entry .ensures ∙ rw (c .before .before .before .before .get14 .ensures, c .before .before .before .get15 .ensures, c .before .before .get17 .ensures, c .before .get326 .ensures))
 
 returns-17 : tie.Need-returns-17
 unfolding judgeThe
-returns-17 c = rw (c .before .before .before .enum-told17 .given .1) (c .start-stop .ensures ∙ rw (c .before .before .get19 .ensures, c .before .get165 .ensures))
+returns-17 c = rw (c .before .before .before .before .before .before .enum-told17 .given .1) (c .set-mode .ensures ∙ rw (c .before .before .before .before .before .get18 .ensures, c .before .before .before .before .get163 .ensures, c .before .before .before .get164 .ensures, c .before .before .get19 .ensures, c .before .get20 .ensures))
 
 returns-18 : tie.Need-returns-18
 unfolding judgeThe
-returns-18 c = rw (c .before .before .enum-told18 .given .1) (c .start-stop-synch .ensures ∙ rw (c .before .get20 .ensures))
+returns-18 c = rw (c .before .before .before .enum-told18 .given .1) (c .start-stop .ensures ∙ rw (c .before .before .get21 .ensures, c .before .get165 .ensures))
 
 returns-19 : tie.Need-returns-19
 unfolding judgeThe
-returns-19 c = rw (c .enum-told19 .given .1)
+returns-19 c = rw (c .before .before .enum-told19 .given .1) (c .start-stop-synch .ensures ∙ rw (c .before .get22 .ensures))
 
 returns-20 : tie.Need-returns-20
 unfolding judgeThe
 returns-20 c = rw (c .enum-told20 .given .1)
+
+returns-21 : tie.Need-returns-21
+unfolding judgeThe
+returns-21 c = rw (c .enum-told21 .given .1)
 
 pub judge-the-spec : {M : Type 1} → statement M
 judge-the-spec =
@@ -335,35 +354,40 @@ judge-the-spec =
     get-requires-9
     download-requires
     enum-told-13
-    get16-requires
-    clear-list-requires
-    enum-told-14
-    get16-requires-2
     get-requires-10
     get-requires-11
-    set-pointer-requires
+    get32-requires-5
+    short-download-requires
+    enum-told-14
+    get16-requires
+    clear-list-requires
     enum-told-15
+    get16-requires-2
     get-requires-12
     get-requires-13
-    get-requires-14
-    get32-requires-5
-    write-entry-requires
+    set-pointer-requires
     enum-told-16
+    get-requires-14
     get-requires-15
+    get-requires-16
+    get32-requires-6
+    write-entry-requires
+    enum-told-17
+    get-requires-17
     get16-requires-3
     get16-requires-4
-    get-requires-16
-    get-requires-17
-    set-mode-requires
-    enum-told-17
     get-requires-18
+    get-requires-19
+    set-mode-requires
+    enum-told-18
+    get-requires-20
     get16-requires-5
     start-stop-requires
-    enum-told-18
-    get-requires-19
-    start-stop-synch-requires
     enum-told-19
+    get-requires-21
+    start-stop-synch-requires
     enum-told-20
+    enum-told-21
     returns
     returns-2
     returns-3
@@ -383,4 +407,5 @@ judge-the-spec =
     returns-17
     returns-18
     returns-19
-    returns-20)
+    returns-20
+    returns-21)

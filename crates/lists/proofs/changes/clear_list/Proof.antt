@@ -13,8 +13,11 @@ clear-requires c κs = search needs
 first-odt-requires : tie.Need-first-odt-requires
 first-odt-requires c κs = search needs
 
-entries-at-requires : tie.Need-entries-at-requires
-entries-at-requires c κs = search needs
+used-at-requires : tie.Need-used-at-requires
+used-at-requires c κs = search needs
+
+cast-clear : tie.Need-cast-clear
+cast-clear c = search needs
 
 clear-requires-2 : tie.Need-clear-requires-2
 clear-requires-2 c κs = search needs
@@ -24,7 +27,7 @@ same-length c = search needs
 
 returns : tie.Need-returns
 unfolding listCleared
-returns c = c .before .before .clear2 .ensures ∙ rw (c .before .before .before .before .before .before .before .before .clear .ensures, c .before .before .before .before .before .before .before .before .before .mode-at .ensures, c .before .before .before .before .entries-at .ensures, c .before .before .before .before .before .first-odt .ensures)
+returns c = c .before .before .clear2 .ensures ∙ rw (c .before .before .before .before .before .before .before .before .clear .ensures, c .before .before .before .before .before .before .before .before .before .mode-at .ensures, c .before .before .before .before .used-at .ensures, c .before .before .before .before .before .first-odt .ensures)
 
 pub clear-list-spec : {M : Type 1} → statement M
 clear-list-spec =
@@ -33,7 +36,8 @@ clear-list-spec =
     mode-at-requires
     clear-requires
     first-odt-requires
-    entries-at-requires
+    used-at-requires
+    cast-clear
     clear-requires-2
     same-length
     returns)

@@ -4,9 +4,6 @@ use borrow.Author.Needs.{needs}
 use Rattle.lists.proofs.changes.set_entry.Statement.{statement}
 use Rattle.lists.proofs.changes.set_entry.Tie as tie
 
-entry-at-requires : tie.Need-entry-at-requires
-entry-at-requires c κs = search needs
-
 list-of-requires : tie.Need-list-of-requires
 list-of-requires c κs = search needs
 
@@ -16,44 +13,47 @@ running-at-requires c κs = search needs
 put-requires : tie.Need-put-requires
 put-requires c κs = search needs
 
+reach-requires : tie.Need-reach-requires
+reach-requires c κs = search needs
+
+entry-at-requires : tie.Need-entry-at-requires
+entry-at-requires c κs = search needs
+
+head-requires : tie.Need-head-requires
+head-requires c κs = search needs
+
 put-requires-2 : tie.Need-put-requires-2
 put-requires-2 c κs = search needs
 
 add-put : tie.Need-add-put
 add-put c = search needs
 
-tag-requires : tie.Need-tag-requires
-tag-requires c κs = search needs
+low-requires : tie.Need-low-requires
+low-requires c κs = search needs
 
 put-requires-3 : tie.Need-put-requires-3
 put-requires-3 c κs = search needs
-
-add-store16 : tie.Need-add-store16
-add-store16 c = search needs
-
-store16-requires : tie.Need-store16-requires
-store16-requires c κs = search needs
 
 same-length : tie.Need-same-length
 same-length c = search needs
 
 returns : tie.Need-returns
 unfolding entrySet
-returns c = c .before .before .store16 .ensures ∙ rw (c .before .before .before .before .before .before .put3 .ensures, c .before .before .before .before .before .before .before .before .before .before .before .put2 .ensures, c .before .before .before .before .before .before .before .before .before .before .before .before .before .before .before .put .ensures, c .before .before .before .before .before .before .before .tag .ensures, c .before .before .before .before .before .before .before .before .before .before .before .before .before .before .before .before .running-at .ensures, c .before .before .before .before .before .before .before .before .before .before .before .before .before .before .before .before .before .list-of .ensures, c .before .before .before .before .before .before .before .before .before .before .before .before .before .before .before .before .before .before .before .entry-at .ensures)
+returns c = c .before .before .put3 .ensures ∙ rw (c .before .before .before .before .before .before .before .put2 .ensures, c .before .before .before .before .before .before .before .before .before .before .before .before .before .reach .ensures, c .before .before .before .before .before .before .before .before .before .before .before .before .before .before .before .before .before .put .ensures, c .before .before .before .low .ensures, c .before .before .before .before .before .before .before .before .head .ensures, c .before .before .before .before .before .before .before .before .before .before .before .before .before .before .before .before .before .before .running-at .ensures, c .before .before .before .before .before .before .before .before .before .before .before .before .before .before .before .before .before .before .before .list-of .ensures, c .before .before .before .before .before .before .before .before .before .before .entry-at .ensures)
 
 pub set-entry-spec : {M : Type 1} → statement M
 set-entry-spec =
     tie.close
     (tie.spec
-    entry-at-requires
     list-of-requires
     running-at-requires
     put-requires
+    reach-requires
+    entry-at-requires
+    head-requires
     put-requires-2
     add-put
-    tag-requires
+    low-requires
     put-requires-3
-    add-store16
-    store16-requires
     same-length
     returns)

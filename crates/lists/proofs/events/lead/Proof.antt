@@ -1,5 +1,4 @@
-use Rattle.state.specs.Bytes.{put16}
-use Rattle.lists.proofs.Gathered.{put16-sets}
+use Rattle.lists.proofs.Gathered.{pair-sets}
 use mathlib.Core.Path.{refl, sym, _∙_}
 use native.Mathlib.Omega.{arith}
 use lib.ListN.{length-set}
@@ -35,8 +34,7 @@ same-length : tie.Need-same-length
 same-length c = search needs
 
 returns : tie.Need-returns
-unfolding put16
-returns c = simp (sym (c .before .is-first .ensures) ∙ c .if1 .taken) (put16-sets (c .before .before .before .args .s .now) (c .before .before .before .args .at) (c .before .before .before .args .clock), omega arith)
+returns c = simp (sym (c .before .is-first .ensures) ∙ c .if1 .taken) (pair-sets (c .before .before .before .args .s .now) (c .before .before .before .args .at) _ _, omega arith)
 
 returns-2 : tie.Need-returns-2
 returns-2 c = simp (sym (c .before .is-first .ensures) ∙ c .if1 .left) (refl, omega arith)

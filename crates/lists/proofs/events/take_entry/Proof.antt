@@ -11,9 +11,6 @@ returns c = rw (sym (c .before .before .before .before .pre .3) ∙ c .if1 .take
 entry-address-requires : tie.Need-entry-address-requires
 entry-address-requires c κs = search needs
 
-cast-address : tie.Need-cast-address
-cast-address c = search needs
-
 entry-extension-requires : tie.Need-entry-extension-requires
 entry-extension-requires c κs = search needs
 
@@ -47,7 +44,6 @@ take-entry-spec =
     (tie.spec
     returns
     entry-address-requires
-    cast-address
     entry-extension-requires
     enum-told
     take-block-requires

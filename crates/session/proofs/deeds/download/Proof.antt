@@ -13,11 +13,14 @@ use borrow.Author.Needs.{needs}
 use Rattle.session.proofs.deeds.download.Statement.{statement}
 use Rattle.session.proofs.deeds.download.Tie as tie
 
+add-copy : tie.Need-add-copy
+add-copy c = search needs
+
 copy-requires : tie.Need-copy-requires
 copy-requires c κs = (inside-le (c .before .before .before .before .args .address) (c .before .before .before .before .args .n) (length (c .before .before .before .before .args .cal .now)) (c .before .before .before .before .pre .3 .1) .0, omega (arith, c .before .before .before .before .pre .0, c .before .before .before .before .pre .1, c .before .before .before .before .pre .2))
 
-add-t17 : tie.Need-add-t17
-add-t17 c = omega (arith, inside-le (c .before .before .before .before .before .before .before .before .args .address) (c .before .before .before .before .before .before .before .before .args .n) (length (c .before .before .before .before .before .before .before .before .args .cal .now)) (c .before .before .before .before .before .before .before .before .pre .3 .1) .1)
+add-t20 : tie.Need-add-t20
+add-t20 c = omega (arith, inside-le (c .before .before .before .before .before .before .before .before .args .address) (c .before .before .before .before .before .before .before .before .args .n) (length (c .before .before .before .before .before .before .before .before .args .cal .now)) (c .before .before .before .before .before .before .before .before .pre .3 .1) .1)
 
 set-mta-requires : tie.Need-set-mta-requires
 set-mta-requires c κs = search needs
@@ -33,14 +36,15 @@ same-length-2 c = search needs
 
 returns : tie.Need-returns
 unfolding effect replyIn sessionOf writes copied
-returns c = (c .before .before .ok .ensures ∙ rw (c .before .before .before .before .before .before .set-mta .ensures), c .before .before .before .before .before .before .before .before .before .before .copy .ensures ∙ ap (sets (c .before .before .before .before .before .before .before .before .before .before .before .before .before .before .before .args .cal .now) (c .before .before .before .before .before .before .before .before .before .before .before .before .before .before .before .args .address)) (sym (block-block (c .before .before .before .before .before .before .before .before .before .before .before .before .before .before .before .args .s .now) packetAt (c .before .before .before .before .before .before .before .before .before .before .before .before .before .before .before .args .len) 2 (c .before .before .before .before .before .before .before .before .before .before .before .before .before .before .before .args .n) (omega (arith, c .before .before .before .before .before .before .before .before .before .before .before .before .before .before .before .pre .2)))))
+returns c = (c .before .before .ok .ensures ∙ rw (c .before .before .before .before .before .before .set-mta .ensures), c .before .before .before .before .before .before .before .before .before .before .copy .ensures ∙ ap (sets (c .before .before .before .before .before .before .before .before .before .before .before .before .before .before .before .args .cal .now) (c .before .before .before .before .before .before .before .before .before .before .before .before .before .before .before .args .address)) (sym (block-block (c .before .before .before .before .before .before .before .before .before .before .before .before .before .before .before .args .s .now) packetAt (c .before .before .before .before .before .before .before .before .before .before .before .before .before .before .before .args .len) (c .before .before .before .before .before .before .before .before .before .before .before .before .before .before .before .args .from) (c .before .before .before .before .before .before .before .before .before .before .before .before .before .before .before .args .n) (omega (arith, c .before .before .before .before .before .before .before .before .before .before .before .before .before .before .before .pre .2)))))
 
 pub download-spec : {M : Type 1} → statement M
 download-spec =
     tie.close
     (tie.spec
+    add-copy
     copy-requires
-    add-t17
+    add-t20
     set-mta-requires
     ok-requires
     same-length

@@ -1,4 +1,3 @@
-use mathlib.Core.Path.{_∙_}
 use Rattle.model.specs.Answers.{replyIn}
 use Rattle.model.specs.View.{sessionOf}
 use Rattle.session.specs.Perform.{effect}
@@ -6,32 +5,15 @@ use borrow.Author.Needs.{needs}
 use Rattle.session.proofs.list_deeds.clear_entry.Statement.{statement}
 use Rattle.session.proofs.list_deeds.clear_entry.Tie as tie
 
-clear-entry-requires : tie.Need-clear-entry-requires
-clear-entry-requires c κs = search needs
-
-next-entry-requires : tie.Need-next-entry-requires
-next-entry-requires c κs = search needs
-
-set-pointer-requires : tie.Need-set-pointer-requires
-set-pointer-requires c κs = search needs
-
-ok-requires : tie.Need-ok-requires
-ok-requires c κs = search needs
+write-entry-requires : tie.Need-write-entry-requires
+write-entry-requires c κs = search needs
 
 same-length : tie.Need-same-length
 same-length c = search needs
 
 returns : tie.Need-returns
 unfolding effect replyIn sessionOf
-returns c = c .before .before .ok .ensures ∙ rw (c .before .before .before .before .before .before .set-pointer .ensures, c .before .before .before .before .before .before .before .before .before .before .before .clear-entry .ensures, c .before .before .before .before .before .before .before .next-entry .ensures .0)
+returns c = c .before .before .write-entry .ensures
 
 pub clear-entry-spec : {M : Type 1} → statement M
-clear-entry-spec =
-    tie.close
-    (tie.spec
-    clear-entry-requires
-    next-entry-requires
-    set-pointer-requires
-    ok-requires
-    same-length
-    returns)
+clear-entry-spec = tie.close (tie.spec write-entry-requires same-length returns)

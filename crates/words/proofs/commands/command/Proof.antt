@@ -85,19 +85,26 @@ unfolding commandOf
 returns-20 c = rw (c .match .keys20)
 
 returns-21 : tie.Need-returns-21
-returns-21 c = sym (unknown _ (c .before .match .rest))
+unfolding commandOf
+returns-21 c = rw (c .match .keys21)
 
 returns-22 : tie.Need-returns-22
-returns-22 c = sym (unknown _ (c .before .before .match .rest))
+returns-22 c = sym (unknown _ (c .before .match .rest))
 
 returns-23 : tie.Need-returns-23
-returns-23 c = sym (unknown _ (c .before .before .before .match .rest))
+returns-23 c = sym (unknown _ (c .before .before .match .rest))
 
 returns-24 : tie.Need-returns-24
-returns-24 c = sym (unknown _ (c .before .before .before .before .match .rest))
+returns-24 c = sym (unknown _ (c .before .before .before .match .rest))
 
 returns-25 : tie.Need-returns-25
 returns-25 c = sym (unknown _ (c .before .before .before .before .match .rest))
+
+returns-26 : tie.Need-returns-26
+returns-26 c = sym (unknown _ (c .before .before .before .before .before .match .rest))
+
+returns-27 : tie.Need-returns-27
+returns-27 c = sym (unknown _ (c .before .before .before .before .before .match .rest))
 
 pub command-spec : {M : Type 1} → statement M
 command-spec =
@@ -127,4 +134,6 @@ command-spec =
     returns-22
     returns-23
     returns-24
-    returns-25)
+    returns-25
+    returns-26
+    returns-27)

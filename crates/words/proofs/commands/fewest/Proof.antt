@@ -62,6 +62,9 @@ enum-told-19 c = search needs
 enum-told-20 : tie.Need-enum-told-20
 enum-told-20 c = search needs
 
+enum-told-21 : tie.Need-enum-told-21
+enum-told-21 c = search needs
+
 returns : tie.Need-returns
 returns c = simp (c .enum-told .given .1)
 
@@ -122,6 +125,9 @@ returns-19 c = simp (c .enum-told19 .given .1)
 returns-20 : tie.Need-returns-20
 returns-20 c = simp (c .enum-told20 .given .1)
 
+returns-21 : tie.Need-returns-21
+returns-21 c = simp (c .enum-told21 .given .1)
+
 pub fewest-spec : {M : Type 1} → statement M
 fewest-spec =
     tie.close
@@ -146,6 +152,7 @@ fewest-spec =
     enum-told-18
     enum-told-19
     enum-told-20
+    enum-told-21
     returns
     returns-2
     returns-3
@@ -165,4 +172,5 @@ fewest-spec =
     returns-17
     returns-18
     returns-19
-    returns-20)
+    returns-20
+    returns-21)
