@@ -20,12 +20,15 @@ typedef uint32_t slot_call(uint8_t *, uint64_t, uint8_t *, uint64_t);
 
 static const char *const names[CALLS] = {"xcp_power_up", "xcp_receive_byte", "xcp_event", "xcp_slot"};
 static uint8_t state[XCP_STATE_SIZE], cal[4096], meas[4096], room[XCP_SLOT_ROOM];
+/* So many bytes of each memory are lent to an event. */
+static uint32_t lent = sizeof meas;
 
 /* Of the last call, and what of the count is not the call's own. */
 static uint32_t counted, depth, around[CALLS];
-/* Of all calls; and of the bytes that end a command other than BUILD_CHECKSUM, the dearest one. */
+/* Of all calls; and of the bytes that end a command other than BUILD_CHECKSUM, and of slots, the dearest one: the command's
+ * code, the frame's size. */
 static uint32_t deepest[CALLS];
-static struct { uint32_t instructions, stack, code; } dearest;
+static struct dearest { uint32_t instructions, stack, which; } dearest_command, dearest_slot;
 
 static void say(const char *text)
 {
@@ -118,7 +121,7 @@ APART do_byte(uint32_t a)
 
 APART do_event(uint32_t a)
 {
-    MEASURED(event(state, sizeof state, cal, sizeof cal, meas, sizeof meas, a, 0x9A9B));
+    MEASURED(event(state, sizeof state, cal, lent, meas, lent, a, 0x9A9B));
 }
 
 APART do_slot(uint32_t a)
@@ -129,6 +132,15 @@ APART do_slot(uint32_t a)
 
 static uint32_t (*const doing[CALLS])(uint32_t) = {do_power_up, do_byte, do_event, do_slot};
 
+static void note(struct dearest *d, uint32_t which)
+{
+    if (counted > d->instructions) {
+        d->instructions = counted;
+        d->stack = depth;
+        d->which = which;
+    }
+}
+
 static uint32_t call(int which, uint32_t with)
 {
     uint32_t result = doing[which](with);
@@ -137,11 +149,10 @@ static uint32_t call(int which, uint32_t with)
         fail("a call went deeper than was painted");
     if (depth > deepest[which])
         deepest[which] = depth;
-    if (which == BYTE && XCP_NUMBER(result) == XCP_TAKEN && command != CHECKSUM && counted > dearest.instructions) {
-        dearest.instructions = counted;
-        dearest.stack = depth;
-        dearest.code = command;
-    }
+    if (which == BYTE && XCP_NUMBER(result) == XCP_TAKEN && command != CHECKSUM)
+        note(&dearest_command, command);
+    if (which == SLOT)
+        note(&dearest_slot, XCP_SIZE(result));
     return result;
 }
 
@@ -161,6 +172,20 @@ static void show(const char *what, uint32_t result, uint32_t number, uint32_t va
     say("\n");
 }
 
+/* A line of the dearest of some calls, with the number of that one. */
+static void show_dearest(const char *what, const struct dearest *d, uint32_t base, const char *unit)
+{
+    say(what);
+    say("|");
+    say_number(d->instructions, 10);
+    say(" (");
+    say_number(d->which, base);
+    say(unit);
+    say(")|");
+    say_number(d->stack, 10);
+    say("\n");
+}
+
 /* The frame of a slot that was just made: its packet begins so, behind SYNC, LEN and CTR. */
 static void began(uint8_t first)
 {
@@ -168,16 +193,12 @@ static void began(uint8_t first)
         fail("a slot sent another packet than was to be measured");
 }
 
-/* Four lists of five and seven bytes, all running on event 0. */
-static void start_lists(void)
+/* Four lists, all running on event 0, each at its own address. */
+static void start_lists(uint8_t fours, uint8_t extension, uint8_t apart)
 {
+    ASK(0xDD, 0);
     for (uint8_t list = 0; list < 4; list++) {
-        for (uint8_t odt = 0; odt < 2; odt++) {
-            ASK(0xE2, 0, list, 0, odt, 0);
-            ASK(0xE1, 0xFF, 4, 1, (uint8_t)(0x10 * list), 0, 0, 0);
-            ASK(0xE1, 0xFF, (uint8_t)(odt ? 3 : 1), 1, (uint8_t)(0x10 * list), 0, 0, 0);
-        }
-        ASK(0xE0, 0x10, list, 0, 0, 0, 1, 0);
+        set_up(list, fours, extension, (uint8_t)(apart * list));
         ASK(0xDE, 1, list, 0);
     }
 }
@@ -192,48 +213,65 @@ static void bytes(void)
     show("a byte inside a message", call(BYTE, 0x11), XCP_DONE, 0);
 }
 
+/* A command whose last byte has just returned this: a line of it, and its answer must begin so. */
+static void ended(const char *what, uint32_t result, uint8_t first)
+{
+    show(what, result, XCP_TAKEN, 0);
+    call(SLOT, 0);
+    began(first);
+}
+
 static void commands(void)
 {
     open_session();
-    show("the last byte of SYNCH", TELL(0xFC), XCP_TAKEN, 0);
-    call(SLOT, 0);
-    began(0xFE);
+    ended("the last byte of SYNCH", TELL(0xFC), 0xFE);
     ASK(0xF6, 0, 0, 1, 0, 0, 0, 0);
-    show("the last byte of UPLOAD, 7 bytes", TELL(0xF5, 7), XCP_TAKEN, 0);
-    call(SLOT, 0);
-    began(0xFF);
+    ended("the last byte of UPLOAD, 7 bytes", TELL(0xF5, 7), 0xFF);
+    ended("the last byte of UPLOAD, 63 bytes", TELL(0xF5, 63), 0xFF);
     ASK(0xF6, 0, 0, 0, 0, 0, 0, 0);
-    show("the last byte of DOWNLOAD, 6 bytes", TELL(0xF0, 6, 1, 2, 3, 4, 5, 6), XCP_TAKEN, 0);
-    call(SLOT, 0);
-    began(0xFF);
+    ended("the last byte of DOWNLOAD, 6 bytes", TELL(0xF0, 6, 1, 2, 3, 4, 5, 6), 0xFF);
+    ended("the last byte of DOWNLOAD, 62 bytes", TELL_WITH(62, 0xF0, 62), 0xFF);
+    ended("the last byte of SHORT_DOWNLOAD, 56 bytes", TELL_WITH(56, 0xED, 56, 0, 0, 0, 0, 0, 0), 0xFF);
     ASK(0xF6, 0, 0, 1, 0, 0, 0, 0);
-    show("the last byte of BUILD_CHECKSUM, 4,096 bytes", TELL(CHECKSUM, 0, 0, 0, 0x00, 0x10, 0, 0), XCP_TAKEN, 0);
-    call(SLOT, 0);
-    began(0xFF);
+    ended("the last byte of BUILD_CHECKSUM, 4,096 bytes", TELL(CHECKSUM, 0, 0, 0, 0x00, 0x10, 0, 0), 0xFF);
+    ended("the last byte of CONNECT in a session", TELL(0xFF, 0), 0xFF);
+    ASK(0xF8, 0, 1);
+    ended("the last byte of UNLOCK, a wrong key", TELL(0xF7, 4, 0, 0, 0, 0), 0xFE);
 }
 
 /* What a sum takes follows from its size, but not in step with it: what is left behind whole runs has loops of its own. So every
  * size is tried. */
 static void checksums(void)
 {
-    uint32_t most = 0, stack = 0, size = 0;
+    struct dearest sum = {0, 0, 0};
     open_session();
     for (uint32_t n = 1; n <= sizeof meas; n++) {
         ASK(0xF6, 0, 0, 1, 0, 0, 0, 0);
         if (XCP_NUMBER(TELL(CHECKSUM, 0, 0, 0, (uint8_t)n, (uint8_t)(n >> 8), 0, 0)) != XCP_TAKEN)
             fail("a BUILD_CHECKSUM was not taken");
-        if (counted > most)
-            most = counted, stack = depth, size = n;
+        note(&sum, n);
         if (XCP_SIZE(call(SLOT, 0)) < 12) /* a sum has eight bytes in its packet, a refusal two */
             fail("a BUILD_CHECKSUM was refused");
     }
-    say("the last byte of the dearest BUILD_CHECKSUM|");
-    say_number(most, 10);
-    say(" (");
-    say_number(size, 10);
-    say(" bytes)|");
-    say_number(stack, 10);
-    say("\n");
+    show_dearest("the last byte of the dearest BUILD_CHECKSUM", &sum, 10, " bytes");
+}
+
+/* What an event takes follows from what its entries find: in either memory, all their bytes or some or none. */
+static void events(void)
+{
+    struct dearest sampling = {0, 0, 0};
+    open_session();
+    for (uint8_t extension = 0; extension < 2; extension++) {
+        start_lists(15, extension, 0);
+        for (uint32_t n = 0; n <= 5; n++) {
+            lent = n < 5 ? n : sizeof meas;
+            if (call(EVENT, 0) != 4 << 8)
+                fail("an event did not sample four lists");
+            note(&sampling, lent);
+            drain();
+        }
+    }
+    show_dearest("the dearest event", &sampling, 10, " bytes lent");
 }
 
 static void slots(void)
@@ -242,14 +280,21 @@ static void slots(void)
     TELL(0xF4, 7, 0, 1, 0, 0, 0, 0);
     show("a slot with an answer of 8 bytes", call(SLOT, 0), XCP_DONE, 12);
     began(0xFF);
+    TELL(0xF4, 63, 0, 1, 0, 0, 0, 0);
+    show("a slot with an answer of 64 bytes", call(SLOT, 0), XCP_DONE, 68);
+    began(0xFF);
     show("an idle slot", call(SLOT, 0), XCP_DONE, 0);
-    start_lists();
-    show("an event of four full lists", call(EVENT, 0), XCP_DONE, 4 << 8);
+    start_lists(1, 1, 0x10);
+    show("an event of four lists of 5 and 7 bytes", call(EVENT, 0), XCP_DONE, 4 << 8);
     show("a slot with a sample of 8 bytes", call(SLOT, 0), XCP_DONE, 14); /* its clock is sent as two pairs */
     began(0x00);
-    while (XCP_SIZE(call(SLOT, 0)) > 0)
-        ;
+    drain();
     show("an idle slot while four lists run", call(SLOT, 0), XCP_DONE, 0);
+    start_lists(15, 1, 0x10);
+    show("an event of four full lists", call(EVENT, 0), XCP_DONE, 4 << 8);
+    /* Its clock is sent as two pairs; the round goes on after list 3. */
+    show("a slot with a sample of 64 bytes", call(SLOT, 0), XCP_DONE, 70);
+    began(0x00);
 }
 
 static __attribute__((noinline)) uint32_t timed_loop(uint32_t turns)
@@ -285,20 +330,17 @@ int main(void)
     commands();
     checksums();
     slots();
+    events();
     everything();
-    say("the last byte of the dearest other command|");
-    say_number(dearest.instructions, 10);
-    say(" (");
-    say_number(dearest.code, 16);
-    say(")|");
-    say_number(dearest.stack, 10);
+    show_dearest("the dearest slot", &dearest_slot, 10, " bytes sent");
+    show_dearest("the last byte of the dearest other command", &dearest_command, 16, "");
     for (int which = 0; which < CALLS; which++) {
-        say("\ndeepest of ");
+        say("deepest of ");
         say(names[which]);
         say("||");
         say_number(deepest[which], 10);
+        say("\n");
     }
-    say("\n");
     end(0);
     return 0;
 }

@@ -1,4 +1,4 @@
-//! The two inputs of a million bytes: a clean line, and a dirty one.
+//! The inputs of a million bytes: a clean line with short packets and with long ones, and a dirty one.
 
 use crate::master::{Load, Master, ESC, SYNC};
 use crate::subject::Called;
@@ -34,6 +34,19 @@ fn command(dice: &mut Dice) -> Vec<u8> {
     }
 }
 
+/// The same with as many bytes of data as a packet holds.
+fn long_command(dice: &mut Dice) -> Vec<u8> {
+    let place = dice.byte() & 0x7F;
+    let (mut packet, count) = match dice.below(4) {
+        0 => return vec![0xF5, 63],
+        1 => return vec![0xF6, 0, 0, 0, place, 1, 0, 0],
+        2 => (vec![0xF0, 62], 62),
+        _ => (vec![0xED, 56, 0, 0, place, 2, 0, 0], 56),
+    };
+    packet.extend((0..count).map(|_| dice.byte()));
+    packet
+}
+
 /// A master ready to download: it has a session, the locks and an address.
 fn ready() -> Master<Called> {
     let mut master = Master::new();
@@ -43,12 +56,20 @@ fn ready() -> Master<Called> {
 }
 
 /// Commands one after another, each answered before the next.
-pub fn clean() -> Load {
+fn clean_of(command: fn(&mut Dice) -> Vec<u8>) -> Load {
     let (mut master, mut dice) = (ready(), Dice(1));
     while master.load.bytes.len() < BYTES {
         master.ask(&command(&mut dice));
     }
     master.load
+}
+
+pub fn clean() -> Load {
+    clean_of(command)
+}
+
+pub fn clean_and_long() -> Load {
+    clean_of(long_command)
 }
 
 /// Damage of every kind among the commands, and noise between them.
@@ -74,7 +95,7 @@ fn dirt(master: &mut Master<Called>, dice: &mut Dice) {
             master.wire(&frame);
             frame = master.frame(&[0xFF, 0]);
         }
-        3 => frame[1] = [0, 9, 0x40, 0xFF][place % 4],
+        3 => frame[1] = [0, 0x41, 0x80, 0xFF][place % 4],
         4 => {
             frame.insert(2, 0x55);
             frame.insert(2, ESC);

@@ -79,28 +79,74 @@ fn checked(load: Load, wanted: &[u32]) -> Load {
     load
 }
 
-fn main() {
+/// The rows of a million bytes.
+fn received() {
     let clean = checked(loads::clean(), &[0, 1]);
     print_row(
         "a byte of a million clean ones, slots between",
         &bytes(&clean),
+    );
+    let long = checked(loads::clean_and_long(), &[0, 1]);
+    print_row(
+        "a byte of a million clean ones in long packets, slots between",
+        &bytes(&long),
     );
     let dirty = checked(loads::dirty(), &[0, 1, 2, 3, 4, 5, 6, 7]);
     print_row(
         "a byte of a million damaged ones, slots between",
         &bytes(&dirty),
     );
+}
+
+/// The rows of the bytes that end a command, with the extension that the address is set in before.
+fn commands() {
+    let data = |head: &[u8], count: usize| [head, &[0x55].repeat(count)].concat();
+    for (what, extension, packet) in [
+        ("CONNECT in a session", 0, vec![0xFF, 0]),
+        ("UPLOAD of 7", 1, vec![0xF5, 7]),
+        ("UPLOAD of 63", 1, vec![0xF5, 63]),
+        ("DOWNLOAD of 6", 0, data(&[0xF0, 6], 6)),
+        ("DOWNLOAD of 62", 0, data(&[0xF0, 62], 62)),
+        (
+            "SHORT_DOWNLOAD of 56",
+            0,
+            data(&[0xED, 56, 0, 0, 0, 0, 0, 0], 56),
+        ),
+        (
+            "BUILD_CHECKSUM over 4,096",
+            1,
+            vec![0xF3, 0, 0, 0, 0x00, 0x10, 0, 0],
+        ),
+    ] {
+        print_row(
+            &format!("the byte that ends {}", what),
+            &single::command(extension, &packet),
+        );
+    }
+}
+
+fn main() {
+    received();
+    commands();
     print_row(
-        "the byte that ends BUILD_CHECKSUM over 4,096",
-        &single::checksum(),
+        "an event that samples four lists of 5 and 7 bytes",
+        &single::event(1),
     );
-    print_row("an event that samples four full lists", &single::event());
+    print_row("an event that samples four full lists", &single::event(15));
     print_row(
         "a slot that sends an answer of 8 bytes",
-        &single::slot_of_answer(),
+        &single::slot_of_answer(7),
+    );
+    print_row(
+        "a slot that sends an answer of 64 bytes",
+        &single::slot_of_answer(63),
     );
     print_row(
         "a slot that sends a sample of 8 bytes",
-        &single::slot_of_sample(),
+        &single::slot_of_sample(1),
+    );
+    print_row(
+        "a slot that sends a sample of 64 bytes",
+        &single::slot_of_sample(15),
     );
 }

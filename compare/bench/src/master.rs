@@ -1,10 +1,9 @@
 //! A master that talks to one slave, and keeps what it sent so that others can be given the same.
 
-use crate::subject::{Memories, Subject};
+use crate::subject::{Memories, Subject, ROOM};
 
 pub const SYNC: u8 = 0x9A;
 pub const ESC: u8 = 0x9B;
-pub const ROOM: usize = 23;
 const CALIBRATION: (u8, u32) = (0x01, 0xD05E);
 const LISTS: (u8, u32) = (0x04, 0xDA00);
 
@@ -96,12 +95,14 @@ impl<S: Subject> Master<S> {
         }
     }
 
-    /// Four lists of five and seven bytes, all running on event 0.
-    pub fn start_lists(&mut self) {
+    /// Four lists, all running on event 0, with so many entries of 4 bytes in each ODT and then one
+    /// of 1 or 3: five and seven bytes for one such entry, as many as there can be for fifteen.
+    pub fn start_lists(&mut self, fours: usize) {
         for list in 0..4 {
-            for (odt, sizes) in [(0, [4, 1]), (1, [4, 3])] {
+            for (odt, last) in [(0, 1), (1, 3)] {
                 self.ask(&[0xE2, 0, list, 0, odt, 0]);
-                for size in sizes {
+                for entry in 0..=fours {
+                    let size = if entry < fours { 4 } else { last };
                     self.ask(&[0xE1, 0xFF, size, 1, 0x10 * list, 0, 0, 0]);
                 }
             }

@@ -1,12 +1,14 @@
-//! Single calls: a long one, an event, slots.
+//! Single calls: the byte that ends a command, an event, slots.
 
-use crate::master::{Master, ROOM};
+use crate::master::Master;
 use crate::subject::{Called, Inlined, Memories, Proved, Subject};
 use crate::timing::{calls, median};
 
 /// Few enough slaves for the fastest memory of any processor.
-const SLAVES: usize = 32;
-const RUNS: usize = 4001;
+const SLAVES: usize = 8;
+/// A clock may make steps as long as a call; the mean of so many turns is finer.
+const TURNS: usize = 20;
+const RUNS: usize = 401;
 
 pub struct Times {
     pub proved: f64,
@@ -22,7 +24,7 @@ struct Ready<S: Subject> {
 }
 
 impl<S: Subject> Ready<S> {
-    fn new(prepare: fn(&mut Master<S>)) -> Ready<S> {
+    fn new(prepare: impl Fn(&mut Master<S>)) -> Ready<S> {
         let mut master = Master::new();
         master.open();
         prepare(&mut master);
@@ -34,45 +36,43 @@ impl<S: Subject> Ready<S> {
     }
 
     fn time(&mut self, call: &impl Fn(&mut S, &mut Memories) -> u32) -> f64 {
-        self.slaves.fill(self.before.clone());
-        calls(&mut self.slaves, &mut self.memories, call)
+        let mut times = 0.0;
+        for _ in 0..TURNS {
+            self.slaves.fill(self.before.clone());
+            times += calls(&mut self.slaves, &mut self.memories, call);
+        }
+        times / TURNS as f64
     }
 }
 
-/// BUILD_CHECKSUM over 4,096 bytes: all but the last byte of its frame has come.
-fn before_checksum<S: Subject>(master: &mut Master<S>) {
-    master.ask(&[0xF6, 0, 0, 1, 0, 0, 0, 0]);
-    let frame = master.frame(&[0xF3, 0, 0, 0, 0x00, 0x10, 0, 0]);
-    assert_eq!(frame.len(), 12, "the checksum's frame has no escape");
-    master.wire(&frame[..11]);
+/// The frame of a command; the address is set before it, in this extension.
+fn aimed<S: Subject>(master: &mut Master<S>, extension: u8, packet: &[u8]) -> Vec<u8> {
+    master.ask(&[0xF6, 0, 0, extension, 0, 0, 0, 0]);
+    master.frame(packet)
 }
 
 /// CTR and bytes of that frame are the same for every slave, so is its last byte.
-fn last_byte() -> u8 {
+fn last_byte(extension: u8, packet: &[u8]) -> u8 {
     let mut master = Master::<Called>::new();
     master.open();
-    master.ask(&[0xF6, 0, 0, 1, 0, 0, 0, 0]);
-    master.frame(&[0xF3, 0, 0, 0, 0x00, 0x10, 0, 0])[11]
+    let frame = aimed(&mut master, extension, packet);
+    master.wire(&frame);
+    assert_eq!(master.slot()[0], 0xFF, "a command that is timed is done");
+    frame[frame.len() - 1]
 }
 
-fn before_event<S: Subject>(master: &mut Master<S>) {
-    master.start_lists();
+/// All but the last byte of the command has come.
+fn all_but_last<S: Subject>(master: &mut Master<S>, extension: u8, packet: &[u8]) {
+    let frame = aimed(master, extension, packet);
+    master.wire(&frame[..frame.len() - 1]);
 }
 
-fn before_sample<S: Subject>(master: &mut Master<S>) {
-    master.start_lists();
-    master.slave.event(&master.memories, 0, 0x1234);
-}
-
-fn before_answer<S: Subject>(master: &mut Master<S>) {
-    master.send(&[0xF4, 7, 0, 1, 0, 2, 0, 0]);
-}
-
-pub fn checksum() -> Times {
-    let last = last_byte();
-    let mut proved = Ready::<Proved>::new(before_checksum);
-    let mut called = Ready::<Called>::new(before_checksum);
-    let mut inlined = Ready::<Inlined>::new(before_checksum);
+/// The byte that ends this command.
+pub fn command(extension: u8, packet: &[u8]) -> Times {
+    let last = last_byte(extension, packet);
+    let mut proved = Ready::<Proved>::new(|m| all_but_last(m, extension, packet));
+    let mut called = Ready::<Called>::new(|m| all_but_last(m, extension, packet));
+    let mut inlined = Ready::<Inlined>::new(|m| all_but_last(m, extension, packet));
     let mut times = [Vec::new(), Vec::new(), Vec::new()];
     for _ in 0..RUNS {
         times[0].push(proved.time(&|s, m| s.byte(m, last)));
@@ -86,9 +86,10 @@ pub fn checksum() -> Times {
     }
 }
 
-pub fn event() -> Times {
-    let mut proved = Ready::<Proved>::new(before_event);
-    let mut called = Ready::<Called>::new(before_event);
+/// An event of four lists with so many entries of 4 bytes in each ODT, and one more.
+pub fn event(fours: usize) -> Times {
+    let mut proved = Ready::<Proved>::new(|m| m.start_lists(fours));
+    let mut called = Ready::<Called>::new(|m| m.start_lists(fours));
     let mut times = [Vec::new(), Vec::new()];
     for _ in 0..RUNS {
         times[0].push(proved.time(&|s, m| s.event(m, 0, 7)));
@@ -97,21 +98,33 @@ pub fn event() -> Times {
     in_two(&mut times)
 }
 
-pub fn slot_of_answer() -> Times {
-    slots(before_answer, before_answer)
+/// A slot with an answer of so many bytes behind FF.
+pub fn slot_of_answer(count: u8) -> Times {
+    let packet = [0xF4, count, 0, 1, 0, 2, 0, 0];
+    slots(
+        Ready::new(|m| m.send(&packet)),
+        Ready::new(|m| m.send(&packet)),
+    )
 }
 
-pub fn slot_of_sample() -> Times {
-    slots(before_sample, before_sample)
+/// A slot with a sample of such a list.
+pub fn slot_of_sample(fours: usize) -> Times {
+    slots(
+        Ready::new(|m| sampled(m, fours)),
+        Ready::new(|m| sampled(m, fours)),
+    )
 }
 
-fn slots(first: fn(&mut Master<Proved>), second: fn(&mut Master<Called>)) -> Times {
-    let mut proved = Ready::new(first);
-    let mut called = Ready::new(second);
+fn sampled<S: Subject>(master: &mut Master<S>, fours: usize) {
+    master.start_lists(fours);
+    master.slave.event(&master.memories, 0, 0x1234);
+}
+
+fn slots(mut proved: Ready<Proved>, mut called: Ready<Called>) -> Times {
     let mut times = [Vec::new(), Vec::new()];
     for _ in 0..RUNS {
-        times[0].push(proved.time(&|s, _| s.slot(&mut [0; ROOM])));
-        times[1].push(called.time(&|s, _| s.slot(&mut [0; ROOM])));
+        times[0].push(proved.time(&|s, m| s.slot(&mut m.room)));
+        times[1].push(called.time(&|s, m| s.slot(&mut m.room)));
     }
     in_two(&mut times)
 }

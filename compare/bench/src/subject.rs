@@ -2,12 +2,15 @@
 
 use plain::Slave;
 
-pub const STATE: usize = 249;
+pub const STATE: usize = 945;
 pub const LENGTH: usize = 4096;
+pub const ROOM: usize = 135;
 
 pub struct Memories {
     pub cal: Vec<u8>,
     pub meas: Vec<u8>,
+    /// For a slot that is timed.
+    pub room: [u8; ROOM],
 }
 
 impl Memories {
@@ -15,6 +18,7 @@ impl Memories {
         Memories {
             cal: vec![0; LENGTH],
             meas: (0..LENGTH).map(|i| (i * 7 + i / 64) as u8).collect(),
+            room: [0; ROOM],
         }
     }
 }

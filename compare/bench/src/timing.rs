@@ -1,7 +1,7 @@
 //! Times of several runs, taken in turn.
 
-use crate::master::{Load, ROOM};
-use crate::subject::{Memories, Subject};
+use crate::master::Load;
+use crate::subject::{Memories, Subject, ROOM};
 use std::ops::Range;
 use std::time::Instant;
 
@@ -82,12 +82,16 @@ pub fn calls<S: Subject>(
     memories: &mut Memories,
     call: &impl Fn(&mut S, &mut Memories) -> u32,
 ) -> f64 {
-    let (mut sum, begin) = (0, Instant::now());
+    let mut sum = 0;
+    let before = Instant::now();
+    let begin = Instant::now();
     for slave in slaves.iter_mut() {
         sum += call(slave, memories);
     }
     let time = begin.elapsed().as_nanos() as f64;
     // Always so; it keeps the calls from being left out.
     assert!(sum > 0, "a call that was timed did nothing");
-    time / slaves.len() as f64
+    // What it takes to look at the clock is not theirs.
+    let clock = (begin - before).as_nanos() as f64;
+    (time - clock) / slaves.len() as f64
 }

@@ -4,7 +4,7 @@ use crate::step::MEMORY;
 use crate::wire::hex;
 
 /// More than is ever lent to a slot, so that bytes past the room are seen too.
-pub const ROOM: usize = 40;
+pub const ROOM: usize = 160;
 pub const UNTOUCHED: u8 = 0xEE;
 
 #[derive(Clone, Debug, Default, PartialEq, Eq)]

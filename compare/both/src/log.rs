@@ -3,13 +3,12 @@
 use crate::proved::{first_unlike, Proved, STATE};
 use crate::reference::expected;
 use crate::step::{Call, Step};
-use crate::wire::hex;
+use crate::wire::{hex, FRAME};
 
-/// What the replay program lends: to each memory, and to a slot.
+/// What the replay program lends to each memory; to a slot it lends no more than the longest frame.
 const REPLAYED: usize = 4096;
-const ROOM: usize = 23;
 /// The longest body of a record.
-const MOST: usize = 64;
+const MOST: usize = 256;
 
 /// The words of the first difference, and how many steps lead to it.
 fn first_difference(proved: &mut dyn Proved, steps: &[Step]) -> Option<(usize, String)> {
@@ -70,7 +69,7 @@ fn plainer(step: &Step) -> Vec<Step> {
     }];
     if let Call::Slot(_) = step.call {
         let mut roomy = steps[0].clone();
-        roomy.call = Call::Slot(ROOM);
+        roomy.call = Call::Slot(FRAME);
         steps.insert(0, roomy);
     }
     steps
@@ -135,7 +134,7 @@ fn words(call: &Call) -> String {
             record(2, &[*event as u8, clock[0], clock[1]])
         }
         Call::Event(event, clock) => format!("# event {} with clock {:04X}", event, clock),
-        Call::Slot(ROOM) => record(3, &[]),
+        Call::Slot(FRAME) => record(3, &[]),
         Call::Slot(room) => format!("# slot with room {}", room),
         Call::Measure(at, bytes) if usize::from(*at) + bytes.len() <= REPLAYED => {
             let parts = bytes.chunks(MOST - 2).zip((*at..).step_by(MOST - 2));

@@ -1,8 +1,9 @@
 //! Calls by chance: a master that mostly does well, damage, noise, a restless host.
 
 use crate::rig::Rig;
-use crate::tool::{key, unlock_packet, with_address, CALIBRATION, LISTS};
-use crate::wire::{frame, ESC, SYNC};
+use crate::seen::ROOMS;
+use crate::tool::{download, key, short_download, unlock_packet, with_address, CALIBRATION, LISTS};
+use crate::wire::{frame, ESC, FRAME, LONGEST, SYNC};
 
 /// So many turns with one pair of slaves, then others; it bounds the log of a difference.
 const TURNS: usize = 150;
@@ -44,7 +45,7 @@ fn turn(rig: &mut Rig) {
         23..=25 => crowd(rig),
         26..=31 => slots(rig),
         32 => {
-            let room = rig.dice.below(31);
+            let room = rig.dice.below(FRAME + 8);
             rig.slot(room);
         }
         33 => damaged(rig),
@@ -85,14 +86,17 @@ fn crowd(rig: &mut Rig) {
         if rig.dice.once_in(2) {
             event(rig);
         } else {
-            rig.slot(23);
+            rig.slot(FRAME);
         }
     }
 }
 
 fn slots(rig: &mut Rig) {
     for _ in 0..rig.dice.below(6) {
-        let room = rig.dice.one_of(&[0, 1, 22, 23, 23, 24, 30, 30]);
+        let room = match rig.dice.below(3) {
+            0 => rig.dice.one_of(&ROOMS),
+            _ => FRAME,
+        };
         rig.slot(room);
     }
 }
@@ -105,7 +109,7 @@ fn event(rig: &mut Rig) {
 
 fn measure(rig: &mut Rig) {
     let at = rig.dice.one_of(&[0, 0, 8, 250, 4080]);
-    let bytes: Vec<u8> = (0..16).map(|_| rig.dice.byte()).collect();
+    let bytes = data(rig, 16);
     rig.measure(at, &bytes);
 }
 
@@ -128,18 +132,41 @@ fn list(rig: &mut Rig) {
     // A waiting answer would have all of it dropped.
     rig.drain();
     let number = rig.dice.below(4) as u8;
-    let bytes = [
-        rig.dice.below(7) as u8,
-        rig.dice.one_of(&[0, 0, 1, 3, 7, 8]),
-    ];
-    let extension = rig.dice.below(2) as u8;
-    let address = address(rig);
     rig.turn(0, number);
-    rig.fill(number, bytes, extension, address.min(5000));
+    match rig.dice.below(12) {
+        // Seldom, since each of so many entries takes a command.
+        0 => filled(rig, number, [60, 61, 62], [62, 63, 64]),
+        1..=4 => scattered(rig, number),
+        _ => filled(rig, number, [1, 5, 6], [0, 1, 7]),
+    }
     let event = rig.dice.below(2) as u8;
     rig.set_mode(number, event);
     let mode = rig.dice.one_of(&[1, 1, 1, 2]);
     rig.turn(mode, number);
+}
+
+/// Entries one after another, with one of these numbers of bytes in each ODT.
+fn filled(rig: &mut Rig, list: u8, first: [u8; 3], second: [u8; 3]) {
+    let bytes = [rig.dice.one_of(&first), rig.dice.one_of(&second)];
+    let extension = rig.dice.below(2) as u8;
+    let address = address(rig).min(5000);
+    rig.fill(list, bytes, extension, address);
+}
+
+/// Entries here and there, in a list that is cleared only now and then.
+fn scattered(rig: &mut Rig, list: u8) {
+    if rig.dice.once_in(3) {
+        rig.ask(&[0xE3, 0, list, 0]);
+    }
+    for _ in 0..1 + rig.dice.below(4) {
+        let (odt, entry) = (rig.dice.below(2) as u8, rig.dice.below(16) as u8);
+        rig.point(list, odt, entry);
+        for _ in 0..1 + rig.dice.below(2) {
+            let (size, extension) = (rig.dice.below(5) as u8, rig.dice.below(2) as u8);
+            let address = rig.dice.below(32) as u32;
+            rig.write_entry(size, extension, address);
+        }
+    }
 }
 
 fn address(rig: &mut Rig) -> u32 {
@@ -159,12 +186,40 @@ fn address(rig: &mut Rig) -> u32 {
     }
 }
 
+fn data(rig: &mut Rig, count: usize) -> Vec<u8> {
+    (0..count).map(|_| rig.dice.byte()).collect()
+}
+
+/// Mostly few, since a long packet takes as many calls as ten short ones.
+fn count(rig: &mut Rig) -> u8 {
+    match rig.dice.below(8) {
+        0 => rig.dice.one_of(&[0, 55, 56, 57, 61, 62, 63, 64]),
+        _ => rig.dice.below(9) as u8,
+    }
+}
+
 /// A command that is likely to be done, spoilt now and then.
 fn command(rig: &mut Rig) -> Vec<u8> {
+    let mut packet = good_command(rig);
+    if rig.dice.once_in(10) {
+        let at = rig.dice.below(packet.len());
+        packet[at] = rig.dice.byte();
+    }
+    match rig.dice.below(40) {
+        0 | 1 => packet.truncate(1 + rig.dice.below(8)),
+        2 if packet.len() > 1 => packet.truncate(packet.len() - 1),
+        3 => packet.resize(LONGEST, 0x9B),
+        _ => {}
+    }
+    packet.truncate(LONGEST);
+    packet
+}
+
+fn good_command(rig: &mut Rig) -> Vec<u8> {
     let (few, list) = (rig.dice.below(3) as u8, rig.dice.below(4) as u8);
-    let (count, extension) = (rig.dice.below(9) as u8, rig.dice.below(2) as u8);
-    let address = address(rig);
-    let mut packet = match rig.dice.below(32) {
+    let (count, extension) = (count(rig), rig.dice.below(2) as u8);
+    let (address, entry) = (address(rig), rig.dice.below(17) as u8);
+    match rig.dice.below(36) {
         0 => vec![rig.dice.one_of(&[0xFC, 0xFC, 0xFC, 0xFF, 0xFE]), 0],
         1 | 2 => vec![rig.dice.one_of(&[0xFD, 0xDA, 0xD9])],
         3 => vec![rig.dice.any_byte(), few, list, 0, few, 0, 1, 0],
@@ -173,25 +228,15 @@ fn command(rig: &mut Rig) -> Vec<u8> {
         8..=10 => vec![0xF5, count],
         11..=13 => with_address([0xF4, count, 0, extension], address),
         14 | 15 => with_address([0xF3, 0, 0, 0], address),
-        16..=19 => {
-            let data: Vec<u8> = (0..6).map(|_| rig.dice.byte()).collect();
-            [&[0xF0, count][..], &data].concat()
-        }
-        20 => vec![0xE3, 0, list, 0],
-        21 | 22 => vec![0xE2, 0, list, 0, extension, count % 4],
-        23..=25 => with_address([0xE1, 0xFF, count % 5, extension], address),
-        26 | 27 => vec![0xE0, 0x10, list, 0, extension, 0, 1, 0],
-        28 | 29 => vec![0xDE, few, list, 0],
+        16..=19 => download(count, &data(rig, count.into())),
+        20..=22 => short_download(count, extension, address, &data(rig, count.into())),
+        23 => vec![0xE3, 0, list, 0],
+        24 | 25 => vec![0xE2, 0, list, 0, extension, entry],
+        26..=29 => with_address([0xE1, 0xFF, count % 5, extension], address),
+        30 | 31 => vec![0xE0, 0x10, list, 0, extension, 0, 1, 0],
+        32 | 33 => vec![0xDE, few, list, 0],
         _ => vec![0xDD, few],
-    };
-    if rig.dice.once_in(10) {
-        let at = rig.dice.below(packet.len());
-        packet[at] = rig.dice.byte();
     }
-    if rig.dice.once_in(20) {
-        packet.truncate(1 + rig.dice.below(8));
-    }
-    packet
 }
 
 /// A frame with something wrong: cut, a byte changed, lost or put in, twice at once.
@@ -219,8 +264,9 @@ fn noise(rig: &mut Rig) {
         let byte = if plain {
             rig.dice.any_byte()
         } else {
-            // What makes messages by chance: short lengths and escapes.
-            rig.dice.one_of(&[SYNC, ESC, 0, 1, 1, 2, 0xFC, 0xFD, 0xFF])
+            // What makes messages by chance: short lengths and escapes; and the edges of LEN.
+            rig.dice
+                .one_of(&[SYNC, ESC, 0, 1, 1, 2, 64, 65, 0xFC, 0xFD, 0xFF])
         };
         rig.byte(byte);
     }

@@ -5,13 +5,12 @@ use crate::effect::Effect;
 use crate::log;
 use crate::proved::{first_unlike, Proved, STATE};
 use crate::reference::Reference;
-use crate::seen::{Seen, LENGTHS, WRONG_SIZES};
+use crate::seen::{Seen, LENGTHS, ROOMS, WRONG_SIZES};
 use crate::step::{Call, Step};
 use crate::wire;
 
 /// After so many differences the rest would say little more.
 const ENOUGH: usize = 5;
-const AMPLE: usize = 23;
 
 pub struct Rig {
     pub dice: Dice,
@@ -199,7 +198,7 @@ impl Rig {
     }
 
     fn answer(&mut self) -> Option<Vec<u8>> {
-        let packet = self.slot(AMPLE)?;
+        let packet = self.slot(wire::FRAME)?;
         (packet[0] >= 0xFE).then_some(packet)
     }
 
@@ -211,7 +210,7 @@ impl Rig {
             1 => Call::Byte(self.dice.byte()),
             // 10 comes before 8 and 9.
             2 => Call::Event(self.dice.below(3) as u32, self.dice.number() as u16),
-            _ => Call::Slot(self.dice.one_of(&[0, 22, 23, 30])),
+            _ => Call::Slot(self.dice.one_of(&ROOMS)),
         };
         self.call_with(call, size);
     }

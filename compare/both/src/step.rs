@@ -18,7 +18,7 @@ pub enum Call {
 #[derive(Clone, Debug, PartialEq, Eq)]
 pub struct Step {
     pub call: Call,
-    /// The size of the state; the plain slave has no such thing, so only 249 is for both.
+    /// The size of the state; the plain slave has no such thing, so only `STATE` is for both.
     pub state: usize,
     pub cal: usize,
     pub meas: usize,

@@ -1,6 +1,7 @@
 //! What a master does in several steps.
 
 use crate::rig::Rig;
+use crate::wire::FRAME;
 
 pub const CALIBRATION: u8 = 0x01;
 pub const LISTS: u8 = 0x04;
@@ -78,7 +79,7 @@ impl Rig {
     pub fn drain(&mut self) {
         // An answer and two packets of each list are the most that can wait.
         for _ in 0..10 {
-            self.slot(30);
+            self.slot(FRAME + 7);
         }
     }
 }
@@ -98,6 +99,21 @@ pub fn unlock_packet(key: u32) -> Vec<u8> {
     let mut packet = vec![0xF7, 4];
     packet.extend_from_slice(&key.to_le_bytes());
     packet
+}
+
+pub fn download(count: u8, data: &[u8]) -> Vec<u8> {
+    [&[0xF0, count][..], data].concat()
+}
+
+pub fn short_download(count: u8, extension: u8, address: u32, data: &[u8]) -> Vec<u8> {
+    let mut packet = with_address([0xED, count, 0, extension], address);
+    packet.extend_from_slice(data);
+    packet
+}
+
+/// So many bytes, of which each tells its place.
+pub fn rising(count: usize) -> Vec<u8> {
+    (1..=count).map(|byte| byte as u8).collect()
 }
 
 /// Four bytes, then an address or a size.

@@ -2,6 +2,10 @@
 
 pub const SYNC: u8 = 0x9A;
 pub const ESC: u8 = 0x9B;
+/// The longest packet.
+pub const LONGEST: usize = 64;
+/// The longest frame: one SYNC, then LEN, CTR, the longest packet and a checksum, each doubled.
+pub const FRAME: usize = 1 + 2 * (2 + LONGEST + 1);
 
 /// The message's bytes, checksum included, before they are escaped.
 fn message(ctr: u8, packet: &[u8]) -> Vec<u8> {
@@ -40,7 +44,7 @@ pub fn unframe(frame: &[u8]) -> Option<(u8, Vec<u8>)> {
         });
     }
     let packet = plain.get(2..plain.len().checked_sub(1)?)?.to_vec();
-    let right = (1..=8).contains(&packet.len()) && self::frame(plain[1], &packet) == frame;
+    let right = (1..=LONGEST).contains(&packet.len()) && self::frame(plain[1], &packet) == frame;
     right.then(|| (plain[1], packet))
 }
 

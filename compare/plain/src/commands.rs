@@ -8,8 +8,8 @@ use crate::packet::Packet;
 use crate::seed::{Generator, WrongKeys};
 use crate::session::Session;
 
-/// A good answer, or the FE answer of a refusal.
-type Answer = Result<Packet, Packet>;
+/// The code of the refusal, if there is one; a good answer is in its packet.
+type Outcome = Result<(), u8>;
 
 const LIST_RUNS: u8 = 0x11;
 const UNKNOWN: u8 = 0x20;
@@ -27,7 +27,7 @@ pub fn is_good_connect(packet: &[u8]) -> bool {
     packet.len() >= 2 && packet[0] == 0xFF && packet[1] == 0
 }
 
-/// Carries out a command and gives the answer that is to wait.
+/// Carries out a command and makes the answer that is to wait.
 pub fn answer(
     session: &mut Session,
     generator: &mut Generator,
@@ -35,53 +35,48 @@ pub fn answer(
     packet: &[u8],
     cal: &mut [u8],
     meas: &[u8],
-) -> Packet {
-    let result = match packet[0] {
-        0xFF => session.connect(packet),
+    answer: &mut Packet,
+) {
+    // The plain good answer, to which a command adds what it has to say.
+    answer.begin(&[0xFF]);
+    let outcome = match packet[0] {
+        0xFF => session.connect(packet, answer),
         0xFE => session.disconnect(),
-        0xFD => session.get_status(),
+        0xFD => session.get_status(answer),
         0xFC => session.synch(),
-        0xF8 => session.get_seed(packet, generator, *wrong_keys),
-        0xF7 => session.unlock(packet, wrong_keys),
+        0xF8 => session.get_seed(packet, generator, *wrong_keys, answer),
+        0xF7 => session.unlock(packet, wrong_keys, answer),
         0xF6 => session.set_mta(packet),
-        0xF5 => session.upload(packet, cal, meas),
-        0xF4 => session.short_upload(packet, cal, meas),
-        0xF3 => session.build_checksum(packet, cal, meas),
+        0xF5 => session.upload(packet, cal, meas, answer),
+        0xF4 => session.short_upload(packet, cal, meas, answer),
+        0xF3 => session.build_checksum(packet, cal, meas, answer),
         0xF0 => session.download(packet, cal),
+        0xED => session.short_download(packet, cal),
         0xE3 => session.clear_daq_list(packet),
         0xE2 => session.set_daq_ptr(packet),
         0xE1 => session.write_daq(packet, cal, meas),
         0xE0 => session.set_daq_list_mode(packet),
-        0xDE => session.start_stop_daq_list(packet),
+        0xDE => session.start_stop_daq_list(packet, answer),
         0xDD => session.start_stop_synch(packet),
-        0xDA => session.get_daq_processor_info(),
-        0xD9 => session.get_daq_resolution_info(),
-        _ => Err(refusal(UNKNOWN)),
+        0xDA => session.get_daq_processor_info(answer),
+        0xD9 => session.get_daq_resolution_info(answer),
+        _ => Err(UNKNOWN),
     };
-    match result {
-        Ok(packet) | Err(packet) => packet,
+    if let Err(code) = outcome {
+        answer.begin(&[0xFE, code]);
     }
 }
 
-/// The plain good answer.
-fn done() -> Answer {
-    Ok(Packet::new(&[0xFF]))
-}
-
-fn refusal(code: u8) -> Packet {
-    Packet::new(&[0xFE, code])
-}
-
-/// One check of a command; where it fails, its code is the answer.
-fn check(good: bool, code: u8) -> Result<(), Packet> {
+/// One check of a command; where it fails, its code is the answer's.
+fn check(good: bool, code: u8) -> Outcome {
     if good {
         Ok(())
     } else {
-        Err(refusal(code))
+        Err(code)
     }
 }
 
-fn at_least(packet: &[u8], fewest: usize) -> Result<(), Packet> {
+fn at_least(packet: &[u8], fewest: usize) -> Outcome {
     check(packet.len() >= fewest, SHORT)
 }
 

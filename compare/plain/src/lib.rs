@@ -32,7 +32,7 @@ pub struct Slave {
     // The rest runs on across sessions, so it is kept outside `session`.
     generator: Generator,
     wrong_keys: WrongKeys,
-    answer: Option<Packet>,
+    answer: Packet,
     ctr: u8,
     last_served: usize,
     last_was_answer: bool,
@@ -46,7 +46,7 @@ impl Slave {
             session: Session::closed(),
             generator: Generator::new(start),
             wrong_keys: WrongKeys::NONE,
-            answer: None,
+            answer: Packet::NONE,
             ctr: 0,
             last_served: lists::LISTS - 1,
             last_was_answer: false,
@@ -75,20 +75,20 @@ impl Slave {
     /// Judges a message whose checksum was right: 6, then 2, then taken.
     fn judge(&mut self, cal: &mut [u8], meas: &[u8]) -> u32 {
         let packet = self.reader.packet();
-        if self.answer.is_some() {
+        if self.answer.waits() {
             6
         } else if !self.session.open && !commands::is_good_connect(packet) {
             2
         } else {
-            let answer = commands::answer(
+            commands::answer(
                 &mut self.session,
                 &mut self.generator,
                 &mut self.wrong_keys,
                 packet,
                 cal,
                 meas,
+                &mut self.answer,
             );
-            self.answer = Some(answer);
             1
         }
     }
@@ -118,13 +118,16 @@ impl Slave {
         if out.len() < line::LONGEST_FRAME {
             return TOO_LITTLE_ROOM;
         }
-        match self.next_to_send() {
-            None => 0,
+        let ctr = self.ctr;
+        let size = match self.next_to_send() {
+            None => return 0,
             Some(packet) => {
-                let size = line::write_frame(out, self.ctr, packet.bytes());
-                self.ctr = self.ctr.wrapping_add(1);
-                size as u32
+                let size = line::write_frame(out, ctr, packet.bytes());
+                packet.clear();
+                size
             }
-        }
+        };
+        self.ctr = ctr.wrapping_add(1);
+        size as u32
     }
 }

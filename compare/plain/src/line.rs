@@ -6,7 +6,7 @@ pub const ESC: u8 = 0x9B;
 const FOR_ESC: u8 = 0x00;
 const FOR_SYNC: u8 = 0x01;
 
-pub const MAX_PACKET: usize = 8;
+pub const MAX_PACKET: usize = 64;
 const HEADER: usize = 2;
 const MAX_MESSAGE: usize = HEADER + MAX_PACKET + 1;
 /// One SYNC, and every byte after it doubled.

@@ -26,15 +26,19 @@ impl Session {
             seed: None,
             mta: Mta::Unset,
             pointer: Pointer::Unset,
-            lists: [List::cleared(); LISTS],
+            lists: [List::CLEARED; LISTS],
         }
     }
 
-    pub fn fresh() -> Session {
-        Session {
-            open: true,
-            ..Session::closed()
-        }
+    /// Ends it: the same as a closed one, but the lists are cleared where they are.
+    pub fn end(&mut self) {
+        self.open = false;
+        self.calibration_locked = true;
+        self.lists_locked = true;
+        self.seed = None;
+        self.mta = Mta::Unset;
+        self.pointer = Pointer::Unset;
+        self.lists.iter_mut().for_each(List::clear);
     }
 
     pub fn locked_mask(&self) -> u8 {

@@ -4,33 +4,42 @@ use crate::lists::LISTS;
 use crate::packet::Packet;
 use crate::Slave;
 
+enum Turn {
+    Answer,
+    List(usize),
+}
+
 impl Slave {
-    /// Takes out what is to be sent now, and notes what was sent last.
-    pub(crate) fn next_to_send(&mut self) -> Option<Packet> {
-        // Answers and lists take turns, so that neither can hold up the other.
-        if self.last_was_answer {
-            self.next_of_lists().or_else(|| self.next_answer())
-        } else {
-            self.next_answer().or_else(|| self.next_of_lists())
+    /// What is to be sent now; it is noted as what was sent last.
+    pub(crate) fn next_to_send(&mut self) -> Option<&mut Packet> {
+        match self.turn()? {
+            Turn::Answer => {
+                self.last_was_answer = true;
+                Some(&mut self.answer)
+            }
+            Turn::List(number) => {
+                self.last_served = number;
+                self.last_was_answer = false;
+                self.session.lists[number].next_packet()
+            }
         }
     }
 
-    fn next_answer(&mut self) -> Option<Packet> {
-        let packet = self.answer.take()?;
-        self.last_was_answer = true;
-        Some(packet)
+    /// Answers and lists take turns, so that neither can hold up the other.
+    fn turn(&self) -> Option<Turn> {
+        if self.answer.waits() && !self.last_was_answer {
+            return Some(Turn::Answer);
+        }
+        match self.next_list() {
+            Some(number) => Some(Turn::List(number)),
+            None => self.answer.waits().then_some(Turn::Answer),
+        }
     }
 
     /// The round begins after the list served last and ends with that list.
-    fn next_of_lists(&mut self) -> Option<Packet> {
-        for step in 1..=LISTS {
-            let number = (self.last_served + step) % LISTS;
-            if let Some(packet) = self.session.lists[number].take_packet() {
-                self.last_served = number;
-                self.last_was_answer = false;
-                return Some(packet);
-            }
-        }
-        None
+    fn next_list(&self) -> Option<usize> {
+        (1..=LISTS)
+            .map(|step| (self.last_served + step) % LISTS)
+            .find(|number| self.session.lists[*number].has_packet())
     }
 }

@@ -2,7 +2,8 @@
 
 use crate::rig::Rig;
 use crate::seen::LENGTHS;
-use crate::tool::with_address;
+use crate::tool::{download, rising, short_download, with_address};
+use crate::wire::LONGEST;
 
 pub fn run(rig: &mut Rig) {
     for length in LENGTHS {
@@ -37,10 +38,11 @@ fn fill(rig: &mut Rig) {
         rig.set_mta(0, address);
         rig.ask(&[0xF0, 6, 1, 2, 3, 4, 5, 6]);
     }
+    rig.ask(&short_download(56, 0, 4020, &rising(56)));
 }
 
 fn edges(rig: &mut Rig, extension: u8, reach: u32) {
-    for count in [1u8, 2, 4, 6, 7] {
+    for count in [1u8, 7, 56, 62, 63] {
         let n = u32::from(count);
         let last = reach.saturating_sub(n);
         let addresses = [
@@ -57,20 +59,37 @@ fn edges(rig: &mut Rig, extension: u8, reach: u32) {
         for address in addresses {
             // The other command goes on from where this one leaves the address.
             rig.ask(&with_address([0xF4, count, 0, extension], address));
-            rig.ask(&[0xF5, 8 - count]);
+            rig.ask(&[0xF5, LONGEST as u8 - count]);
             rig.set_mta(extension, address);
             rig.ask(&[0xF5, count]);
             // Shows whether the address moved on.
             rig.ask(&[0xF5, 1]);
             rig.set_mta(extension, address);
-            rig.ask(&[0xF0, count.min(6), 0x9A, count, 0x9B, address as u8, 5, 6]);
-            rig.ask(&[0xF0, 1, 0xA0]);
+            written(rig, count, extension, address);
             rig.point(0, 0, 0);
             rig.write_entry(count.min(4), extension, address);
             // Nothing is always inside.
             rig.write_entry(0, extension, address);
         }
     }
+}
+
+/// Each way to write so many bytes there, or as many as it can; a byte more goes where the address is.
+fn written(rig: &mut Rig, count: u8, extension: u8, address: u32) {
+    let mut data = rising(count.into());
+    data[0] = 0x9A ^ address as u8;
+    let most = count.min(62);
+    rig.ask(&download(most, &data[..most.into()]));
+    rig.ask(&[0xF0, 1, 0xA0]);
+    data[0] = !data[0];
+    let most = count.min(56);
+    rig.ask(&short_download(
+        most,
+        extension,
+        address,
+        &data[..most.into()],
+    ));
+    rig.ask(&[0xF0, 1, 0xA1]);
 }
 
 fn sums(rig: &mut Rig, extension: u8, reach: u32) {

@@ -2,9 +2,10 @@
 
 use crate::rig::Rig;
 use crate::tool::{CALIBRATION, LISTS};
+use crate::wire::LONGEST;
 
 /// Packets that are done in an open session.
-const GOOD: [&[u8]; 19] = [
+const GOOD: [&[u8]; 20] = [
     &[0xFF, 0],
     &[0xFE],
     &[0xFD],
@@ -16,6 +17,7 @@ const GOOD: [&[u8]; 19] = [
     &[0xF4, 4, 0, 1, 0x20, 0, 0, 0],
     &[0xF3, 0, 0, 0, 0x10, 0, 0, 0],
     &[0xF0, 3, 0xAA, 0x9A, 0x9B],
+    &[0xED, 3, 0, 0, 0x28, 0, 0, 0, 0xAA, 0x9A, 0x9B],
     &[0xE3, 0, 1, 0],
     &[0xE2, 0, 1, 0, 1, 2],
     &[0xE1, 0xFF, 2, 1, 0x20, 0, 0, 0],
@@ -26,8 +28,9 @@ const GOOD: [&[u8]; 19] = [
     &[0xD9],
 ];
 
-const EDGES: [u8; 17] = [
-    0, 1, 2, 3, 4, 5, 6, 7, 8, 9, 0x0F, 0x10, 0x11, 0x7F, 0x80, 0x9A, 0xFF,
+/// Around every limit of a byte: modes, lists, sizes and entries, then counts.
+const EDGES: [u8; 18] = [
+    0, 1, 2, 3, 4, 5, 15, 16, 17, 56, 57, 62, 63, 64, 0x7F, 0x80, 0x9A, 0xFF,
 ];
 
 /// Two bytes wrong at once show which is judged first.
@@ -106,7 +109,7 @@ fn aim(rig: &mut Rig, situation: Situation) {
         Situation::Locked | Situation::Unlocked | Situation::Shut => {}
         Situation::Set => {
             rig.set_mta(0, 0x20);
-            rig.point(1, 1, 3);
+            rig.point(1, 1, 15);
         }
         Situation::Running => {
             rig.set_mta(1, 0x20);
@@ -116,7 +119,7 @@ fn aim(rig: &mut Rig, situation: Situation) {
 }
 
 fn one_command(rig: &mut Rig, situation: Situation, good: &[u8]) {
-    for length in 1..=8 {
+    for length in (1..=8.max(good.len() + 1)).chain([LONGEST]) {
         // Bytes past the command are ignored, whatever they are.
         for more in [0, 0xFF] {
             let mut packet = good.to_vec();
@@ -153,6 +156,9 @@ fn other_codes(rig: &mut Rig, situation: Situation) {
         if GOOD.iter().all(|good| good[0] != code) {
             rig.ask(&[code]);
             rig.ask(&[code, 0, 1, 0, 0, 0, 1, 0]);
+            if code % 16 == 0 {
+                rig.ask(&[code; LONGEST]);
+            }
         }
     }
 }
@@ -169,7 +175,7 @@ fn attempt(rig: &mut Rig, situation: Situation, packet: &[u8]) {
             prepare(rig, situation);
         }
         0xFF | 0xFE | 0xF7 | 0xDE | 0xDD => prepare(rig, situation),
-        0xF6 | 0xF5 | 0xF3 | 0xF0 | 0xE2 | 0xE1 if !refused => {
+        0xF6 | 0xF5 | 0xF4 | 0xF3 | 0xF0 | 0xED | 0xE2 | 0xE1 if !refused => {
             aim(rig, situation);
         }
         _ => {}

@@ -2,13 +2,26 @@
 
 use crate::rig::Rig;
 use crate::seen::LENGTHS;
+use crate::tool::{rising, CALIBRATION, LISTS};
+use crate::wire::FRAME;
+
+/// As many bytes as each ODT holds.
+const FULL: [u8; 2] = [61, 63];
 
 pub fn run(rig: &mut Rig) {
-    for list in 0..4 {
-        sizes(rig, list);
+    sizes(
+        rig,
+        0,
+        &[0, 1, 4, 5, 60, 61, 62, 63, 64],
+        &[0, 1, 7, 62, 63, 64],
+    );
+    for list in 1..4 {
+        sizes(rig, list, &[0, 5, 61, 62], &[0, 7, 63, 64]);
     }
     pointer(rig);
+    entries(rig);
     cleared(rig);
+    emptied(rig);
     counts(rig);
     selections(rig);
     selected_first(rig);
@@ -17,13 +30,14 @@ pub fn run(rig: &mut Rig) {
     endings(rig);
 }
 
-/// Every number of bytes in each ODT, around what fits.
-fn sizes(rig: &mut Rig, list: u8) {
-    for first in 0..9 {
+/// Few bytes in each ODT, and around as many as fit.
+fn sizes(rig: &mut Rig, list: u8, firsts: &[u8], seconds: &[u8]) {
+    for &first in firsts {
         rig.begin(1, false);
         rig.open();
-        rig.measure(0, &[0x9A, 2, 3, 0x9B, 5, 6, 7, 8, 9]);
-        for second in 0..9 {
+        rig.measure(0, &rising(64));
+        rig.measure(0, &[0x9A, 2, 3, 0x9B]);
+        for &second in seconds {
             // Without a mode it never starts.
             rig.fill(list, [first, second], 1, 0);
             rig.turn(1, list);
@@ -31,7 +45,7 @@ fn sizes(rig: &mut Rig, list: u8) {
             rig.turn(1, list);
             rig.event(u32::from(first % 2), 0x9B9A);
             rig.event(u32::from(first % 2), 1);
-            rig.slot(23);
+            rig.slot(FRAME);
             rig.turn(1, list);
             rig.ask(&[0xE3, 0, list, 0]);
             // The pointer stays where it was.
@@ -49,9 +63,51 @@ fn pointer(rig: &mut Rig) {
     for list in 0..4 {
         for odt in 0..2 {
             rig.point(list, odt, 0);
-            for address in 0..5 {
+            for address in 0..17 {
                 rig.write_entry(1, 1, address);
             }
+            for entry in [15, 16, 17, 255] {
+                rig.point(list, odt, entry);
+                // A refused entry leaves it.
+                rig.write_entry(5, 1, 0);
+                rig.write_entry(1, 1, 0);
+            }
+        }
+    }
+}
+
+/// Starts the list, and shows what it samples.
+fn shown(rig: &mut Rig, list: u8) {
+    rig.set_mode(list, 0);
+    rig.turn(1, list);
+    rig.event(0, 0x0201);
+    rig.drain();
+    rig.turn(0, list);
+}
+
+/// Sixteen entries of every size, some written over, the last ones first.
+fn entries(rig: &mut Rig) {
+    for list in 0..4 {
+        rig.begin(1, false);
+        rig.open();
+        rig.measure(0, &rising(200));
+        for odt in 0..2 {
+            rig.point(list, odt, 0);
+            for entry in 0..16 {
+                rig.write_entry(entry as u8 % 5, 1, 7 * entry);
+            }
+        }
+        shown(rig, list);
+        for (odt, entry, size) in [(0, 4, 0), (1, 15, 0), (1, 0, 4), (0, 15, 4), (0, 0, 0)] {
+            rig.point(list, odt, entry);
+            rig.write_entry(size, 1, 150);
+            shown(rig, list);
+        }
+        rig.ask(&[0xE3, 0, list, 0]);
+        for entry in (0..16).rev() {
+            rig.point(list, entry % 2, entry);
+            rig.write_entry(1 + entry % 4, 1, u32::from(entry));
+            shown(rig, list);
         }
     }
 }
@@ -73,6 +129,40 @@ fn cleared(rig: &mut Rig) {
     }
 }
 
+/// However a full list came to be empty, an entry that is written then stands alone.
+fn emptied(rig: &mut Rig) {
+    let ways: [&[u8]; 4] = [
+        &[0xE3, 0, 2, 0],
+        &[0xFF, 0],
+        &[0xFE],
+        &[0xF7, 4, 0, 0, 0, 0],
+    ];
+    for way in 0..=ways.len() {
+        for (entry, size) in [(0, 1), (1, 2), (8, 0), (15, 4)] {
+            rig.begin(1, false);
+            rig.measure(0, &rising(200));
+            rig.connect();
+            rig.unlock(LISTS);
+            rig.seed(CALIBRATION);
+            rig.fill(2, FULL, 1, 0);
+            shown(rig, 2);
+            match ways.get(way) {
+                Some(packet) => {
+                    rig.ask(packet);
+                }
+                None => rig.power_up(1),
+            }
+            rig.open();
+            for odt in 0..2 {
+                rig.point(2, odt, entry);
+                rig.write_entry(size, 1, 100);
+                rig.write_entry(1, 1, 120);
+            }
+            shown(rig, 2);
+        }
+    }
+}
+
 /// Every count of lists that sample and that miss.
 fn counts(rig: &mut Rig) {
     rig.begin(1, false);
@@ -90,7 +180,7 @@ fn counts(rig: &mut Rig) {
             rig.drain();
             rig.event(1, 7);
             for _ in 0..sent {
-                rig.slot(23);
+                rig.slot(FRAME);
             }
             rig.event(1, 8);
             rig.event(0, 9);
@@ -151,7 +241,8 @@ fn turns(rig: &mut Rig) {
     rig.begin(1, false);
     rig.open();
     for list in 0..4 {
-        rig.fill(list, [5, 7], 1, u32::from(list));
+        let bytes = if list == 1 { FULL } else { [5, 7] };
+        rig.fill(list, bytes, 1, u32::from(list));
         rig.set_mode(list, list % 2);
         rig.turn(1, list);
         // It runs, so its mode stays.
@@ -167,7 +258,7 @@ fn turns(rig: &mut Rig) {
             if slot % 3 > 0 {
                 rig.send(&[0xFC]);
             }
-            rig.slot(23);
+            rig.slot(FRAME);
         }
     }
 }
@@ -182,7 +273,8 @@ fn shrunk(rig: &mut Rig) {
         rig.ask(&[0xF0, 6, 11, 12, 13, 14, 15, 16]);
         rig.fill(0, [4, 4], extension, 4092);
         rig.fill(1, [4, 4], extension, 0);
-        for list in 0..2 {
+        rig.fill(2, FULL, extension, 4033);
+        for list in 0..3 {
             rig.set_mode(list, 0);
             rig.turn(1, list);
         }
@@ -211,15 +303,15 @@ fn endings(rig: &mut Rig) {
         for sent in 0..3 {
             rig.begin(1, false);
             rig.connect();
-            rig.unlock(crate::tool::LISTS);
-            rig.seed(crate::tool::CALIBRATION);
+            rig.unlock(LISTS);
+            rig.seed(CALIBRATION);
             rig.fill(2, [5, 7], 1, 0);
             rig.set_mode(2, 0);
             rig.turn(2, 2);
             rig.turn(1, 2);
             rig.event(0, 1);
             for _ in 0..sent {
-                rig.slot(23);
+                rig.slot(FRAME);
             }
             rig.send(end);
             rig.event(0, 2);

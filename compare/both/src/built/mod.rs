@@ -4,6 +4,7 @@ mod access;
 mod commands;
 mod lists;
 mod session;
+mod sizes;
 mod wire;
 mod wrong_keys;
 
@@ -14,6 +15,7 @@ pub fn run(rig: &mut Rig) {
     session::run(rig);
     wrong_keys::run(rig);
     access::run(rig);
+    sizes::run(rig);
     lists::run(rig);
     wire::run(rig);
     commands::run(rig);

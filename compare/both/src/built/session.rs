@@ -108,7 +108,7 @@ fn other_open(rig: &mut Rig, resource: u8) {
 
 /// A key is the four bytes after its length, whatever follows them.
 fn long_key(rig: &mut Rig, resource: u8) {
-    for length in [7, 8] {
+    for length in [7, 8, 64] {
         rig.begin(1, false);
         rig.connect();
         let seed = rig.seed(resource).unwrap_or(0);
@@ -197,18 +197,11 @@ fn without_session(rig: &mut Rig) {
 fn counter(rig: &mut Rig) {
     rig.begin(1, false);
     rig.connect();
-    rig.measure(0, &[0x9A, 0x9B, 0x9A, 0x9B, 0x9A, 0x9B, 0x9A, 0x9B]);
-    for count in 0..600u32 {
-        rig.ask(&[
-            0xF4,
-            1 + (count % 7) as u8,
-            0,
-            1,
-            (count % 3) as u8,
-            0,
-            0,
-            0,
-        ]);
+    rig.measure(0, &[0x9A, 0x9B].repeat(33));
+    let lengths = [1, 2, 3, 7, 8, 62, 63];
+    for count in 0..600 {
+        let length = lengths[count % 7];
+        rig.ask(&[0xF4, length, 0, 1, (count % 3) as u8, 0, 0, 0]);
         // One more at times, so that each CTR meets each length.
         if count % 7 == 6 {
             rig.ask(&[0xFC]);

@@ -1,7 +1,8 @@
 //! Damage on the line: every cut, every flipped bit, escapes everywhere.
 
 use crate::rig::Rig;
-use crate::wire::{escaped, frame, ESC, SYNC};
+use crate::tool::{download, rising, short_download};
+use crate::wire::{escaped, frame, ESC, FRAME, SYNC};
 
 /// Packets whose frames hold no escape, some, and nothing else.
 const PACKETS: [&[u8]; 4] = [
@@ -11,24 +12,42 @@ const PACKETS: [&[u8]; 4] = [
     &[0xFD, SYNC, ESC, 0, 1],
 ];
 
+/// The same of the longest packets.
+fn longest() -> [Vec<u8>; 2] {
+    [
+        short_download(56, 0, 0, &rising(56)),
+        download(62, &[SYNC, ESC].repeat(31)),
+    ]
+}
+
 pub fn run(rig: &mut Rig) {
     for (packet, ctr) in PACKETS.iter().zip([0, 1, SYNC, ESC]) {
         let whole = frame(ctr, packet);
-        rig.begin(1, false);
-        rig.open();
-        for at in 0..=whole.len() {
-            cut(rig, &whole, at);
-            inserted(rig, &whole, at);
-        }
-        rig.begin(1, false);
-        rig.open();
-        for at in 0..whole.len() {
-            flipped(rig, &whole, at);
-        }
+        damaged(rig, &whole, 0..=whole.len());
+    }
+    for packet in longest() {
+        let whole = frame(0, &packet);
+        let end = whole.len();
+        damaged(rig, &whole, (0..=4).chain([40, end - 1, end]));
     }
     every_value(rig);
     lengths(rig);
     rooms(rig);
+}
+
+/// Every kind of damage at each of these places.
+fn damaged(rig: &mut Rig, whole: &[u8], places: impl Iterator<Item = usize> + Clone) {
+    rig.begin(1, false);
+    rig.open();
+    for at in places.clone() {
+        cut(rig, whole, at);
+        inserted(rig, whole, at);
+    }
+    rig.begin(1, false);
+    rig.open();
+    for at in places.filter(|at| *at < whole.len()) {
+        flipped(rig, whole, at);
+    }
 }
 
 /// A good command after damage must be heard.
@@ -84,11 +103,11 @@ fn every_value(rig: &mut Rig) {
     }
 }
 
-/// LEN above 8 or 0 drops the message at once; longer ones are never stored.
+/// LEN above 64 or 0 drops the message at once; longer ones are never stored.
 fn lengths(rig: &mut Rig) {
     rig.begin(1, false);
     rig.open();
-    for length in 0..20 {
+    for length in (0..=70).chain([127, 128, SYNC, ESC, 255]) {
         rig.wire(&frame(length, &vec![0xFC; usize::from(length)]));
         rig.drain();
     }
@@ -98,10 +117,10 @@ fn lengths(rig: &mut Rig) {
 fn rooms(rig: &mut Rig) {
     rig.begin(1, false);
     for _ in 0..2 {
-        for room in 0..31 {
+        for room in 0..FRAME + 8 {
             rig.slot(room);
         }
-        for room in 0..31 {
+        for room in 0..FRAME + 8 {
             rig.send(&[0xFF, 0]);
             rig.slot(room);
             rig.slot(room);

@@ -1,7 +1,7 @@
 //! Each command with each answer that the paper lets it have.
 
 /// A row each. A command has a second one where the same answer comes for two reasons.
-const ROWS: [(u8, &str, &[u8]); 22] = [
+const ROWS: [(u8, &str, &[u8]); 24] = [
     (0xFF, "CONNECT", &[0xFF, 0x21, 0x22]),
     (0xFE, "DISCONNECT", &[0xFF]),
     (0xFD, "GET_STATUS", &[0xFF]),
@@ -20,6 +20,12 @@ const ROWS: [(u8, &str, &[u8]); 22] = [
         &[0xFF, 0x21, 0x25, 0x29, 0x22, 0x23, 0x24],
     ),
     (0xF0, "DOWNLOAD, data cut", &[0x21]),
+    (
+        0xED,
+        "SHORT_DOWNLOAD",
+        &[0xFF, 0x21, 0x25, 0x22, 0x23, 0x24],
+    ),
+    (0xED, "SHORT_DOWNLOAD, cut", &[0x21]),
     (0xE3, "CLEAR_DAQ_LIST", &[0xFF, 0x21, 0x25, 0x22, 0x11]),
     (0xE2, "SET_DAQ_PTR", &[0xFF, 0x21, 0x25, 0x22]),
     (
@@ -109,6 +115,7 @@ fn row(packet: &[u8], answer: &[u8]) -> usize {
     let second = match packet[0] {
         0xF8 => answer.starts_with(&[0xFF, 0]),
         0xF7 | 0xF0 => packet.len() >= 2 && answer.starts_with(&[0xFE, 0x21]),
+        0xED => packet.len() >= 8 && answer.starts_with(&[0xFE, 0x21]),
         _ => false,
     };
     let first = ROWS.iter().position(|r| r.0 == packet[0]);

@@ -2,18 +2,25 @@
 
 mod answers;
 mod keys;
+mod limits;
+mod lists;
 mod past;
 
 use crate::effect::Effect;
 use crate::proved::STATE;
 use crate::step::{Call, Step};
-use crate::wire;
+use crate::wire::{self, FRAME, LONGEST};
 use answers::Answers;
 use keys::Keys;
+use limits::Limits;
+use lists::Lists;
 use past::{Asked, Past};
 
 pub const LENGTHS: [usize; 5] = [0, 1, 4095, 4096, 5000];
-pub const ROOMS: usize = 31;
+/// Room for a slot: none, what was enough while packets had 8 bytes, around what is, and more.
+pub const ROOMS: [usize; 7] = [0, 22, 23, FRAME - 1, FRAME, FRAME + 1, FRAME + 7];
+/// A LEN that is refused.
+const BAD_LENS: [u8; 4] = [0, 65, 128, 255];
 pub const WRONG_SIZES: [usize; 5] = [0, 3, 4, STATE - 1, STATE + 1];
 
 /// What a memory's length can do to a call.
@@ -27,9 +34,12 @@ pub struct Seen {
     answers: Answers,
     past: Past,
     keys: Keys,
+    lists: Lists,
+    limits: Limits,
     /// The command whose answer waits, where it is known.
     asked: Option<Asked>,
     byte: [u64; 11],
+    bad_len: [u64; BAD_LENS.len()],
     /// By the lists that sampled, then those that missed.
     sampled: [[u64; 5]; 5],
     event: [u64; 11],
@@ -38,11 +48,13 @@ pub struct Seen {
     no_frame: u64,
     answer_frame: u64,
     list_frame: [u64; 8],
+    /// A packet sent with all the bytes it can have: of ODT 0, of ODT 1, an answer.
+    longest: [u64; 3],
     /// A frame sent with an escaped CTR, packet byte, checksum.
     escaped: [u64; 3],
     /// A CTR of 0 after one of 255.
     wrapped: u64,
-    room: [u64; ROOMS],
+    room: [u64; ROOMS.len()],
     /// Of calibration, then of measured bytes: by the length lent, then by its use.
     lent: [[[u64; USES.len()]; LENGTHS.len()]; 2],
     wrong_size: [u64; WRONG_SIZES.len()],
@@ -53,6 +65,7 @@ impl Seen {
     /// Two new slaves, which have no past.
     pub fn begin(&mut self) {
         self.keys.begin();
+        self.lists.begin();
     }
 
     pub fn call(&mut self, step: &Step, effect: &Effect) {
@@ -64,7 +77,9 @@ impl Seen {
             Call::Event(..) => self.event[number] += 1,
             Call::Slot(room) => {
                 self.slot[number] += 1;
-                self.room[*room] += 1;
+                if let Some(at) = ROOMS.iter().position(|r| r == room) {
+                    self.room[at] += 1;
+                }
             }
         }
         match (&step.call, number) {
@@ -81,6 +96,12 @@ impl Seen {
                 self.asked = None;
                 self.past.forget();
                 self.keys.power_up();
+                self.lists.power_up();
+            }
+            (Call::Byte(len), 3) => {
+                if let Some(at) = BAD_LENS.iter().position(|l| l == len) {
+                    self.bad_len[at] += 1;
+                }
             }
             // Which command that was is known only where a whole packet was sent.
             (Call::Byte(_), 1) => self.asked = None,
@@ -123,10 +144,18 @@ impl Seen {
                     Some(asked) => self.answered(&asked, packet),
                     None => {
                         self.past.forget();
+                        self.lists.forget();
                         self.keys.unknown(packet);
                     }
                 }
             }
+        }
+        if packet.len() == LONGEST {
+            let what = match packet[0] {
+                number @ 0..=7 => usize::from(number % 2),
+                _ => 2,
+            };
+            self.longest[what] += 1;
         }
         let special = |byte: u8| matches!(byte, wire::SYNC | wire::ESC);
         let escapes = frame.iter().filter(|b| **b == wire::ESC).count();
@@ -148,7 +177,7 @@ impl Seen {
         let extension = match asked.packet.as_slice() {
             // An entry of no bytes is inside anything.
             [0xE1, _, 0, ..] => None,
-            [0xF4 | 0xE1, _, _, extension, ..] => Some(*extension),
+            [0xF4 | 0xED | 0xE1, _, _, extension, ..] => Some(*extension),
             [0xF5 | 0xF3 | 0xF0, ..] => self.past.extension(),
             _ => None,
         };
@@ -158,6 +187,8 @@ impl Seen {
         }
         self.past.answered(asked, answer);
         self.keys.answered(&asked.packet, answer);
+        self.lists.answered(&asked.packet, answer);
+        self.limits.answered(&asked.packet, answer);
     }
 
     /// Prints all of it and returns how much is wrong: not covered, or not in the paper.
@@ -212,6 +243,8 @@ impl Seen {
             .zip(self.escaped)
             .collect();
         oddities.push(("CTR from 255 to 0".to_string(), self.wrapped));
+        let longest = ["64 bytes of ODT 0", "of ODT 1", "of an answer"];
+        oddities.extend(named(&longest, &self.longest));
         oddities
     }
 
@@ -233,23 +266,25 @@ impl Seen {
         let numbers = |all: &[u64; 11], which: &[usize]| -> Vec<(String, u64)> {
             which.iter().map(|n| (n.to_string(), all[*n])).collect()
         };
-        let rooms: Vec<usize> = (0..ROOMS).collect();
         vec![
             (
                 "Numbers of a received byte",
                 numbers(&self.byte, &[0, 1, 2, 3, 4, 5, 6, 7, 10]),
             ),
+            ("LEN refused", named(&BAD_LENS, &self.bad_len)),
             ("Numbers of an event", numbers(&self.event, &[0, 8, 10])),
             ("Lists that sampled and that missed", self.samples()),
             ("Numbers of a slot", numbers(&self.slot, &[0, 9, 10])),
             ("Frames of a slot", self.frames()),
             ("Frames with", self.oddities()),
             ("Numbers of a power-up", numbers(&self.power_up, &[0, 10])),
-            ("Room lent to a slot", named(&rooms, &self.room)),
+            ("Room lent to a slot", named(&ROOMS, &self.room)),
             ("Calibration bytes lent, and a block", self.blocks(0)),
             ("Measured bytes lent, and a block", self.blocks(1)),
             ("Sessions with", self.past.cells()),
             ("Lives with", self.keys.cells()),
+            ("Lists with", self.lists.cells()),
+            ("Commands with", self.limits.cells()),
             (
                 "Wrong sizes of the state",
                 named(&WRONG_SIZES, &self.wrong_size),
@@ -260,6 +295,11 @@ impl Seen {
             ),
         ]
     }
+}
+
+/// The number at byte 4.
+fn number(packet: &[u8]) -> u32 {
+    u32::from_le_bytes([packet[4], packet[5], packet[6], packet[7]])
 }
 
 /// What was counted, by name.

@@ -1,6 +1,6 @@
 //! What a command covers by what came before it: a key that wraps, what a renewal has to forget.
 
-use super::named;
+use super::{named, number};
 
 /// A command that was taken, and what it met.
 pub struct Asked {
@@ -21,13 +21,19 @@ enum Case {
     OldKey,
     ModeAlone,
     EntriesAlone,
-    GoesOn,
-    FirstAddress,
-    AddressLeft,
-    StillUnset,
+    BehindUpload,
+    FirstByUpload,
+    LeftByUpload,
+    UnsetByUpload,
+    BehindDownload,
+    FirstByDownload,
+    LeftByDownload,
+    UnsetByDownload,
+    WriteBehindUpload,
+    WriteBehindDownload,
 }
 
-const NAMES: [&str; 12] = [
+const NAMES: [&str; 18] = [
     "a sum above 65,535",
     "a calibration key that wraps",
     "a list key that wraps",
@@ -40,11 +46,18 @@ const NAMES: [&str; 12] = [
     "an UPLOAD behind a SHORT_UPLOAD that found no address set",
     "an UPLOAD from the address that a refused SHORT_UPLOAD left",
     "an UPLOAD refused since a refused SHORT_UPLOAD left the address unset",
+    "an UPLOAD right behind the block of a SHORT_DOWNLOAD",
+    "an UPLOAD behind a SHORT_DOWNLOAD that found no address set",
+    "an UPLOAD from the address that a refused SHORT_DOWNLOAD left",
+    "an UPLOAD refused since a refused SHORT_DOWNLOAD left the address unset",
+    "a DOWNLOAD right behind the block of a SHORT_UPLOAD",
+    "a DOWNLOAD right behind the block of a SHORT_DOWNLOAD",
 ];
 
-/// A SHORT_UPLOAD as the command before.
+/// A SHORT_UPLOAD or SHORT_DOWNLOAD as the command before.
 #[derive(Clone, Copy)]
 struct Short {
+    writes: bool,
     done: bool,
     /// It found an address set.
     set: bool,
@@ -87,7 +100,7 @@ impl Past {
     /// The sum of the block that this BUILD_CHECKSUM asks for.
     pub fn sum(&self, packet: &[u8], lent: [&[u8]; 2]) -> u64 {
         match (packet, self.now.mta) {
-            ([0xF3, ..], Some((extension, address))) if packet.len() == 8 => {
+            ([0xF3, ..], Some((extension, address))) if packet.len() >= 8 => {
                 let (from, size) = (address as usize, number(packet) as usize);
                 let block = lent[usize::from(extension)].get(from..from.saturating_add(size));
                 block.map_or(0, |bytes| bytes.iter().map(|b| u64::from(*b)).sum())
@@ -101,10 +114,17 @@ impl Past {
         let good = answer[0] == 0xFF;
         let short = self.now.short.take();
         match (packet[0], short) {
-            (0xF5, Some(short)) => self.goes_on(short, answer),
-            (0xF4, _) => {
-                let set = self.now.mta.is_some();
-                self.now.short = Some(Short { done: good, set });
+            (0xF5, Some(short)) => self.reads_on(short, answer),
+            (0xF0, Some(short)) if short.done && good => self.count(match short.writes {
+                false => Case::WriteBehindUpload,
+                true => Case::WriteBehindDownload,
+            }),
+            (0xF4 | 0xED, _) => {
+                self.now.short = Some(Short {
+                    writes: packet[0] == 0xED,
+                    done: good,
+                    set: self.now.mta.is_some(),
+                });
             }
             _ => {}
         }
@@ -142,7 +162,9 @@ impl Past {
             }
             0xF7 => self.unlocked(packet),
             0xF6 => self.now.mta = Some((packet[3], number(packet))),
-            0xF4 => self.now.mta = Some((packet[3], number(packet) + u32::from(packet[1]))),
+            0xF4 | 0xED => {
+                self.now.mta = Some((packet[3], number(packet) + u32::from(packet[1])));
+            }
             0xF5 | 0xF0 => self.move_on(u32::from(packet[1])),
             0xF3 => {
                 self.move_on(number(packet));
@@ -154,15 +176,20 @@ impl Past {
         }
     }
 
-    /// An UPLOAD right after a SHORT_UPLOAD.
-    fn goes_on(&mut self, short: Short, answer: &[u8]) {
-        match (short.done, short.set, answer) {
-            (true, true, [0xFF, ..]) => self.count(Case::GoesOn),
-            (true, false, [0xFF, ..]) => self.count(Case::FirstAddress),
-            (false, true, [0xFF, ..]) => self.count(Case::AddressLeft),
-            (false, false, [0xFE, 0x29]) => self.count(Case::StillUnset),
-            _ => {}
-        }
+    /// An UPLOAD right after one of the two.
+    fn reads_on(&mut self, short: Short, answer: &[u8]) {
+        let case = match (short.writes, short.done, short.set, answer) {
+            (false, true, true, [0xFF, ..]) => Case::BehindUpload,
+            (false, true, false, [0xFF, ..]) => Case::FirstByUpload,
+            (false, false, true, [0xFF, ..]) => Case::LeftByUpload,
+            (false, false, false, [0xFE, 0x29]) => Case::UnsetByUpload,
+            (true, true, true, [0xFF, ..]) => Case::BehindDownload,
+            (true, true, false, [0xFF, ..]) => Case::FirstByDownload,
+            (true, false, true, [0xFF, ..]) => Case::LeftByDownload,
+            (true, false, false, [0xFE, 0x29]) => Case::UnsetByDownload,
+            _ => return,
+        };
+        self.count(case);
     }
 
     fn move_on(&mut self, by: u32) {
@@ -176,7 +203,7 @@ impl Past {
             Some(4) if sum < 0xDA00 => self.count(Case::ListKeyWraps),
             _ => {}
         }
-        if packet.len() == 8 && packet[4..] != packet[2..6] {
+        if packet.len() > 6 && !packet.ends_with(&packet[2..6]) {
             self.count(Case::LongKey);
         }
         if self.now.outlived {
@@ -212,9 +239,4 @@ impl Past {
             }
         }
     }
-}
-
-/// The number at byte 4.
-fn number(packet: &[u8]) -> u32 {
-    u32::from_le_bytes([packet[4], packet[5], packet[6], packet[7]])
 }

@@ -1,10 +1,10 @@
 //! Setting up, starting and stopping the lists.
 
 use super::{
-    at_least, check, done, number16, number32, refusal, Answer, LIST_RUNS, LOCKED, NOT_INSIDE,
-    RANGE, SEQUENCE, UNFIT,
+    at_least, check, number16, number32, Outcome, LIST_RUNS, LOCKED, NOT_INSIDE, RANGE, SEQUENCE,
+    UNFIT,
 };
-use crate::lists::{Entry, List, Pointer, ENTRIES, EVENTS, LISTS, ODTS};
+use crate::lists::{Entry, Pointer, ENTRIES, EVENTS, LISTS, ODTS};
 use crate::memory::{block, Extension};
 use crate::packet::Packet;
 use crate::session::Session;
@@ -18,39 +18,39 @@ const START_SELECTED: u8 = 1;
 const STOP_SELECTED: u8 = 2;
 
 impl Session {
-    fn lists_unlocked(&self) -> Result<(), Packet> {
+    fn lists_unlocked(&self) -> Outcome {
         check(!self.lists_locked, LOCKED)
     }
 
-    pub(super) fn clear_daq_list(&mut self, packet: &[u8]) -> Answer {
+    pub(super) fn clear_daq_list(&mut self, packet: &[u8]) -> Outcome {
         at_least(packet, 4)?;
         self.lists_unlocked()?;
         let list = &mut self.lists[list_number(packet)?];
         check(!list.runs(), LIST_RUNS)?;
-        *list = List::cleared();
-        done()
+        list.clear();
+        Ok(())
     }
 
-    pub(super) fn set_daq_ptr(&mut self, packet: &[u8]) -> Answer {
+    pub(super) fn set_daq_ptr(&mut self, packet: &[u8]) -> Outcome {
         at_least(packet, 6)?;
         self.lists_unlocked()?;
         let list = list_number(packet)?;
         let (odt, entry) = (packet[4] as usize, packet[5] as usize);
         check(odt < ODTS && entry < ENTRIES, RANGE)?;
         self.pointer = Pointer::At { list, odt, entry };
-        done()
+        Ok(())
     }
 
-    pub(super) fn write_daq(&mut self, packet: &[u8], cal: &[u8], meas: &[u8]) -> Answer {
+    pub(super) fn write_daq(&mut self, packet: &[u8], cal: &[u8], meas: &[u8]) -> Outcome {
         at_least(packet, 8)?;
         self.lists_unlocked()?;
         let (number, odt, entry) = match self.pointer {
             Pointer::At { list, odt, entry } => (list, odt, entry),
-            Pointer::Unset => return Err(refusal(SEQUENCE)),
+            Pointer::Unset => return Err(SEQUENCE),
         };
         let size = packet[2];
         check(packet[1] == 0xFF && size <= 4, RANGE)?;
-        let extension = Extension::from_byte(packet[3]).ok_or_else(|| refusal(RANGE))?;
+        let extension = Extension::from_byte(packet[3]).ok_or(RANGE)?;
         let list = &mut self.lists[number];
         check(!list.runs(), LIST_RUNS)?;
         let address = number32(packet, 4);
@@ -58,11 +58,12 @@ impl Session {
         let memory = extension.of(cal, meas);
         let inside = size == 0 || block(memory, address, u32::from(size)).is_some();
         check(inside, NOT_INSIDE)?;
-        list.entries[odt][entry] = Entry {
+        let written = Entry {
             size,
             extension,
             address,
         };
+        list.set_entry(odt, entry, written);
         self.pointer = if entry + 1 < ENTRIES {
             Pointer::At {
                 list: number,
@@ -72,10 +73,10 @@ impl Session {
         } else {
             Pointer::Unset
         };
-        done()
+        Ok(())
     }
 
-    pub(super) fn set_daq_list_mode(&mut self, packet: &[u8]) -> Answer {
+    pub(super) fn set_daq_list_mode(&mut self, packet: &[u8]) -> Outcome {
         at_least(packet, 8)?;
         self.lists_unlocked()?;
         check(packet[1] == 0x10, RANGE)?;
@@ -85,10 +86,10 @@ impl Session {
         check(event < EVENTS && prescaler == 1 && priority == 0, RANGE)?;
         check(!list.runs(), LIST_RUNS)?;
         list.event = Some(event);
-        done()
+        Ok(())
     }
 
-    pub(super) fn start_stop_daq_list(&mut self, packet: &[u8]) -> Answer {
+    pub(super) fn start_stop_daq_list(&mut self, packet: &[u8], answer: &mut Packet) -> Outcome {
         at_least(packet, 4)?;
         self.lists_unlocked()?;
         let mode = packet[1];
@@ -103,10 +104,11 @@ impl Session {
             }
             _ => list.selected = true,
         }
-        Ok(Packet::new(&[0xFF, 2 * number as u8]))
+        answer.extend(&[2 * number as u8]);
+        Ok(())
     }
 
-    pub(super) fn start_stop_synch(&mut self, packet: &[u8]) -> Answer {
+    pub(super) fn start_stop_synch(&mut self, packet: &[u8]) -> Outcome {
         at_least(packet, 2)?;
         self.lists_unlocked()?;
         let mode = packet[1];
@@ -124,22 +126,24 @@ impl Session {
             }
             list.selected = false;
         }
-        done()
+        Ok(())
     }
 
-    pub(super) fn get_daq_processor_info(&self) -> Answer {
+    pub(super) fn get_daq_processor_info(&self, answer: &mut Packet) -> Outcome {
         self.lists_unlocked()?;
-        Ok(Packet::new(&[0xFF, 0x10, 0x04, 0, 0x02, 0, 0, 0]))
+        answer.extend(&[0x10, 0x04, 0, 0x02, 0, 0, 0]);
+        Ok(())
     }
 
-    pub(super) fn get_daq_resolution_info(&self) -> Answer {
+    pub(super) fn get_daq_resolution_info(&self, answer: &mut Packet) -> Outcome {
         self.lists_unlocked()?;
-        Ok(Packet::new(&[0xFF, 0x01, 0x04, 0, 0, 0x6A, 0x01, 0]))
+        answer.extend(&[0x01, 0x04, 0, 0, 0x6A, 0x01, 0]);
+        Ok(())
     }
 }
 
 /// The list number at byte 2; both of its bytes are judged.
-fn list_number(packet: &[u8]) -> Result<usize, Packet> {
+fn list_number(packet: &[u8]) -> Result<usize, u8> {
     let number = number16(packet, 2) as usize;
     check(number < LISTS, RANGE)?;
     Ok(number)

@@ -1,9 +1,9 @@
 //! The eleven cases of the bench sheet, byte for byte, through the whole slave.
 
-use super::{bytes, hex, Bench, CONNECT};
+use super::{bytes, hex, rising, sizes, Bench, CONNECT};
 
 const CONNECT_FRAME: &str = "9A 02 00 FF 00 01";
-const CONNECT_ANSWER: &str = "9A 08 00 FF 05 00 08 08 00 01 01 1E";
+const CONNECT_ANSWER: &str = "9A 08 00 FF 05 00 40 40 00 01 01 8E";
 
 #[test]
 fn case_1_connect() {
@@ -74,28 +74,28 @@ fn case_7_sample_of_list_1() {
 #[test]
 fn case_8_download_at_the_end() {
     let mut bench = Bench::open();
-    bench.good("F6 00 00 00 FA 0F 00 00");
-    bench.good("F0 06 01 02 03 04 05 06");
-    assert_eq!(bench.cal[4090..], [1, 2, 3, 4, 5, 6]);
-    assert!(bench.cal[..4090].iter().all(|b| *b == 0));
-    bench.good("F6 00 00 00 FB 0F 00 00");
-    bench.refused("F0 06 07 07 07 07 07 07", "FE 24");
+    bench.good("F6 00 00 00 C2 0F 00 00");
+    bench.good(&format!("F0 3E {}", rising(1, 62)));
+    assert_eq!(bench.cal[4034..], bytes(&rising(1, 62)));
+    assert!(bench.cal[..4034].iter().all(|b| *b == 0));
+    bench.good("F6 00 00 00 C3 0F 00 00");
+    bench.refused(&format!("F0 3E {}", rising(7, 62)), "FE 24");
 }
 
 #[test]
-fn case_9_download_of_7() {
+fn case_9_download_of_63() {
     let mut bench = Bench::open();
     bench.good("F6 00 00 00 00 00 00 00");
-    bench.refused("F0 07 01 02 03 04 05 06", "FE 22");
+    bench.refused(&format!("F0 3F {}", rising(1, 62)), "FE 22");
 }
 
 #[test]
-fn case_10_odt_0_of_5_and_6() {
+fn case_10_odt_0_of_61_and_62() {
     let mut bench = Bench::open();
-    bench.entries(0, 0, &[4, 1]);
+    bench.entries(0, 0, &sizes(61));
     bench.mode(0, 0);
     assert_eq!(bench.ask("DE 01 00 00"), "FF 00");
-    bench.entries(2, 0, &[4, 2]);
+    bench.entries(2, 0, &sizes(62));
     bench.mode(2, 0);
     bench.refused("DE 01 02 00", "FE 2A");
 }
@@ -116,7 +116,7 @@ fn case_11_answers_and_lists_take_turns() {
     let mut order = Vec::new();
     for _ in 0..8 {
         // An answer waits before every slot: one is asked for as soon as none does.
-        if bench.slave.answer.is_none() {
+        if !bench.slave.answer.waits() {
             assert_eq!(bench.send("FC"), 1);
         }
         order.push(match bench.packet().as_str() {

@@ -20,14 +20,14 @@ fn refusals_change_nothing() {
         assert_eq!(bench.event(event, 0), NO_SUCH_EVENT);
     }
     assert_eq!(NO_SUCH_EVENT, 524_288);
-    let mut out = [0xEE; 22];
+    let mut out = [0xEE; 134];
     assert_eq!(bench.slave.slot(&mut out), TOO_LITTLE_ROOM);
     assert_eq!(bench.slave.slot(&mut []), 589_824);
     assert_eq!(bench.slave, before);
     assert_eq!(bench.event(0, 0), 256);
     let before = bench.slave.clone();
     assert_eq!(bench.slave.slot(&mut out), TOO_LITTLE_ROOM);
-    assert_eq!(out, [0xEE; 22]);
+    assert_eq!(out, [0xEE; 134]);
     assert_eq!(bench.slave, before);
 }
 

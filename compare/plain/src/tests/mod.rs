@@ -4,6 +4,7 @@ mod bench_sheet;
 mod events_and_slots;
 mod random;
 mod seeds;
+mod sizes;
 mod table;
 mod wire;
 mod wrong_keys;
@@ -28,6 +29,28 @@ pub fn bytes(hex: &str) -> Vec<u8> {
 pub fn hex(bytes: &[u8]) -> String {
     let pairs: Vec<String> = bytes.iter().map(|b| format!("{:02X}", b)).collect();
     pairs.join(" ")
+}
+
+/// So many bytes, each one more than the byte before.
+pub fn rising(first: u8, count: u8) -> String {
+    hex(&(0..count).map(|i| first + i).collect::<Vec<u8>>())
+}
+
+/// The sizes of the fewest entries that have so many bytes.
+pub fn sizes(mut bytes: u8) -> Vec<u8> {
+    let mut sizes = Vec::new();
+    while bytes > 0 {
+        sizes.push(bytes.min(4));
+        bytes -= bytes.min(4);
+    }
+    sizes
+}
+
+/// A session that has just begun.
+pub fn fresh() -> Session {
+    let mut session = Session::closed();
+    session.open = true;
+    session
 }
 
 /// A frame made without the slave's own writer, so that both are judged.
@@ -115,9 +138,9 @@ impl Bench {
 
     /// One slot; the frame in hex, or "-".
     pub fn slot(&mut self) -> String {
-        let mut out = [0xEE; 30];
+        let mut out = [0xEE; 140];
         let size = self.slave.slot(&mut out) as usize;
-        assert!(size <= 23);
+        assert!(size <= 135);
         assert!(out[size..].iter().all(|b| *b == 0xEE));
         if size == 0 {
             "-".to_string()

@@ -32,7 +32,7 @@ impl Dice {
             packet[at] = self.byte();
         }
         if self.below(20) == 0 {
-            packet.truncate(1 + self.below(8));
+            packet.truncate(1 + self.below(64));
         }
         packet
     }
@@ -55,24 +55,38 @@ impl Dice {
     fn any_packet(&mut self, slave: &Slave) -> Vec<u8> {
         let (list, few) = (self.below(4) as u8, self.below(3) as u8);
         let small = self.below(8) as u8;
+        // Now and then all that a packet holds, or a byte more.
+        let count = match self.below(4) {
+            0 => [55, 56, 57, 61, 62, 63, 64][self.below(7)],
+            _ => small,
+        };
         let (resource, seed) = slave.session.seed.unwrap_or((Resource::Lists, 0));
-        match self.below(24) {
+        match self.below(26) {
             0 => vec![OTHERS[small as usize], 0],
             1 => vec![[0xFD, 0xDA, 0xD9, 0x00][list as usize]],
             2 => self.get_seed(),
             3 => unlock(resource, seed),
             4 | 5 => vec![0xF6, 0, 0, list / 3, small, list * 5, 0, 0],
-            6 => vec![0xF5, small],
-            7 => vec![0xF4, small, 0, list / 2, small, 15, 0, 0],
+            6 => vec![0xF5, count],
+            7 => vec![0xF4, count, 0, list / 2, small, 15, 0, 0],
             8 => vec![0xF3, 0, 0, 0, small, few, 0, 0],
-            9 | 10 => vec![0xF0, small, 1, 2, 3, 4, 0x9A, 0x9B],
-            11 => vec![0xE3, 0, list, 0],
-            12 | 13 => vec![0xE2, 0, list, 0, small / 4, small % 4],
-            14..=16 => vec![0xE1, 0xFF, few, list / 2, small, list * 5, 0, 0],
-            17 | 18 => vec![0xE0, 0x10, list, 0, small / 4, 0, 1, 0],
-            19..=21 => vec![0xDE, few, list, 0],
+            9 | 10 => self.with_data(&[0xF0, count]),
+            11 | 12 => self.with_data(&[0xED, count, 0, list / 3, small, list * 5, 0, 0]),
+            13 => vec![0xE3, 0, list, 0],
+            14 | 15 => vec![0xE2, 0, list, 0, small / 4, self.below(17) as u8],
+            16..=18 => vec![0xE1, 0xFF, few, list / 2, small, list * 5, 0, 0],
+            19 | 20 => vec![0xE0, 0x10, list, 0, small / 4, 0, 1, 0],
+            21..=23 => vec![0xDE, few, list, 0],
             _ => vec![0xDD, few],
         }
+    }
+
+    /// The packet with as much data behind its head as its count says, if that fits.
+    fn with_data(&mut self, head: &[u8]) -> Vec<u8> {
+        let mut packet = head.to_vec();
+        let whole = head.len() + usize::from(head[1]);
+        packet.resize_with(whole.min(64), || self.byte());
+        packet
     }
 }
 
@@ -129,13 +143,13 @@ impl Trial {
     }
 
     fn slot(&mut self, room: usize) {
-        let mut out = [0xEE; 40];
+        let mut out = [0xEE; 140];
         let size = self.slave.slot(&mut out[..room]) as usize;
-        if room < 23 {
+        if room < 135 {
             assert_eq!(size, 9 * 65_536);
             return;
         }
-        assert!(size <= 23);
+        assert!(size <= 135);
         assert!(out[size..].iter().all(|b| *b == 0xEE));
         if size > 0 {
             super::unframe(&out[..size]);
@@ -168,7 +182,7 @@ fn any_calls_in_any_order() {
         match dice.below(10) {
             0 => trial.byte(dice.byte()),
             1 => trial.event(dice.below(3) as u32),
-            2..=5 => trial.slot([0, 22, 23, 40, 40, 40][dice.below(6)]),
+            2..=5 => trial.slot([0, 134, 135, 140, 140, 140][dice.below(6)]),
             _ => {
                 let packet = dice.packet(&trial.slave);
                 let bytes = frame(dice.byte(), &packet);

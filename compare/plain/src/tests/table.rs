@@ -1,12 +1,12 @@
 //! Each row of the command table: every check in its order, then what is done on success.
 //! The packets of a row have all later faults too, so that each shows which check comes first.
 
-use super::{hex, Bench, CONNECT};
+use super::{bytes, fresh, hex, rising, sizes, Bench, CONNECT};
 use crate::lists::Pointer;
 use crate::memory::{Extension, Mta};
 use crate::session::Session;
 
-const CONNECTED: &str = "FF 05 00 08 08 00 01 01";
+const CONNECTED: &str = "FF 05 00 40 40 00 01 01";
 
 /// A session with both resources locked.
 fn locked() -> Bench {
@@ -31,7 +31,8 @@ fn without_a_session() {
         assert_eq!(bench.slave, before, "{}", packet);
         assert_eq!(bench.slot(), "-");
     }
-    for packet in ["FF 00", "FF 00 01", "FF 00 FF FF FF FF FF FF"] {
+    let longest = format!("FF 00 {}", hex(&[0xFF; 62]));
+    for packet in ["FF 00", "FF 00 01", &longest] {
         assert_eq!(Bench::new().ask(packet), CONNECTED);
     }
 }
@@ -39,13 +40,14 @@ fn without_a_session() {
 #[test]
 fn unknown_codes() {
     let known = [
-        0xFF, 0xFE, 0xFD, 0xFC, 0xF8, 0xF7, 0xF6, 0xF5, 0xF4, 0xF3, 0xF0, 0xE3, 0xE2, 0xE1, 0xE0,
-        0xDE, 0xDD, 0xDA, 0xD9,
+        0xFF, 0xFE, 0xFD, 0xFC, 0xF8, 0xF7, 0xF6, 0xF5, 0xF4, 0xF3, 0xF0, 0xED, 0xE3, 0xE2, 0xE1,
+        0xE0, 0xDE, 0xDD, 0xDA, 0xD9,
     ];
     for mut bench in [locked(), Bench::open()] {
         for code in (0..=0xFFu8).filter(|code| !known.contains(code)) {
             bench.refused(&hex(&[code]), "FE 20");
             bench.refused(&hex(&[code, 0, 0, 0, 0, 0, 0, 0]), "FE 20");
+            bench.refused(&hex(&[code; 64]), "FE 20");
         }
     }
 }
@@ -62,6 +64,7 @@ fn too_short() {
         (0xF4, 8),
         (0xF3, 8),
         (0xF0, 2),
+        (0xED, 8),
         (0xE3, 4),
         (0xE2, 6),
         (0xE1, 8),
@@ -118,12 +121,12 @@ fn ff_connect() {
     bench.refused("FF FF", "FE 22");
     bench.event(0, 0);
     assert_eq!(bench.send("FF 00"), 1);
-    assert_eq!(bench.slave.session, Session::fresh());
+    assert_eq!(bench.slave.session, fresh());
     assert_eq!(bench.packet(), CONNECTED);
     assert_eq!(bench.packet(), "-");
     bench.seed(0x01);
     bench.ask(CONNECT);
-    assert_eq!(bench.slave.session, Session::fresh());
+    assert_eq!(bench.slave.session, fresh());
 }
 
 #[test]
@@ -229,12 +232,13 @@ fn f5_upload() {
     let mut bench = locked();
     bench.refused("F5", "FE 21");
     bench.refused("F5 00", "FE 29");
-    bench.refused("F5 08", "FE 29");
+    bench.refused("F5 40", "FE 29");
     bench.good("F6 00 00 00 00 10 00 00");
     bench.refused("F5 00", "FE 22");
-    bench.refused("F5 08", "FE 22");
+    bench.refused("F5 40", "FE 22");
     bench.refused("F5 FF", "FE 22");
     bench.refused("F5 01", "FE 24");
+    bench.refused("F5 3F", "FE 24");
     bench.good("F6 00 00 00 FA 0F 00 00");
     bench.refused("F5 07", "FE 24");
     bench.cal[4090..].copy_from_slice(&[1, 2, 3, 4, 5, 6]);
@@ -243,9 +247,12 @@ fn f5_upload() {
     assert_eq!(bench.ask("F5 04"), "FF 03 04 05 06");
     assert_eq!(bench.slave.session.mta, at(4096));
     bench.refused("F5 01", "FE 24");
-    bench.meas[..7].copy_from_slice(&[7, 6, 5, 4, 3, 2, 1]);
-    bench.good("F6 00 00 01 00 00 00 00");
-    assert_eq!(bench.ask("F5 07"), "FF 07 06 05 04 03 02 01");
+    bench.meas[4033..].copy_from_slice(&bytes(&rising(7, 63)));
+    bench.good("F6 00 00 01 C2 0F 00 00");
+    bench.refused("F5 3F", "FE 24");
+    bench.good("F6 00 00 01 C1 0F 00 00");
+    assert_eq!(bench.ask("F5 3F"), format!("FF {}", rising(7, 63)));
+    assert_eq!(bench.slave.session.mta, Mta::At(Extension::Measured, 4096));
 }
 
 #[test]
@@ -253,11 +260,11 @@ fn f4_short_upload() {
     let mut bench = locked();
     bench.refused("F4 00 00 02 00 10 00", "FE 21");
     bench.refused("F4 00 00 00 00 10 00 00", "FE 22");
-    bench.refused("F4 08 00 00 00 10 00 00", "FE 22");
+    bench.refused("F4 40 00 00 00 10 00 00", "FE 22");
     bench.refused("F4 01 00 02 00 10 00 00", "FE 22");
     bench.refused("F4 00 00 07 00 00 00 00", "FE 22");
     bench.refused("F4 01 00 00 00 10 00 00", "FE 24");
-    bench.refused("F4 07 00 00 FA 0F 00 00", "FE 24");
+    bench.refused("F4 3F 00 00 C2 0F 00 00", "FE 24");
     bench.refused("F4 01 00 00 FF FF FF FF", "FE 24");
     bench.cal[4095] = 9;
     bench.meas[1] = 8;
@@ -270,6 +277,12 @@ fn f4_short_upload() {
         "FF 00 08 00 00 00 00 00"
     );
     assert_eq!(bench.slave.session.mta, Mta::At(Extension::Measured, 7));
+    bench.cal[4033..].copy_from_slice(&bytes(&rising(7, 63)));
+    assert_eq!(
+        bench.ask("F4 3F 00 00 C1 0F 00 00"),
+        format!("FF {}", rising(7, 63))
+    );
+    assert_eq!(bench.slave.session.mta, at(4096));
 }
 
 /// A long block by the short command and then the plain one, with a refusal and a question between.
@@ -314,19 +327,22 @@ fn f3_build_checksum() {
 fn f0_download() {
     let mut bench = locked();
     bench.refused("F0", "FE 21");
-    bench.refused("F0 07", "FE 25");
+    bench.refused("F0 3F", "FE 25");
     bench.unlock(0x04);
-    bench.refused("F0 07", "FE 25");
+    bench.refused("F0 3F", "FE 25");
     bench.unlock(0x01);
-    bench.refused("F0 07", "FE 29");
+    bench.refused("F0 3F", "FE 29");
     bench.good("F6 00 00 01 00 10 00 00");
-    for packet in ["F0 00", "F0 07 01 02", "F0 FF", "F0 07 01 02 03 04 05 06"] {
+    let whole = format!("F0 3F {}", rising(1, 62));
+    for packet in ["F0 00", "F0 3F 01 02", "F0 FF", &whole] {
         bench.refused(packet, "FE 22");
     }
-    for packet in ["F0 01", "F0 06 01 02 03 04 05", "F0 02 01"] {
+    let cut = format!("F0 3E {}", rising(1, 61));
+    for packet in ["F0 01", "F0 06 01 02 03 04 05", "F0 02 01", &cut] {
         bench.refused(packet, "FE 21");
     }
     bench.refused("F0 01 55", "FE 23");
+    bench.refused(&format!("F0 3E {}", rising(1, 62)), "FE 23");
     bench.good("F6 00 00 00 00 10 00 00");
     bench.refused("F0 01 55", "FE 24");
     bench.good("F6 00 00 00 10 00 00 00");
@@ -337,6 +353,92 @@ fn f0_download() {
     expected[16..24].copy_from_slice(&[0x0A, 0x0B, 0x9A, 0x9B, 1, 2, 3, 4]);
     assert_eq!(bench.cal, expected);
     assert_eq!(bench.ask("F4 03 00 00 11 00 00 00"), "FF 0B 9A 9B");
+}
+
+/// The packet with its header and so many bytes of data.
+fn short_download(count: u8, extension: u8, address: u16, data: u8) -> String {
+    let at = hex(&address.to_le_bytes());
+    let head = format!("ED {:02X} 00 {:02X} {} 00 00", count, extension, at);
+    format!("{} {}", head, rising(1, data))
+}
+
+#[test]
+fn ed_short_download() {
+    let mut bench = locked();
+    // Everything is wrong; then what was judged first is right, and so on.
+    for packet in ["ED", "ED 39", "ED 39 00 02 00 10 00"] {
+        bench.refused(packet, "FE 21");
+    }
+    bench.refused("ED 39 00 02 00 10 00 00", "FE 25");
+    bench.unlock(0x04);
+    bench.refused(&short_download(1, 0, 0, 1), "FE 25");
+    bench.unlock(0x01);
+    bench.refused("ED 39", "FE 21");
+    for count in (0..=255).filter(|count| !(1..=56).contains(count)) {
+        bench.refused(&short_download(count, 2, 4096, 0), "FE 22");
+        bench.refused(&short_download(count, 0, 0, 56), "FE 22");
+    }
+    for extension in 2..=255 {
+        bench.refused(&short_download(56, extension, 4096, 55), "FE 22");
+        bench.refused(&short_download(1, extension, 0, 1), "FE 22");
+    }
+    for count in 1..=56 {
+        bench.refused(&short_download(count, 1, 4096, count - 1), "FE 21");
+        bench.refused(&short_download(count, 1, 4096, count), "FE 23");
+        bench.refused(&short_download(count, 1, 0, 56), "FE 23");
+        bench.refused(&short_download(count, 0, 4096, count), "FE 24");
+        bench.refused(
+            &short_download(count, 0, 4097 - u16::from(count), 56),
+            "FE 24",
+        );
+    }
+    bench.refused("ED 01 00 00 FF FF FF FF 55", "FE 24");
+    bench.refused("ED 01 00 00 00 00 01 00 55", "FE 24");
+    assert_eq!(bench.slave.session.mta, Mta::Unset);
+}
+
+#[test]
+fn ed_short_download_done() {
+    for count in 1..=56u8 {
+        for first in [0, 1, 4096 - u16::from(count)] {
+            // Reserved is ignored, and so is data beyond the count.
+            let mut bench = Bench::open();
+            let packet = short_download(count, 0, first, 56).replacen(" 00 ", " AA ", 1);
+            bench.good(&packet);
+            let (first, end) = (usize::from(first), usize::from(first) + usize::from(count));
+            let mut expected = vec![0; 4096];
+            expected[first..end].copy_from_slice(&bytes(&rising(1, count)));
+            assert_eq!(bench.cal, expected);
+            assert!(bench.meas.iter().all(|b| *b == 0));
+            assert_eq!(bench.slave.session.mta, at(end as u32));
+        }
+    }
+}
+
+/// Whatever the address was before, it is behind the block, and UPLOAD or DOWNLOAD goes on there.
+#[test]
+fn ed_short_download_sets_the_address() {
+    let mut bench = Bench::open();
+    bench.good(&short_download(3, 0, 16, 3));
+    bench.good("F0 02 0A 0B");
+    assert_eq!(bench.slave.session.mta, at(21));
+    bench.good("F6 00 00 01 00 0F 00 00");
+    bench.good(&short_download(2, 0, 21, 2));
+    assert_eq!(bench.slave.session.mta, at(23));
+    // A refused one leaves it.
+    bench.refused(&short_download(1, 0, 4096, 1), "FE 24");
+    bench.refused(&short_download(2, 0, 0, 1), "FE 21");
+    bench.good("F0 01 0C");
+    assert_eq!(
+        bench.ask("F4 08 00 00 10 00 00 00"),
+        "FF 01 02 03 0A 0B 01 02 0C"
+    );
+    bench.good("F6 00 00 00 0F 00 00 00");
+    assert_eq!(bench.ask("F5 0A"), "FF 00 01 02 03 0A 0B 01 02 0C 00");
+    bench.cal = vec![0; 20];
+    bench.refused(&short_download(3, 0, 18, 3), "FE 24");
+    bench.good(&short_download(3, 0, 17, 3));
+    assert_eq!(bench.cal[16..], [0, 1, 2, 3]);
 }
 
 #[test]
@@ -371,7 +473,7 @@ fn e3_clear_daq_list() {
     bench.good("E2 00 00 00 01 02");
     let pointer = bench.slave.session.pointer;
     bench.good("E3 AA 00 00 99");
-    assert_eq!(bench.slave.session.lists, Session::fresh().lists);
+    assert_eq!(bench.slave.session.lists, fresh().lists);
     assert_eq!(bench.slave.session.pointer, pointer);
     bench.refused("DE 01 00 00", "FE 2A");
 }
@@ -384,15 +486,16 @@ fn e2_set_daq_ptr() {
         "E2 00 04 00 00 00",
         "E2 00 00 01 00 00",
         "E2 00 00 00 02 00",
-        "E2 00 00 00 00 04",
+        "E2 00 00 00 00 10",
+        "E2 00 00 00 01 FF",
     ] {
         bench.refused(packet, "FE 22");
     }
-    bench.good("E2 AA 03 00 01 02");
+    bench.good("E2 AA 03 00 01 0F");
     let pointer = Pointer::At {
         list: 3,
         odt: 1,
-        entry: 2,
+        entry: 15,
     };
     assert_eq!(bench.slave.session.pointer, pointer);
     bench.refused("E2 00 04 00 00 00", "FE 22");
@@ -426,11 +529,12 @@ fn e1_write_daq() {
     bench.refused("E1 FF 04 01 FE FF FF FF", "FE 24");
     bench.meas = vec![0; 5000];
     bench.refused("E1 FF 04 01 FD 0F 00 00", "FE 24");
-    // Four entries, then the pointer is unset; size 0 takes any address.
+    // Sixteen entries, then the pointer is unset; size 0 takes any address.
     bench.good("E1 FF 04 01 FC 0F 00 00");
-    bench.good("E1 FF 00 01 FF FF FF FF");
+    for _ in 1..15 {
+        bench.good("E1 FF 00 01 FF FF FF FF");
+    }
     bench.good("E1 FF 01 00 00 00 00 00");
-    bench.good("E1 FF 00 00 00 00 00 00");
     assert_eq!(bench.slave.session.pointer, Pointer::Unset);
     bench.refused("E1 FF 01 00 00 00 00 00", "FE 29");
     bench.meas[4092..4096].copy_from_slice(&[1, 2, 3, 4]);
@@ -484,12 +588,12 @@ fn de_start_stop_daq_list() {
     bench.refused("DE 01 02 00", "FE 2A");
     bench.entries(2, 0, &[0, 0, 0, 0]);
     bench.refused("DE 01 02 00", "FE 2A");
-    bench.entries(2, 0, &[3, 3]);
+    bench.entries(2, 0, &sizes(62));
     bench.refused("DE 01 02 00", "FE 2A");
-    bench.entries(2, 0, &[3, 2]);
-    bench.entries(2, 1, &[4, 4]);
+    bench.entries(2, 0, &sizes(61));
+    bench.entries(2, 1, &sizes(64));
     bench.refused("DE 01 02 00", "FE 2A");
-    bench.entries(2, 1, &[4, 3]);
+    bench.entries(2, 1, &sizes(63));
     assert_eq!(bench.ask("DE 01 02 00 77"), "FF 04");
     assert_eq!(bench.event(0, 0), 256);
     // Starting it again changes nothing: its packets stay.

@@ -1,6 +1,6 @@
 //! The reader's numbers, and the order of 5, 6 and 2.
 
-use super::{Bench, CONNECT};
+use super::{frame, hex, Bench, CONNECT};
 
 const CONNECT_FRAME: &str = "9A 02 00 FF 00 01";
 
@@ -18,15 +18,20 @@ fn bytes_outside_are_passed_over() {
 fn lengths() {
     let mut bench = Bench::new();
     assert_eq!(bench.wire("9A 00 00"), [0, 3, 0]);
-    assert_eq!(bench.wire("9A 09 00"), [0, 3, 0]);
+    assert_eq!(bench.wire("9A 41 00"), [0, 3, 0]);
     assert_eq!(bench.wire("9A FF"), [0, 3]);
     assert_eq!(bench.wire("9A 9B 00"), [0, 0, 3]);
     assert_eq!(bench.wire("9A 9B 01 9A"), [0, 0, 3, 0]);
-    assert_eq!(bench.wire("08 00 FF 00 00 00 00 00 00 00 07"), {
-        let mut numbers = [0; 11];
-        numbers[10] = 1;
-        numbers
-    });
+    bench.wire("00");
+    // A CONNECT of every length; of those above 64 nothing is heard but their LEN.
+    for length in 2..=255 {
+        let mut packet = vec![0; length];
+        packet[0] = 0xFF;
+        let numbers = bench.wire(&hex(&frame(0, &packet)));
+        let heard: Vec<u32> = numbers.into_iter().filter(|n| *n > 0).collect();
+        assert_eq!(heard, [if length <= 64 { 1 } else { 3 }], "{}", length);
+        bench.slot();
+    }
 }
 
 #[test]

@@ -177,11 +177,12 @@ fn when_shut_all_else_goes_on() {
     bench.told("FC", "FE 00");
     // What needs a key stays locked.
     bench.refused("F0 01 55", "FE 25");
+    bench.refused("ED 01 00 00 00 00 00 00 55", "FE 25");
     bench.refused("DD 00", "FE 25");
     bench.refused("00", "FE 20");
     bench.good("FE");
     assert_eq!(bench.send("F8 00 01"), 2);
-    assert_eq!(bench.ask(CONNECT), "FF 05 00 08 08 00 01 01");
+    assert_eq!(bench.ask(CONNECT), "FF 05 00 40 40 00 01 01");
 }
 
 #[test]
