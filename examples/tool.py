@@ -1,5 +1,5 @@
-"""A setting tool at the controller of host.c: it unlocks, writes the unit byte, reads it back while samples pour out, and
-leaves it as it was. Then a script tries keys until the controller stays shut, and the power switch opens it.
+"""A setting tool at the controller of host.c: it unlocks, writes the unit byte, reads it back while samples pour out, loads a
+drug table, and leaves all as it was. Then a script tries keys until the controller stays shut, and the power switch opens it.
 
     tool.py HOST WORDS...                   runs the host by these words, which names its line first, and talks to it
     tool.py --port DEVICE [--baud N]        talks to a controller at a serial port of this computer; no script is let near
@@ -17,11 +17,13 @@ from wire import PATIENCE, Wire, Wrong, hexed
 
 CALIBRATION, LISTS = 0x01, 0x04
 ADDENDS = {CALIBRATION: 0xD05E, LISTS: 0xDA00}
-# The controller's memory, as in docs/controller.a2l: unit byte and dose are settings, the others are measured values.
-UNIT, DOSE, WEIGHINGS, WEIGHT = 0x10, 0x20, 0x00, 0x04
+# The controller's memory, as in docs/controller.a2l: unit byte, dose and drug table are settings, the others measured values.
+UNIT, DOSE, DRUGS, WEIGHINGS, WEIGHT = 0x10, 0x20, 0x100, 0x00, 0x04
 UNITS = ["kilograms", "pounds"]
 FIRST_DOSE, OTHER_DOSE = 25, 30  # tenths of a millilitre: the host's own, and one that is written
-CONNECTED = "FF 05 00 08 08 00 01 01"
+# A table that is made up: twenty drugs, and of each the dose at eight weights, in tenths of a millilitre.
+TABLE = b"".join(((10 + drug) * (1 + weight)).to_bytes(2, "little") for drug in range(20) for weight in range(8))
+DRUG_SIZE, CORRECTED = 2 * 8, 7
 LOCKED = "FE 25"
 SHUT = "three wrong keys since power-up; switch the gun off and on"
 WRONG_KEY = "a wrong key; take the tool for this gun: three wrong keys shut it until it is switched off and on"
@@ -30,7 +32,13 @@ ATTEMPTS = 50
 
 
 def words(who, what, packet, more=""):
-    print(f"{who:7} {what:34} {hexed(packet):24}{more}".rstrip())
+    shown = hexed(packet) if len(packet) <= 8 else hexed(packet[:7]) + " .."
+    print(f"{who:7} {what:34} {shown:24}{more}".rstrip())
+
+
+def connected(packet):
+    """Whether it is the answer to CONNECT, by a slave of this kind: two resources, and packets of 8 bytes or more."""
+    return len(packet) == 8 and packet[:3] == b"\xff\x05\x00" and packet[5:] == b"\x00\x01\x01" and min(packet[3:5]) >= 8
 
 
 class Sample:
@@ -58,6 +66,7 @@ class Tool:
     def __init__(self, name, baud=None, started=True):
         self.wire = Wire(name, baud)
         self.started = started
+        self.connected, self.max_cto = None, 8  # what CONNECT was answered, and how long it says that packets may be
         self.answers = 0
         self.samples = [0] * 8
         self.last = [None] * 8
@@ -107,14 +116,20 @@ class Tool:
         self.last = [None] * 8
 
     def connect(self):
+        """The answer says how long packets may be: MAX_CTO is of commands and answers, MAX_DTO of samples."""
         words("tool", "connects", b"\xff\x00")
         if self.started:
-            self.ask("FF 00", CONNECTED)
+            answer = self.ask("FF 00", None)
         else:
             self.wire.send(b"\xff\x00")
-            self.wire.join(bytes.fromhex(CONNECTED))
+            answer = self.wire.join(connected)
             self.answers += 1
-        words("slave", "   answers", bytes.fromhex(CONNECTED))
+        if not connected(answer):
+            raise Wrong(f"CONNECT was answered {hexed(answer)}")
+        self.connected = hexed(answer)
+        self.max_cto = answer[3]
+        self.wire.longest = max(answer[3:5])
+        words("slave", "   answers", answer, f"packets of up to {self.max_cto} bytes")
 
     def read_found(self):
         """The unit byte as it is found."""
@@ -124,6 +139,35 @@ class Tool:
             raise Wrong(f"the unit byte was read as {hexed(answer)}")
         words("slave", "   answers", answer, UNITS[answer[1]])
         return answer[1]
+
+    def point(self, address):
+        self.ask(f"F6 00 00 00 {hexed(address.to_bytes(4, 'little'))}")
+
+    def read(self, address, size):
+        """So many bytes of the settings, in as few packets as can be; gives these packets."""
+        answers = []
+        self.point(address)
+        while size > 0:
+            count = min(size, self.max_cto - 1)
+            answers.append(self.ask(f"F5 {count:02X}", None))
+            if answers[-1][0] != 0xFF or len(answers[-1]) != 1 + count:
+                raise Wrong(f"UPLOAD of {count} was answered {hexed(answers[-1])}")
+            size -= count
+        return answers
+
+    def write(self, address, data):
+        """Bytes into the settings: one SHORT_DOWNLOAD if that has room, else as few DOWNLOADs as can be; gives these packets."""
+        place = hexed(address.to_bytes(4, "little"))
+        if len(data) <= self.max_cto - 8:
+            packets = [f"ED {len(data):02X} 00 00 {place} {hexed(data)}"]
+        else:
+            self.point(address)
+            most = self.max_cto - 2
+            parts = [data[at : at + most] for at in range(0, len(data), most)]
+            packets = [f"F0 {len(part):02X} {hexed(part)}" for part in parts]
+        for packet in packets:
+            self.ask(packet)
+        return [bytes.fromhex(packet) for packet in packets]
 
     def seed(self, resource):
         answer = self.ask(f"F8 00 {resource:02X}", None, f"GET_SEED: refused, 25: {SHUT}")
@@ -201,6 +245,45 @@ def show_overtaking(command, before, between, unit, after):
     print(f"slave      sample: {after}, overtaken by the answer")
 
 
+def summing(data):
+    """BUILD_CHECKSUM over so many bytes, and its answer if they are these."""
+    return (f"F3 00 00 00 {hexed(len(data).to_bytes(4, 'little'))}",
+            f"FF 02 00 00 {hexed((sum(data) % 65536).to_bytes(4, 'little'))}")
+
+
+def load_table(tool):
+    """The drug table: written, summed, read back; then one drug is corrected, and the old table put back. From the first
+    packet to the last the gun has part of each, and must not be used."""
+    found = b"".join(packet[1:] for packet in tool.read(DRUGS, len(TABLE)))
+    sent = tool.write(DRUGS, TABLE)
+    words("tool", f"loads the drug table, {len(TABLE)} bytes", sent[0], f"the first of {len(sent)} packets")
+    words("slave", "   answers", b"\xff", "and so to each")
+    tool.point(DRUGS)
+    tool.show("asks for its checksum", *summing(TABLE), "as the tool has it")
+    back = tool.read(DRUGS, len(TABLE))
+    if b"".join(packet[1:] for packet in back) != TABLE:
+        raise Wrong("the drug table reads back as another one")
+    words("tool", "reads it back", bytes([0xF5, len(back[0]) - 1]), f"the first of {len(back)} packets")
+    words("slave", "   answers", back[0], "byte for byte as it was sent")
+    correct_drug(tool)
+    tool.write(DRUGS, found)
+    tool.point(DRUGS)
+    tool.ask(*summing(found))
+    print("tool    puts back the table that it found, and the checksum is that table's")
+
+
+def correct_drug(tool):
+    """One drug's doses, a tenth less each, at their own place; the others stay."""
+    first = DRUG_SIZE * CORRECTED
+    doses = [int.from_bytes(TABLE[at : at + 2], "little") - 1 for at in range(first, first + DRUG_SIZE, 2)]
+    row = b"".join(dose.to_bytes(2, "little") for dose in doses)
+    sent = tool.write(DRUGS + first, row)
+    words("tool", f"corrects drug {CORRECTED}, in place", sent[0])
+    tool.point(DRUGS)
+    tool.ask(*summing(TABLE[:first] + row + TABLE[first + DRUG_SIZE :]))
+    words("slave", "   answers", b"\xff", "the table's checksum is right again")
+
+
 def exchange(tool):
     tool.wire.send_torn(bytes.fromhex(f"F4 01 00 00 {UNIT:02X} 00 00 00"))
     print("tool    is unplugged in the middle of a frame, and plugged in again")
@@ -222,10 +305,11 @@ def exchange(tool):
     tool.show("stops all lists, asks for status", "FD", "FF 00 00 00 00 00", "no list runs, nothing locked")
     write_unit(tool, found)
     print(f"tool    writes {found}, {UNITS[found]}, as it was")
+    load_table(tool)
     tool.show("disconnects", "FE")
     # Without a session there is silence: what comes next is the answer to the next CONNECT.
     tool.wire.send(b"\xfd")
-    tool.ask("FF 00", CONNECTED)
+    tool.ask("FF 00", tool.connected)
     tool.ask("FE")
 
 
@@ -242,7 +326,7 @@ def try_keys(tool):
     """A script that has no key tries some, each in a session of its own, because a wrong one ends it."""
     print("script  is at the plug all night, and tries keys")
     for key, more in enumerate(["wrong, the session ends", "wrong, the session ends", "wrong: from now on it stays shut"]):
-        tool.ask("FF 00", CONNECTED)
+        tool.ask("FF 00", tool.connected)
         tool.seed(CALIBRATION)
         tool.show("connects, and tries a key", unlocking(key), LOCKED, more, who="script")
 

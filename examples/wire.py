@@ -53,6 +53,7 @@ class Wire:
         self.to_slave = 0
         self.from_slave = 0
         self.waiting = b""
+        self.longest = 255  # until CONNECT's answer says what the slave's packets have at most
 
     def close(self):
         os.close(self.line)
@@ -94,7 +95,7 @@ class Wire:
         if first != SYNC:
             raise Wrong(f"{first:02X} stands where a frame begins")
         length = self.message_byte(until)
-        if not 1 <= length <= 8:
+        if not 1 <= length <= self.longest:
             raise Wrong(f"a frame has the length {length}")
         ctr = self.message_byte(until)
         packet = bytes(self.message_byte(until) for _ in range(length))
@@ -112,7 +113,8 @@ class Wire:
         return packet
 
     def join(self, expected):
-        """Passes over what an earlier session has left on the line, up to this packet. CTRs are checked from there on."""
+        """Passes over what an earlier session has left on the line, up to a packet that is expected, and gives it. CTRs are
+        checked from there on."""
         until = time.monotonic() + PATIENCE
         while True:
             try:
@@ -121,6 +123,6 @@ class Wire:
                 raise
             except Wrong:
                 continue
-            if packet == expected:
+            if expected(packet):
                 self.from_slave = (ctr + 1) % 256
-                return
+                return packet

@@ -15,8 +15,9 @@
  *
  * Seed and key are a guard against mistakes. They are no security: who listens can compute the key.
  *
- * The longest call is xcp_receive_byte at the last byte of BUILD_CHECKSUM: it reads up to 4,096
- * bytes of memory, which takes up to 4,997 instructions on a Cortex-M4 (-Os); no other call takes
+ * The longest call is xcp_event where it samples four full lists, 496 bytes in 128 entries: on a
+ * Cortex-M4 (-Os) it takes up to 8,826 instructions (lists of a few bytes, a fifth of that). The
+ * last byte of BUILD_CHECKSUM, which reads 4,096 bytes of memory, takes 5,005; no other call takes
  * 2,000. Let the ring buffer hold what can arrive in that time. Bytes lost there are damage on the
  * line like any other: the message is dropped, as far as one checksum byte can tell.
  *
@@ -56,13 +57,14 @@ extern "C" {
 #endif
 
 /* Of this header and the archives made with it; CHANGELOG.md says what each version changed. */
-#define XCP_SLAVE_VERSION "1.2.0"
+#define XCP_SLAVE_VERSION "1.3.0"
 
 /* The state's one size: a shorter or longer buffer is refused. */
-#define XCP_STATE_SIZE 249
+#define XCP_STATE_SIZE 945
 
-/* The room that a slot needs, whatever waits: the longest frame. */
-#define XCP_SLOT_ROOM 23
+/* The room that a slot needs, whatever waits: the longest frame, one SYNC and each of the 67 bytes
+ * of the longest message as a pair. */
+#define XCP_SLOT_ROOM 135
 
 /* What a call returns is its number and, when it is done, a value beside it. */
 #define XCP_NUMBER(r) ((uint32_t)(r) >> 16)
@@ -75,7 +77,7 @@ enum xcp_number {
     XCP_DONE = 0,         /* a byte: nothing to report; an event, slot or power-up: done */
     XCP_TAKEN = 1,        /* a byte: a command was taken, its answer (FF or FE) waits for a slot */
     XCP_NO_SESSION = 2,   /* a byte: a good message, but no session and no good CONNECT: silence */
-    XCP_BAD_LENGTH = 3,   /* a byte: LEN is 0 or above 8 */
+    XCP_BAD_LENGTH = 3,   /* a byte: LEN is 0 or above 64 */
     XCP_BAD_ESCAPE = 4,   /* a byte: ESC was followed by neither 00, 01 nor SYNC */
     XCP_BAD_CHECKSUM = 5, /* a byte: the checksum differs */
     XCP_ANSWER_WAITS = 6, /* a byte: a good message, but an answer waits: dropped unread */

@@ -1,4 +1,5 @@
 """docs/controller.a2l against what the slave answers, and against examples/. Arguments: how to run the replay program."""
+import math
 import re
 import subprocess
 import sys
@@ -9,14 +10,14 @@ OPENING = ["FF 00", "F8 00 01", "F7 04 00 7F F0 04", "F8 00 04", "F7 04 04 01 E0
 MANDATORY = {0xFF, 0xFE, 0xFD, 0xFC}  # CONNECT, DISCONNECT, GET_STATUS, SYNCH
 CODES = {
     "GET_SEED": 0xF8, "UNLOCK": 0xF7, "SET_MTA": 0xF6, "UPLOAD": 0xF5, "SHORT_UPLOAD": 0xF4, "BUILD_CHECKSUM": 0xF3,
-    "DOWNLOAD": 0xF0, "CLEAR_DAQ_LIST": 0xE3, "SET_DAQ_PTR": 0xE2, "WRITE_DAQ": 0xE1, "SET_DAQ_LIST_MODE": 0xE0,
-    "START_STOP_DAQ_LIST": 0xDE, "START_STOP_SYNCH": 0xDD, "GET_DAQ_PROCESSOR_INFO": 0xDA,
+    "DOWNLOAD": 0xF0, "SHORT_DOWNLOAD": 0xED, "CLEAR_DAQ_LIST": 0xE3, "SET_DAQ_PTR": 0xE2, "WRITE_DAQ": 0xE1,
+    "SET_DAQ_LIST_MODE": 0xE0, "START_STOP_DAQ_LIST": 0xDE, "START_STOP_SYNCH": 0xDD, "GET_DAQ_PROCESSOR_INFO": 0xDA,
     "GET_DAQ_RESOLUTION_INFO": 0xD9,
 }
 SIZES = {"SIZE_BYTE": 1, "SIZE_WORD": 2, "SIZE_DWORD": 4}
 TYPES = {"UBYTE": 1, "UWORD": 2, "ULONG": 4}
-# How examples/host.c says where what lies: name, place, memory, size, meaning.
-PLACE = r"\b([A-Z]+) = (0x[0-9A-Fa-f]+),?\s*/\* (\w+): (one|two|four) bytes?, (.*?) \*/"
+# How examples/host.c says where what lies: name, place, memory, how often if in rows, size, meaning.
+PLACE = r"\b([A-Z]+) = (0x[0-9A-Fa-f]+),?\s*/\* (\w+): ((?:\d+ times )*)(one|two|four) bytes?, (.*?) \*/"
 WORDS = {"one": 1, "two": 2, "three": 3, "four": 4}
 # What GET_DAQ_PROCESSOR_INFO says of the lists, a bit each, and the word that describes it.
 ABILITIES = {0x02: "PRESCALER_SUPPORTED", 0x04: "RESUME_SUPPORTED", 0x08: "STIM", 0x20: "PID_OFF_SUPPORTED"}
@@ -178,6 +179,17 @@ def each_list(c, one):
         c.same(f"entry {entry} of ODT {odt} of list {number}", there, answer == b"\xff")
 
 
+def rooms(c, text):
+    """The comment above the lists: what each ODT has room for starts, and a byte more does not."""
+    said = re.search(r"ODT 0 of a list has room for (\d+) bytes, and ODT 1 for (\d+)", text).groups()
+    for odt, most in enumerate(map(int, said)):
+        for size in (most, most + 1):
+            parts = [min(4, size - at) for at in range(0, size, 4)]
+            answers = asked("E0 10 00 00 00 00 01 00", f"E2 00 00 00 {odt:02X} 00",
+                            *(f"E1 FF {part:02X} 00 00 00 00 00" for part in parts), "DE 01 00 00")
+            c.same(f"{size} bytes in ODT {odt}", size <= most, answers[-1] == b"\xff\x00")
+
+
 def checksum(c, segment):
     described = segment.one("CHECKSUM").values()
     _, done, refused = asked("F6 00 00 00 00 00 00 00", "F3 00 00 00 10 00 00 00", "F3 00 00 00 00 00 00 00")
@@ -186,13 +198,18 @@ def checksum(c, segment):
 
 
 def placed(module, one):
-    """Address, extension, bytes and conversion of a CHARACTERISTIC or MEASUREMENT."""
+    """Address, extension, rows and columns, bytes and conversion of a CHARACTERISTIC or MEASUREMENT."""
+    shape = []
     if "ECU_ADDRESS" in one.words:
         kind, conversion, address = one.words[2], one.words[3], one.after("ECU_ADDRESS")
     else:
         layout, = (each for each in module.all("RECORD_LAYOUT") if each.words[0] == one.words[4])
         kind, conversion, address = layout.words[3], one.words[6], one.words[3]
-    return value(address), value(one.after("ECU_ADDRESS_EXTENSION")), TYPES[kind], conversion
+        if one.words[2] == "VAL_BLK":
+            at = one.words.index("MATRIX_DIM")
+            columns, rows, layers = map(value, one.words[at + 1 : at + 4])
+            shape = [rows, columns] + [layers] * (layers != 1)
+    return value(address), value(one.after("ECU_ADDRESS_EXTENSION")), shape, TYPES[kind], conversion
 
 
 def meant(c, module, name, conversion, meaning):
@@ -210,23 +227,48 @@ def places(c, module, host):
     """What lies where, against examples/host.c; gives the memories' sizes by extension."""
     memories = re.findall(r"static uint8_t (\w+)\[(\d+)\];\s*/\* extension (\d)", host)
     extensions = {name: int(extension) for name, _, extension in memories}
-    told = {name: (int(at, 0), extensions[memory], WORDS[size], meaning)
-            for name, at, memory, size, meaning in re.findall(PLACE, host)}
+    told = {name: (int(at, 0), extensions[memory], [int(n) for n in re.findall(r"\d+", times)], WORDS[size], meaning)
+            for name, at, memory, times, size, meaning in re.findall(PLACE, host)}
     described = {one.words[0]: one for one in module.all("CHARACTERISTIC") + module.all("MEASUREMENT")}
     c.same("names", sorted(described), sorted(told))
     for name, (*place, meaning) in told.items():
         *at, conversion = placed(module, described[name])
-        c.same(f"address, extension and bytes of {name}", at, place)
+        c.same(f"address, extension, rows and bytes of {name}", at, place)
         meant(c, module, name, conversion, meaning)
     for memory, name, size in re.findall(r"put\((\w+) \+ ([A-Z]+), .*, (\d)\);", host):
-        c.same(f"memory and bytes of {name}, in the host's own code", (extensions[memory], int(size)), told[name][1:3])
-    return {int(extension): int(size) for _, size, extension in memories}
+        c.same(f"memory and bytes of {name}, in the host's own code", (extensions[memory], int(size)), told[name][1:4:2])
+    sizes = {int(extension): int(size) for _, size, extension in memories}
+    apart(c, told, sizes)
+    return sizes
+
+
+def apart(c, told, sizes):
+    """All lies inside its memory, and nothing over anything else."""
+    taken = {}
+    for name, (at, extension, shape, size, _) in told.items():
+        places = range(at, at + size * math.prod(shape))
+        c.same(f"{name} lies inside", places.stop <= sizes[extension], True)
+        others = {taken[extension, place] for place in places if (extension, place) in taken}
+        c.same(f"what {name} lies over", others, set())
+        taken.update({(extension, place): name for place in places})
+
+
+def setting_tool(c, module):
+    """The places that examples/tool.py works at, and how it sees the drug table."""
+    text = open("examples/tool.py").read()
+    names, places = re.search(r"^(UNIT, .*) = (0x.*)$", text, re.M).groups()
+    described = {one.words[0]: placed(module, one) for one in module.all("CHARACTERISTIC") + module.all("MEASUREMENT")}
+    told = dict(zip(names.split(", "), (int(place, 0) for place in places.split(", "))))
+    c.same("places in examples/tool.py", {name: place for name, (place, *_) in described.items()}, told)
+    rows, columns = map(int, re.search(r"for drug in range\((\d+)\) for weight in range\((\d+)\)", text).groups())
+    c.same("drug table of examples/tool.py", described["DRUGS"][2], [rows, columns])
 
 
 def example(c, module):
     host, board = open("examples/host.c").read(), open("examples/board.c").read()
     controller = open("examples/cortex-m/board.c").read()
     sizes = places(c, module, host)
+    setting_tool(c, module)
     segment = module.one("MOD_PAR", "MEMORY_SEGMENT")
     extension = segment.one("IF_DATA", "SEGMENT").values()[2]
     c.same("the segment's extension, first address and size", (extension, *segment.values()[5:7]), (0, 0, sizes[0]))
@@ -251,6 +293,7 @@ def main():
     protocol(c, module)
     wrong_keys(c, text)
     lists(c, module.one("IF_DATA", "DAQ"))
+    rooms(c, text)
     checksum(c, module.one("MOD_PAR", "MEMORY_SEGMENT", "IF_DATA", "SEGMENT"))
     example(c, module)
     print(f"{c.passed} passed, {c.failed} failed")

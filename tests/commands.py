@@ -7,8 +7,9 @@ import sys
 
 PAGE = "docs/COMMANDS.md"
 SYNC = 0x9A
-MEMORY, ROOM = 4096, 23
+MEMORY, ROOM = 4096, 135
 START = 1  # the start number that the page's situations have
+HEX = {"mode", "extension", "length", "resource", "bit offset"}  # fields whose values the page has in hex; others are decimal
 RESOURCES = {"calibration": 0x01, "lists": 0x04}
 COUNTS = ["no", "one", "two", "three", "four", "five", "six"]
 SHUT, NO_SEED = b"\xfe\x25", b"\xfe\x29"
@@ -55,9 +56,20 @@ def quoted(cell):
     return re.findall(r"`([^`]*)`", cell)
 
 
+def spelled(words):
+    """With AA*62 as so many bytes."""
+    return re.sub(r"\b([0-9A-F]{2})\*(\d+)", lambda m: " ".join([m[1]] * int(m[2])), words)
+
+
+def commands_of(quotation):
+    """The commands of a quotation, of which some may be there many times."""
+    parts = [re.fullmatch(r"(?:(\d+) times )?(.*)", part).groups() for part in quotation.split("; ")]
+    return [spelled(command) for times, command in parts for _ in range(int(times or 1))]
+
+
 def leading(cell):
     """The bytes that a cell begins with."""
-    return bytes.fromhex(re.match(r"((?:[0-9A-F]{2} ?)*)", cell).group(1))
+    return bytes.fromhex(re.match(r"((?:[0-9A-F]{2} ?)*)", spelled(cell)).group(1))
 
 
 # The slave.
@@ -192,11 +204,9 @@ def numbers(c, page, slave):
         limit = int(limit)
         told = {"event": f"above {limit - 1}", "room": f"fewer than {limit + 1} bytes", "state": "wrong size"}[word]
         c.same(f"number {number}, in words", told in row["When"], True)
-        calls = {
-            "event": [slave.event(limit), slave.event(limit - 1)],
-            "room": [slave.slot(limit), slave.slot(limit + 1)],
-            "state": [make(limit) for make in every(slave)] + [make(limit + 1) for make in every(slave)],
-        }[word]
+        within, past = (limit, limit - 1) if word == "event" else (limit, limit + 1)
+        makes = {"event": [slave.event], "room": [slave.slot], "state": every(slave)}[word]
+        calls = [make(within) for make in makes] + [make(past) for make in makes]
         gave = [slave.run(slave.power_up() + call)[-1][0] for call in calls]
         half = len(calls) // 2
         c.same(f"number {number}", [number] * half, gave[:half])
@@ -219,11 +229,28 @@ def bad_bytes(c, page, slave):
         c.same(f"{escape:02X} {byte:02X} is bad", byte not in good, gave == number)
 
 
+def lengths(c, page, slave):
+    """How long packets are, each time that it is said, and so how many bytes an ODT can send."""
+    most = int(re.search(r"A packet, 1 to (\d+) bytes", page.prose["The wire"])[1])
+    connect = next(row["Answer"] for row in page.table("All commands", "Code") if row["Command"] == "CONNECT")
+    c.same("packets of CONNECT's answer, in words", int(re.search(r"packets of up to (\d+) bytes", connect)[1]), most)
+    answer = slave.asked(["FF 00"])[-1]
+    c.same("packets of CONNECT's answer", [most, most], [answer[3], int.from_bytes(answer[4:6], "little")])
+    c.same("LEN of the longest packet, and the next", [0, 3],
+           [slave.run(slave.power_up() + slave.bytes([SYNC, length]))[-1][0] for length in (most, most + 1)])
+    of_odts = r"(\d+) bytes in ODT 0 (?:or|and) (\d+) in ODT 1"
+    heading = "DE START_STOP_DAQ_LIST"
+    told = page.prose[heading] + " ".join(row["Check"] for row in page.table(heading, "Check"))
+    # Most, one too many, and most again; before them go the number and in ODT 0 the clock.
+    c.same("bytes of ODTs, in words", [tuple(map(int, pair)) for pair in re.findall(of_odts, told)],
+           [(most - 3 + more, most - 1 + more) for more in (0, 1, 0)])
+
+
 def every(slave):
     """Each kind of call, by the state's size."""
     return [lambda n: slave.power_up(state=n), lambda n: slave.bytes(b"\x9a", state=n),
             lambda n: slave.event(2, state=n) if n < slave.state else slave.event(0, state=n),
-            lambda n: slave.slot(22 if n < slave.state else ROOM, state=n)]
+            lambda n: slave.slot(ROOM - 1 if n < slave.state else ROOM, state=n)]
 
 
 def sizes(cell):
@@ -290,10 +317,10 @@ def sections(c, page, slave, situations):
         for row in rows:
             situation, _, tried = row["Shown by"].partition(" ")
             for commands in quoted(tried):
-                sent = commands.split("; ")
+                sent = commands_of(commands)
                 c.same(f"{heading}, {row['Check']}: the last command", sent[-1][:2] in (heading[:2], "F5", "F4", "FD", "DE"), True)
                 answers = slave.asked(situations[situation] + sent)
-                c.same(f"{heading}, {row['Check']}: `{commands}`", row["Answer"], (answers[-1] or b"").hex(" ").upper())
+                c.same(f"{heading}, {row['Check']}: `{commands}`", spelled(row["Answer"]), (answers[-1] or b"").hex(" ").upper())
             if "session ends" in row["Check"]:
                 c.same(f"{heading}, {row['Check']}", slave.asked(situations[situation] + sent + ["FD"])[-1], None)
         fewest = re.findall(r"^fewer than (\d+) bytes$", rows[0]["Check"])
@@ -312,21 +339,23 @@ def fields(layout):
     return places
 
 
-def value(word):
-    """One or two digits are hex, as bytes are; a number with a comma is decimal."""
-    return int(word.replace(",", "")) if "," in word else int(word, 16)
+def value(field, word):
+    return int(word, 16) if field in HEX else int(word.replace(",", ""))
 
 
 def bounds(check):
     """What a check's words say of fields: the field, values that it refuses, and values that it lets pass."""
-    for field, low, high in re.findall(r"(\w+) is not (\w+) to (\w+)", check):
-        yield field, [value(low) - 1, value(high) + 1], [value(low), value(high)]
-    for field, only in re.findall(r"(bit offset|\w+)(?: is)? not (\w+)(?! to|\w)", check):
-        yield field, [(value(only) + 1) % 256, (value(only) - 1) % 256], [value(only)]
-    for field, most in re.findall(r"(\w+)(?: is 0 or)? above ([\w,]*\w)", check):
-        yield field, [value(most) + 1], [value(most)]
-    for field, refused in re.findall(r"^(\w+) is (\d+)(?: or|$)", check):
-        yield field, [value(refused)], []
+    for field, *ends in re.findall(r"(\w+) is not (\w+) to (\w+)", check):
+        low, high = (value(field, end) for end in ends)
+        yield field, [low - 1, high + 1], [low, high]
+    for field, word in re.findall(r"(bit offset|\w+)(?: is)? not (\w+)(?! to|\w)", check):
+        only = value(field, word)
+        yield field, [(only + 1) % 256, (only - 1) % 256], [only]
+    for field, word in re.findall(r"(\w+)(?: is 0 or)? above ([\w,]*\w)", check):
+        most = value(field, word)
+        yield field, [most + 1], [most]
+    for field, word in re.findall(r"^(\w+) is (\d+)(?: or|$)", check):
+        yield field, [value(field, word)], []
 
 
 def tried(packet, place, number):
@@ -339,12 +368,12 @@ def worded(c, page, slave, situations):
     for summary in page.table("All commands", "Code"):
         heading = f"{summary['Code']} {summary['Command']}"
         rows = page.table(heading, "Check")
-        goods = [(row["Shown by"].split()[0], quoted(row["Shown by"])[0].split("; ")) for row in rows if row["Check"].startswith("good")]
+        goods = [(row["Shown by"].split()[0], commands_of(quoted(row["Shown by"])[0])) for row in rows if row["Check"].startswith("good")]
         situation, commands = next(good for good in goods if good[1][-1].startswith(summary["Code"]))
         before, packet = situations[situation] + commands[:-1], bytes.fromhex(commands[-1])
         places = fields(summary["Bytes after the code"])
         for i, row in enumerate(rows):
-            check, answer = row["Check"], bytes.fromhex(row["Answer"])
+            check, answer = row["Check"], leading(row["Answer"])
             for field, refused, let in bounds(check) if answer[0] == 0xFE else ():
                 for number in refused + let:
                     told = slave.asked(before + [tried(packet, places[field], number)])[-1]
@@ -456,9 +485,10 @@ def main():
     the_wire(c, page, slave)
     numbers(c, page, slave)
     bad_bytes(c, page, slave)
+    lengths(c, page, slave)
     addends = seeds(c, page, slave)
     resource_of = {name: opening(slave, code, addends[name]) for name, code in RESOURCES.items()}
-    situations = {row["Situation"]: quoted(row["Commands"])[0].split("; ")
+    situations = {row["Situation"]: commands_of(quoted(row["Commands"])[0])
                   for row in page.table("Command by command", "Situation")}
     opened = situations["open"]
     all_commands(c, page, slave, opened, resource_of)

@@ -8,6 +8,8 @@ import sys
 
 # Where a step's line has its bytes; after an = sign stand those to expect.
 BYTES = 30
+# The longest packet, and the longest frame.
+MOST, ROOM = 64, 135
 LIST = r"(?:[0-9A-F]{2} ?)+"
 END = "Every case                    "
 
@@ -40,10 +42,20 @@ def step(letter, rest, name="a step"):
     return f"{letter} {name:<28}{rest}"
 
 
+def some(count, byte="00"):
+    return " ".join([byte] * count)
+
+
 TITLE = "# a case"
 GOOD = step("P", "01 00 00 00")
 CONNECT = step(">", "FF 00 = 9A 02 00 FF 00 01")
-ANSWER = step("<", "FF 05 00 08 08 00 01 01")
+ANSWER = step("<", "FF 05 00 40 40 00 01 01")
+
+# SHORT_UPLOAD of all that an answer can have, where each byte is a SYNC, and the frame of the answer.
+SESSION = "\n".join([TITLE, GOOD, CONNECT, ANSWER, step("M", "00 00 " + some(MOST - 1, "9A"))]) + "\n"
+UPLOAD = "F4 3F 00 01 00 00 00 00"
+PAIRS = "FF " + some(MOST - 1, "9A")
+FRAMED = " = 9A 40 01 FF " + some(MOST - 1, "9B 01") + " 26"
 
 # A line that is wrong, behind a title and a good step: its name, the line, the column, and words of what is said.
 LINES = [
@@ -85,8 +97,8 @@ LINES = [
     ("a sign with a space behind it", step(">", "FF 00 = "), 39, "not used"),
     ("two signs", step(">", "FF 00 = 9A = 9A"), 41, "not used"),
     ("a sign for the bytes", step(">", "= 9A"), 31, "not used"),
-    ("24 bytes", step("W", " ".join(["00"] * 24)), 99, "not used"),
-    ("24 bytes to expect", step(">", "FF 00 = " + " ".join(["00"] * 24)), 107, "not used"),
+    ("more bytes than a frame has", step("W", some(ROOM + 1)), BYTES + 3 * ROOM, f"one space between, at most {ROOM}, with"),
+    ("more of them to expect", step(">", "FF 00 = " + some(ROOM + 1)), BYTES + 8 + 3 * ROOM, "not used"),
     ("a - for a command", step(">", "-"), 31, "not used"),
     ("a - and bytes", step("<", "- FF"), 32, "not used"),
     ("a power-up of 3 bytes", step("P", "01 00 00"), 31, "P takes"),
@@ -99,8 +111,8 @@ LINES = [
     ("wire bytes without numbers", step("W", "9A 01"), 37, "W takes"),
     ("wire bytes with too few numbers", step("W", "9A 01 = 00"), 37, "W takes"),
     ("wire bytes with too many numbers", step("W", "9A 01 = 00 00 00"), 37, "W takes"),
-    ("a command of nine bytes", step(">", "FF 00 00 00 00 00 00 00 00"), 31, "> takes"),
-    ("a packet of nine bytes", step("<", "FF 00 00 00 00 00 00 00 00"), 31, "< takes"),
+    ("a command that is too long", step(">", some(MOST + 1)), 31, f"> takes a command of 1 to {MOST} bytes\n"),
+    ("a packet that is too long", step("<", some(MOST + 1)), 31, f"< takes a packet of 1 to {MOST} bytes, or - alone\n"),
     ("a frame of nothing", step("<", "- = 9A 01 00 FF 00"), 31, "< takes"),
     ("UNLOCK of another resource", step("U", "02 = 00 7F F0 04"), 31, "U takes"),
     ("UNLOCK of two resources", step("U", "01 04 = 00 7F F0 04"), 31, "U takes"),
@@ -108,9 +120,9 @@ LINES = [
     ("UNLOCK with a key of 3", step("U", "01 = 00 7F F0"), 34, "U takes"),
     ("a repeat of 0", step("R", "00 FC = FE 00"), 31, "R takes"),
     ("a repeat of nothing", step("R", "02 = FE 00"), 31, "R takes"),
-    ("a repeat of nine bytes", step("R", "02 FC 00 00 00 00 00 00 00 00 = FE 00"), 31, "R takes"),
+    ("a repeat that is too long", step("R", f"02 {some(MOST + 1)} = FE 00"), 31, f"a command of 1 to {MOST} bytes, and"),
     ("a repeat without an answer", step("R", "02 FC"), 37, "R takes"),
-    ("a repeat with an answer of nine", step("R", "02 FC = FE 00 00 00 00 00 00 00 00"), 37, "R takes"),
+    ("a repeat, its answer too long", step("R", "02 FC = " + some(MOST + 1)), 37, f"to expect, of 1 to {MOST} bytes\n"),
     ("an event without its clock", step("E", "00 = 00 00"), 31, "E takes"),
     ("an event of 4 bytes", step("E", "00 00 00 00 = 00 00"), 31, "E takes"),
     ("an event without counts", step("E", "00 00 00"), 40, "E takes"),
@@ -138,8 +150,12 @@ RIGHT = [
     ("no line feed at the end", f"{TITLE}\n{GOOD}", "as expected: 1 case, 1 step"),
     ("empty lines before, between and behind", f"\n{TITLE}\n{GOOD}\n{CONNECT}\n\n\n{TITLE}\n{ANSWER}\n\n\n", "as expected: 2 cases, 3 steps"),
     ("an event that is refused", f"{TITLE}\n{GOOD}\n{step('E', '02 00 00 = 08')}\n", "as expected: 1 case, 2 steps"),
-    ("23 bytes on the wire", f"{TITLE}\n{GOOD}\n{step('W', ' '.join(['00'] * 23) + ' = ' + ' '.join(['00'] * 23))}\n",
+    ("the longest line", f"{TITLE}\n{GOOD}\n{step('W', some(ROOM) + ' = ' + some(ROOM))}\n", "as expected: 1 case, 2 steps"),
+    ("the longest command", f"{TITLE}\n{GOOD}\n{step('>', some(MOST, '9A') + ' = 9A 40 00 ' + some(MOST, '9B 01') + ' C0')}\n",
      "as expected: 1 case, 2 steps"),
+    ("the longest answer", f"{SESSION}{step('>', UPLOAD)}\n{step('<', PAIRS + FRAMED)}\n", "as expected: 1 case, 6 steps"),
+    ("the longest repeat", f"{SESSION}{step('R', f'FF {UPLOAD} {some(56)} = {PAIRS}')}\n", "as expected: 1 case, 5 steps"),
+    ("the most measured bytes", f"{TITLE}\n{GOOD}\n{step('M', '00 00 ' + some(ROOM - 2))}\n", "as expected: 1 case, 2 steps"),
     ("a measured byte at 4,095", f"{TITLE}\n{GOOD}\n{step('M', 'FF 0F 01')}\n", "as expected: 1 case, 2 steps"),
     ("one case of two that differs", f"{TITLE}\n{GOOD}\n{CONNECT}\n{ANSWER}\n\n{TITLE}\n{step('<', 'FF')}\n",
      "DIFFERENT: 1 of 2 cases, 4 steps"),

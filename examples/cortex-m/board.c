@@ -5,15 +5,16 @@
  * its bits would take; on a real board the UART's own send interrupt does that, and the timer is not needed. */
 #include "../board.h"
 #include "mps2.h"
+#include "xcp_slave.h"
 
-enum { BAUD = 38400, BITS = 10 /* start, eight, stop */, WEIGHING = 10 /* milliseconds */, LONGEST = 23 };
+enum { BAUD = 38400, BITS = 10 /* start, eight, stop */, WEIGHING = 10 /* milliseconds */ };
 
 static volatile uint32_t milliseconds;
 static uint32_t weighing_at;
 static uint32_t readings;
 
 /* The frame that is being sent. The main loop fills it while the line is idle, and only the interrupt moves on in it. */
-static uint8_t frame[LONGEST];
+static uint8_t frame[XCP_SLOT_ROOM];
 static volatile uint8_t size, sent, sending;
 
 void systick(void);
@@ -73,7 +74,7 @@ int uart_is_idle(void)
 
 void uart_send(const uint8_t *bytes, size_t count)
 {
-    if (count == 0 || count > LONGEST)
+    if (count == 0 || count > sizeof frame)
         return;
     for (size_t i = 0; i < count; i++)
         frame[i] = bytes[i];

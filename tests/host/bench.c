@@ -8,7 +8,7 @@ static void cases_1_to_3(void)
     powered(&r);
     r.cal[0] = SYNC;
     WIRE(&r, "9A 02 00 FF 00 01", "000001");
-    SENDS_FRAME(&r, "9A 08 00 FF 05 00 08 08 00 01 01 1E");
+    SENDS_FRAME(&r, "9A 08 00 FF 05 00 40 40 00 01 01 8E");
     WIRE(&r, "9A 01 01 FC FE", "00001");
     SENDS_FRAME(&r, "9A 02 01 FE 00 01");
     WIRE(&r, "9A 08 02 F4 01 00 00 00 00 00 00 FF", "000000000001");
@@ -69,14 +69,17 @@ static void case_7(void)
 static void cases_8_and_9(void)
 {
     struct rig r;
+    uint8_t data[62];
+    for (size_t i = 0; i < sizeof data; i++)
+        data[i] = (uint8_t)(i + 1);
     unlocked(&r);
-    ASK(&r, "FF", "F6 00 00 00 FB 0F 00 00");
-    REFUSED(&r, "FE 24", "F0 06 01 02 03 04 05 06");
-    ASK(&r, "FF", "F6 00 00 00 FA 0F 00 00");
-    ASK(&r, "FF", "F0 06 01 02 03 04 05 06");
-    BYTES("written", (const uint8_t *)"\1\2\3\4\5\6", 6, r.cal + 4090, 6);
+    ASK(&r, "FF", "F6 00 00 00 C3 0F 00 00"); /* 4,035 */
+    REFUSED(&r, "FE 24", "F0 3E %s", hex_of(data, sizeof data));
+    ASK(&r, "FF", "F6 00 00 00 C2 0F 00 00"); /* 4,034 */
+    ASK(&r, "FF", "F0 3E %s", hex_of(data, sizeof data));
+    BYTES("written", data, sizeof data, r.cal + 4034, sizeof data);
     ASK(&r, "FF", "F6 00 00 00 00 00 00 00");
-    REFUSED(&r, "FE 22", "F0 07 01 02 03 04 05 06");
+    REFUSED(&r, "FE 22", "F0 3F %s", hex_of(data, sizeof data));
     rig_end(&r);
 }
 
@@ -85,12 +88,11 @@ static void case_10(void)
     struct rig r;
     unlocked(&r);
     HERE();
-    entry(&r, 0, 0, 0, 4, 0, 0);
-    entry(&r, 0, 0, 1, 2, 0, 4);
+    entries(&r, 0, 0, 62, 0, 0);
     mode(&r, 0, 0);
     REFUSED(&r, "FE 2A", "DE 01 00 00");
     HERE();
-    entry(&r, 0, 0, 1, 1, 0, 4);
+    entries(&r, 0, 0, 61, 0, 0); /* the last entry has a byte less */
     ASK(&r, "FF 00", "DE 01 00 00");
     rig_end(&r);
 }

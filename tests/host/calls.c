@@ -4,7 +4,7 @@
 
 /* All that a call is lent, as it was before the call. */
 struct kept {
-    uint8_t state[256], cal[64], meas[64], out[64];
+    uint8_t state[2 * XCP_STATE_SIZE], cal[64], meas[64], out[XCP_SLOT_ROOM];
 };
 
 static void keep(struct kept *k, const struct rig *r, const uint8_t *state, size_t state_len)
@@ -45,8 +45,9 @@ static void bad_state(const struct rig *r, uint8_t *state, size_t len)
 
 static void wrong_sizes(void)
 {
-    static const size_t sizes[] = {
-        0, 1, 4, 22, 23, XCP_STATE_SIZE - 1, XCP_STATE_SIZE + 1, 255, 256};
+    /* 248 and 249 are those of earlier versions */
+    static const size_t sizes[] = {0,   1,   4,   23,   134, 135, 248,
+                                   249, 944, 946, 1024, 2 * XCP_STATE_SIZE};
     for (size_t i = 0; i < COUNT(sizes); i++) {
         struct rig r;
         struct kept k;
@@ -90,7 +91,7 @@ static void marks(void)
 {
     struct rig r;
     rig_start(&r, 16, 16, 1);
-    BYTES("mark", (const uint8_t *)"XCP3", 4, r.state, 4);
+    BYTES("mark", (const uint8_t *)"XCP4", 4, r.state, 4);
     for (unsigned bit = 0; bit < 32; bit++) {
         uint8_t other = (uint8_t)(1 << bit % 8);
         check_note("bit %u of the mark", bit);
@@ -171,7 +172,7 @@ static void little_room(void)
 /* More room than needed: the frame stands at the front and the rest stays, as slot() checks. */
 static void much_room(void)
 {
-    static const size_t rooms[] = {24, 64, 4096, 5000};
+    static const size_t rooms[] = {136, 255, 256, 4096, 5000};
     for (size_t i = 0; i < COUNT(rooms); i++) {
         struct rig r;
         powered(&r);
@@ -185,22 +186,29 @@ static void much_room(void)
     }
 }
 
-/* Frames full of pairs, at every CTR and many checksums, read back as what memory holds. */
+/* The longest answers, each byte of data SYNC or ESC, at every CTR and every checksum: they read
+ * back as what memory holds, and are the very frames. None needs all the room: LEN and FF are no
+ * pairs, and where all data are, CTR and checksum are not both. */
 static void full_frames(void)
 {
     struct rig r;
+    uint8_t packet[PACKET], frame[FRAME];
+    size_t longest = 0;
     connected(&r);
-    memset(r.cal, SYNC, 4);
-    memset(r.cal + 4, ESC, 4);
-    for (int i = 0; i < 512; i++) {
-        uint8_t packet[PACKET];
-        check_note("frame %d", i);
-        r.cal[6] = (uint8_t)(i / 2);
-        NUMBER("taken", 1, give(&r, "F4 07 00 00 00 00 00 00"));
-        NUMBER("eight bytes", 8, (uint32_t)slot(&r, packet));
-        BYTES("data", r.cal, 7, packet + 1, 7);
+    for (unsigned i = 0; i < 256 * (UPLOAD_MOST + 1); i++) {
+        unsigned escs = i / 256;
+        check_note("%u bytes ESC, frame %u", escs, i);
+        memset(r.cal, SYNC, UPLOAD_MOST);
+        memset(r.cal + UPLOAD_MOST - escs, ESC, escs);
+        NUMBER("taken", 1, give(&r, "F4 3F 00 00 00 00 00 00"));
+        NUMBER("bytes of the answer", PACKET, (uint32_t)slot(&r, packet));
+        BYTES("data", r.cal, UPLOAD_MOST, packet + 1, UPLOAD_MOST);
+        size_t size = frame_of((uint8_t)(r.slave_ctr - 1), packet, PACKET, frame);
+        BYTES("frame", frame, size, r.out, size);
+        longest = size > longest ? size : longest;
     }
     check_note("%s", "");
+    NUMBER("the longest frame", FRAME - 3, (uint32_t)longest);
     rig_end(&r);
 }
 

@@ -108,20 +108,19 @@ static void no_entry(struct rig *r)
     entry(r, 1, 0, 2, 0, 1, 0xFFFFFFFF);
 }
 
-static void odt_0_of_6(struct rig *r)
+static void odt_0_of_62(struct rig *r)
 {
     selected(r);
     mode(r, 1, 0);
-    entry(r, 1, 0, 0, 4, 0, 0);
-    entry(r, 1, 0, 3, 2, 0, 0);
+    entries(r, 1, 0, 62, 0, 0);
 }
 
-static void odt_1_of_8(struct rig *r)
+/* Every entry of the ODT has four bytes: it can be set up so, and not started. */
+static void odt_1_of_64(struct rig *r)
 {
     selected(r);
     mode(r, 1, 0);
-    entry(r, 1, 1, 1, 4, 0, 0);
-    entry(r, 1, 1, 2, 4, 0, 0);
+    entries(r, 1, 1, 64, 0, 0);
 }
 
 struct row {
@@ -140,6 +139,7 @@ static const struct row rows[] = {
     /* SYNCH is no refusal, and changes as little */
     {__LINE__, busy, "FC", "FE 00"},
     {__LINE__, seeded, "FC 01 02 03 04 05 06 07", "FE 00"},
+    {__LINE__, busy, "FC 01*63", "FE 00"},
     /* GET_SEED: short, mode 1, other modes and resources */
     {__LINE__, connected, "F8", "FE 21"},
     {__LINE__, connected, "F8 01", "FE 21"},
@@ -204,26 +204,29 @@ static const struct row rows[] = {
     /* UPLOAD: short, MTA unset, count, not inside */
     {__LINE__, connected, "F5", "FE 21"},
     {__LINE__, connected, "F5 00", "FE 29"},
-    {__LINE__, connected, "F5 08", "FE 29"},
+    {__LINE__, connected, "F5 40", "FE 29"},
     {__LINE__, connected, "F5 01", "FE 29"},
     {__LINE__, reading_outside, "F5 00", "FE 22"},
-    {__LINE__, reading_outside, "F5 08", "FE 22"},
+    {__LINE__, reading_outside, "F5 40", "FE 22"},
+    {__LINE__, reading, "F5 40", "FE 22"},
     {__LINE__, reading, "F5 FF", "FE 22"},
     {__LINE__, reading_outside, "F5 01", "FE 24"},
-    {__LINE__, reading_outside, "F5 07 00 00 00", "FE 24"},
+    {__LINE__, reading_outside, "F5 3F 00 00 00", "FE 24"},
     {__LINE__, busy, "F5 00", "FE 22"},
     /* SHORT_UPLOAD: short, count or extension, not inside; it needs no MTA */
     {__LINE__, reading, "F4 00", "FE 21"},
     {__LINE__, reading, "F4 00 00 02 FF FF FF", "FE 21"},
     {__LINE__, reading, "F4 00 00 00 FF FF FF FF", "FE 22"},
-    {__LINE__, reading, "F4 08 00 00 FF FF FF FF", "FE 22"},
+    {__LINE__, reading, "F4 40 00 00 FF FF FF FF", "FE 22"},
+    {__LINE__, reading, "F4 40 00 00 08 00 00 00", "FE 22"},
+    {__LINE__, reading, "F4 FF 00 00 08 00 00 00", "FE 22"},
     {__LINE__, connected, "F4 00 00 07 00 00 00 00", "FE 22"},
     {__LINE__, reading, "F4 01 00 02 FF FF FF FF", "FE 22"},
     {__LINE__, reading, "F4 01 00 00 FF FF FF FF", "FE 24"},
     {__LINE__, reading, "F4 01 00 01 00 10 00 00", "FE 24"},
     {__LINE__, connected, "F4 01 00 01 00 10 00 00", "FE 24"},
-    {__LINE__, reading_outside, "F4 07 00 00 FA 0F 00 00", "FE 24"},
-    {__LINE__, busy, "F4 07 00 01 FA 0F 00 00", "FE 24"},
+    {__LINE__, reading_outside, "F4 3F 00 00 C2 0F 00 00", "FE 24"},
+    {__LINE__, busy, "F4 3F 00 01 C2 0F 00 00", "FE 24"},
     /* BUILD_CHECKSUM: short, MTA unset, size, not inside */
     {__LINE__, connected, "F3", "FE 21"},
     {__LINE__, connected, "F3 00 00 00 00 00 00", "FE 21"},
@@ -240,28 +243,67 @@ static const struct row rows[] = {
     /* DOWNLOAD: short, locked, MTA unset, count, data missing, extension 1, not inside */
     {__LINE__, connected, "F0", "FE 21"},
     {__LINE__, unlocked, "F0", "FE 21"},
-    {__LINE__, connected, "F0 07", "FE 25"},
+    {__LINE__, connected, "F0 3F", "FE 25"},
     {__LINE__, locked_writing, "F0 00", "FE 25"},
     {__LINE__, locked_writing, "F0 01 55", "FE 25"},
     {__LINE__, unlocked, "F0 00", "FE 29"},
-    {__LINE__, unlocked, "F0 07", "FE 29"},
+    {__LINE__, unlocked, "F0 3F", "FE 29"},
     {__LINE__, unlocked, "F0 01 55", "FE 29"},
     {__LINE__, measured_outside, "F0 00", "FE 22"},
-    {__LINE__, measured_outside, "F0 07", "FE 22"},
-    {__LINE__, writing, "F0 07 01 02 03 04 05", "FE 22"},
-    {__LINE__, writing, "F0 07 01 02 03 04 05 06", "FE 22"},
-    {__LINE__, writing, "F0 FF 01 02 03 04 05 06", "FE 22"},
-    {__LINE__, writing, "F0 00 01 02 03 04 05 06", "FE 22"},
-    {__LINE__, measured_outside, "F0 06 01 02 03 04 05", "FE 21"},
+    {__LINE__, measured_outside, "F0 3F", "FE 22"},
+    {__LINE__, writing, "F0 3F 55*61", "FE 22"},
+    {__LINE__, writing, "F0 3F 55*62", "FE 22"},
+    {__LINE__, writing, "F0 40 55*62", "FE 22"},
+    {__LINE__, writing, "F0 FF 55*62", "FE 22"},
+    {__LINE__, writing, "F0 00 55*62", "FE 22"},
+    {__LINE__, measured_outside, "F0 3E 55*61", "FE 21"},
+    {__LINE__, writing, "F0 3E 55*61", "FE 21"},
     {__LINE__, measured_outside, "F0 01", "FE 21"},
     {__LINE__, writing, "F0 02 01", "FE 21"},
     {__LINE__, measured_outside, "F0 01 55", "FE 23"},
     {__LINE__, writing_measured, "F0 01 55", "FE 23"},
+    {__LINE__, writing_measured, "F0 3E 55*62", "FE 23"},
     {__LINE__, writing_outside, "F0 01 55", "FE 24"},
     {__LINE__, writing_outside, "F0 03 55 55 55", "FE 24"},
+    {__LINE__, writing_outside, "F0 3E 55*62", "FE 24"},
     {__LINE__, busy, "F0 00 01", "FE 22"},
     {__LINE__, shut, "F0", "FE 21"},
     {__LINE__, shut, "F0 01 55", "FE 25"},
+    /* SHORT_DOWNLOAD: short, locked, count or extension, data missing, extension 1, not inside; it
+     * needs no MTA, and leaves the one that there is (more of it in short_download.c) */
+    {__LINE__, connected, "ED", "FE 21"},
+    {__LINE__, connected, "ED 00 00 02 FF FF FF", "FE 21"},
+    {__LINE__, unlocked, "ED 00 00 02 FF FF FF", "FE 21"},
+    {__LINE__, writing, "ED 01 00 00 08 00 00", "FE 21"},
+    {__LINE__, connected, "ED 00 00 02 FF FF FF FF", "FE 25"},
+    {__LINE__, locked_writing, "ED 01 00 00 08 00 00 00", "FE 25"},
+    {__LINE__, locked_writing, "ED 01 00 01 FF FF FF FF 55", "FE 25"},
+    {__LINE__, locked_writing, "ED 01 00 00 08 00 00 00 55", "FE 25"},
+    {__LINE__, locked_writing, "ED 38 00 00 08 00 00 00 55*56", "FE 25"},
+    {__LINE__, unlocked, "ED 00 00 02 FF FF FF FF", "FE 22"},
+    {__LINE__, unlocked, "ED 00 00 00 08 00 00 00", "FE 22"},
+    {__LINE__, unlocked, "ED 39 00 01 FF FF FF FF", "FE 22"},
+    {__LINE__, writing, "ED 00 00 00 08 00 00 00 55*56", "FE 22"},
+    {__LINE__, writing, "ED 39 00 00 08 00 00 00 55*56", "FE 22"},
+    {__LINE__, writing, "ED FF 00 00 08 00 00 00 55*56", "FE 22"},
+    {__LINE__, unlocked, "ED 01 00 02 FF FF FF FF", "FE 22"},
+    {__LINE__, writing, "ED 38 00 02 08 00 00 00 55*56", "FE 22"},
+    {__LINE__, writing, "ED 01 00 FF 08 00 00 00 55", "FE 22"},
+    {__LINE__, unlocked, "ED 01 00 01 FF FF FF FF", "FE 21"},
+    {__LINE__, measured_outside, "ED 38 00 01 FF FF FF FF 55*55", "FE 21"},
+    {__LINE__, writing, "ED 02 00 00 08 00 00 00 55", "FE 21"},
+    {__LINE__, writing, "ED 38 00 00 08 00 00 00 55*55", "FE 21"},
+    {__LINE__, unlocked, "ED 01 00 01 FF FF FF FF 55", "FE 23"},
+    {__LINE__, writing, "ED 38 00 01 08 00 00 00 55*56", "FE 23"},
+    {__LINE__, writing_measured, "ED 01 00 01 08 00 00 00 55", "FE 23"},
+    {__LINE__, unlocked, "ED 01 00 00 FF FF FF FF 55", "FE 24"},
+    {__LINE__, writing, "ED 01 00 00 00 10 00 00 55", "FE 24"},
+    {__LINE__, writing, "ED 38 00 00 C9 0F 00 00 55*56", "FE 24"},
+    {__LINE__, measured_outside, "ED 38 00 00 00 00 01 00 55*56", "FE 24"},
+    {__LINE__, busy, "ED 39 00 00 08 00 00 00 55*56", "FE 22"},
+    {__LINE__, busy, "ED 38 00 00 C9 0F 00 00 55*56", "FE 24"},
+    {__LINE__, shut, "ED 01 00 00 08 00 00", "FE 21"},
+    {__LINE__, shut, "ED 01 00 00 08 00 00 00 55", "FE 25"},
     /* CLEAR_DAQ_LIST: short, locked, list, runs */
     {__LINE__, lists_locked, "E3", "FE 21"},
     {__LINE__, lists_locked, "E3 00 04", "FE 21"},
@@ -274,11 +316,12 @@ static const struct row rows[] = {
     /* SET_DAQ_PTR: short, locked, then list, ODT and entry, one at a time */
     {__LINE__, lists_locked, "E2", "FE 21"},
     {__LINE__, lists_locked, "E2 00 04 00 02", "FE 21"},
-    {__LINE__, lists_locked, "E2 00 04 00 02 04", "FE 25"},
+    {__LINE__, lists_locked, "E2 00 04 00 02 10", "FE 25"},
     {__LINE__, busy, "E2 00 04 00 00 00", "FE 22"},
     {__LINE__, busy, "E2 00 01 01 00 00", "FE 22"},
     {__LINE__, busy, "E2 00 01 00 02 00", "FE 22"},
-    {__LINE__, busy, "E2 00 01 00 00 04", "FE 22"},
+    {__LINE__, busy, "E2 00 01 00 00 10", "FE 22"},
+    {__LINE__, busy, "E2 00 01 00 01 10", "FE 22"},
     {__LINE__, pointing, "E2 00 FF FF FF FF", "FE 22"},
     /* WRITE_DAQ: short, locked, pointer unset, numbers, list runs, not inside */
     {__LINE__, lists_locked, "E1", "FE 21"},
@@ -329,8 +372,8 @@ static const struct row rows[] = {
     {__LINE__, busy, "DE 01 03 00", "FE 2A"},
     {__LINE__, no_mode, "DE 01 01 00", "FE 2A"},
     {__LINE__, no_entry, "DE 01 01 00", "FE 2A"},
-    {__LINE__, odt_0_of_6, "DE 01 01 00", "FE 2A"},
-    {__LINE__, odt_1_of_8, "DE 01 01 00", "FE 2A"},
+    {__LINE__, odt_0_of_62, "DE 01 01 00", "FE 2A"},
+    {__LINE__, odt_1_of_64, "DE 01 01 00", "FE 2A"},
     /* START_STOP_SYNCH: short, locked, mode, one selected list unfit: then none starts */
     {__LINE__, lists_locked, "DD", "FE 21"},
     {__LINE__, lists_locked, "DD 03", "FE 25"},
@@ -339,8 +382,8 @@ static const struct row rows[] = {
     {__LINE__, busy, "DD 01", "FE 2A"},
     {__LINE__, no_mode, "DD 01", "FE 2A"},
     {__LINE__, no_entry, "DD 01", "FE 2A"},
-    {__LINE__, odt_0_of_6, "DD 01", "FE 2A"},
-    {__LINE__, odt_1_of_8, "DD 01", "FE 2A"},
+    {__LINE__, odt_0_of_62, "DD 01", "FE 2A"},
+    {__LINE__, odt_1_of_64, "DD 01", "FE 2A"},
     /* GET_DAQ_PROCESSOR_INFO and GET_DAQ_RESOLUTION_INFO need lists too */
     {__LINE__, lists_locked, "DA", "FE 25"},
     {__LINE__, lists_locked, "D9", "FE 25"},
@@ -377,9 +420,9 @@ static size_t fewest(unsigned code)
     static const uint8_t of[] = {
         [0xFF - 0xD9] = 2, [0xFE - 0xD9] = 1, [0xFD - 0xD9] = 1, [0xFC - 0xD9] = 1,
         [0xF8 - 0xD9] = 3, [0xF7 - 0xD9] = 2, [0xF6 - 0xD9] = 8, [0xF5 - 0xD9] = 2,
-        [0xF4 - 0xD9] = 8, [0xF3 - 0xD9] = 8, [0xF0 - 0xD9] = 2, [0xE3 - 0xD9] = 4,
-        [0xE2 - 0xD9] = 6, [0xE1 - 0xD9] = 8, [0xE0 - 0xD9] = 8, [0xDE - 0xD9] = 4,
-        [0xDD - 0xD9] = 2, [0xDA - 0xD9] = 1, [0xD9 - 0xD9] = 1,
+        [0xF4 - 0xD9] = 8, [0xF3 - 0xD9] = 8, [0xF0 - 0xD9] = 2, [0xED - 0xD9] = 8,
+        [0xE3 - 0xD9] = 4, [0xE2 - 0xD9] = 6, [0xE1 - 0xD9] = 8, [0xE0 - 0xD9] = 8,
+        [0xDE - 0xD9] = 4, [0xDD - 0xD9] = 2, [0xDA - 0xD9] = 1, [0xD9 - 0xD9] = 1,
     };
     return code < 0xD9 ? 0 : of[code - 0xD9];
 }
@@ -391,8 +434,9 @@ static void every_code(void)
     busy(&r);
     for (unsigned code = 0; code < 256; code++)
         for (size_t len = 1; len <= PACKET; len++) {
-            uint8_t packet[PACKET] = {(uint8_t)code, 0xFF, 0xFF, 0xFF, 0xFF, 0xFF, 0xFF, 0xFF};
-            uint8_t answer[PACKET] = {0};
+            uint8_t packet[PACKET], answer[PACKET] = {0};
+            memset(packet, 0xFF, sizeof packet);
+            packet[0] = (uint8_t)code;
             if (fewest(code) != 0 && len >= fewest(code))
                 continue;
             check_note("code %02X, %zu bytes", code, len);
@@ -408,15 +452,15 @@ static void every_code(void)
 
 static void unknown_changes_nothing(void)
 {
-    static const char *const codes[] = {"00", "BF", "C0", "CF", "D8", "DB", "DC", "DF", "E4", "EF",
-                                        "F1", "F2", "F9", "FA", "FB"};
+    static const char *const codes[] = {"00", "BF", "C0", "CF", "D8", "DB", "DC", "DF", "E4",
+                                        "EC", "EE", "EF", "F1", "F2", "F9", "FA", "FB"};
     for (size_t i = 0; i < COUNT(codes); i++) {
         struct rig r;
         busy(&r);
         REFUSED(&r, "FE 20", "%s", codes[i]);
         rig_end(&r);
         busy(&r);
-        REFUSED(&r, "FE 20", "%s 01 02 00 00 00 00 00", codes[i]);
+        REFUSED(&r, "FE 20", "%s 01 02 00 00 00 00 00 55*56", codes[i]);
         rig_end(&r);
     }
 }
@@ -438,17 +482,20 @@ struct range {
 
 /* GET_SEED's mode 1 has a code of its own, so it counts as inside here. */
 static const struct range ranges[] = {
-    {__LINE__, all_set, "F5 %02X", 1, 7},
-    {__LINE__, all_set, "F4 %02X 00 00 00 00 00 00", 1, 7},
+    {__LINE__, all_set, "F5 %02X", 1, 63},
+    {__LINE__, all_set, "F4 %02X 00 00 00 00 00 00", 1, 63},
     {__LINE__, all_set, "F4 01 00 %02X 00 00 00 00", 0, 1},
     {__LINE__, all_set, "F6 00 00 %02X 00 00 00 00", 0, 1},
-    {__LINE__, all_set, "F0 %02X 01 02 03 04 05 06", 1, 6},
+    {__LINE__, all_set, "F0 %02X 55*62", 1, 62},
+    {__LINE__, all_set, "ED %02X 00 00 00 00 00 00 55*56", 1, 56},
+    {__LINE__, all_set, "ED 01 00 %02X 00 00 00 00 55", 0, 1},
     {__LINE__, all_set, "E3 00 %02X 00", 0, 3},
     {__LINE__, all_set, "E3 00 00 %02X", 0, 0},
     {__LINE__, all_set, "E2 00 %02X 00 00 00", 0, 3},
     {__LINE__, all_set, "E2 00 00 %02X 00 00", 0, 0},
     {__LINE__, all_set, "E2 00 00 00 %02X 00", 0, 1},
-    {__LINE__, all_set, "E2 00 00 00 00 %02X", 0, 3},
+    {__LINE__, all_set, "E2 00 00 00 00 %02X", 0, 15},
+    {__LINE__, all_set, "E2 00 03 00 01 %02X", 0, 15},
     {__LINE__, all_set, "E1 %02X 01 00 00 00 00 00", 0xFF, 0xFF},
     {__LINE__, all_set, "E1 FF %02X 00 00 00 00 00", 0, 4},
     {__LINE__, all_set, "E1 FF 01 %02X 00 00 00 00", 0, 1},
@@ -468,23 +515,30 @@ static const struct range ranges[] = {
     {__LINE__, seeded_lists, "F7 %02X 00 00 00 00", 4, 4},
 };
 
+/* Each value from the same state. */
 static void every_range(void)
 {
-    for (size_t i = 0; i < COUNT(ranges); i++)
+    for (size_t i = 0; i < COUNT(ranges); i++) {
+        struct rig r, kept;
+        uint8_t state[XCP_STATE_SIZE];
+        ROW(&ranges[i]);
+        ranges[i].situation(&r);
+        kept = r;
+        memcpy(state, r.state, sizeof state);
         for (unsigned value = 0; value < 256; value++) {
-            struct rig r;
             uint8_t answer[PACKET] = {0};
-            ROW(&ranges[i]);
-            ranges[i].situation(&r);
             check_note("value %02X", value);
             insist("taken", 1, give(&r, ranges[i].format, value));
             insist("an answer", 1, slot(&r, answer) > 0);
             uint32_t outside = value < ranges[i].least || value > ranges[i].most;
             uint32_t refused_so = answer[0] == 0xFE && answer[1] == 0x22;
             check_numbers("outside its range", outside, refused_so);
-            check_note("%s", "");
-            rig_end(&r);
+            r = kept;
+            memcpy(r.state, state, sizeof state);
         }
+        check_note("%s", "");
+        rig_end(&r);
+    }
 }
 
 /* GET_SEED knows two resources; to any other it answers as to a number outside its range. */
@@ -516,8 +570,10 @@ static void ignored_bytes(void)
     ASK(&r, "FF", "F6 AA BB 00 00 01 00 00");
     ASK(&r, "FF 41", "F5 01 AA BB CC DD EE FF");
     ASK(&r, "FF 02 00 00 85 00 00 00", "F3 AA BB CC 02 00 00 00");
-    ASK(&r, "FF", "F0 01 54 AA BB CC DD EE");
+    ASK(&r, "FF", "F0 01 54 AA*61");
     BYTES("one byte written", (const uint8_t *)"\x41\x42\x43\x54", 4, r.cal + 0x100, 4);
+    ASK(&r, "FF", "ED 01 BB 00 03 01 00 00 44 AA*55");
+    BYTES("one byte written", (const uint8_t *)"\x41\x42\x43\x44", 4, r.cal + 0x100, 4);
     ASK(&r, "FF", "E3 AA 01 00 BB CC DD EE");
     ASK(&r, "FF", "E2 AA 01 00 00 00 BB CC");
     ASK(&r, "FF", "E1 FF 01 00 02 01 00 00");

@@ -31,6 +31,9 @@ static const char *const session[] = {
     "F6 00 00 00 00 01 00 00",
     "F0 01 9B",
     "F3 00 00 00 10 00 00 00",
+    "ED 38 9A 00 40 01 00 00 9A*28 9B*28", /* SHORT_DOWNLOAD, most of it sent as pairs */
+    "F0 3E 9B*31 9A*31",                   /* the longest DOWNLOAD and UPLOAD, behind it */
+    "F5 3F",
     "FD",
     "FC",
     "DD 00",
@@ -41,7 +44,7 @@ static const char *const session[] = {
  * answers which writes were acknowledged. */
 struct witness {
     int inside, begun, escaped; /* begun: a byte has come after SYNC */
-    uint8_t message[PACKET + 3];
+    uint8_t message[MESSAGE];
     size_t count;
     int open, waits;            /* a session is open; an answer waits */
     uint8_t command[PACKET];    /* the command whose answer waits */
@@ -115,7 +118,28 @@ static void send_byte(struct rig *r, struct witness *w, uint8_t byte)
     }
 }
 
-/* A write counts once its answer FF has left, at the MTA that earlier answers tell. */
+static void set_mta(struct witness *w, uint32_t behind)
+{
+    const uint8_t *c = w->command;
+    w->mta_set = 1;
+    w->mta_ext = c[3];
+    w->mta = c[4] | (uint32_t)c[5] << 8 | (uint32_t)c[6] << 16 | (uint32_t)c[7] << 24;
+    w->mta += behind;
+}
+
+/* As many bytes of the command as it counts, at the MTA, which moves on. */
+static void write_down(struct witness *w, const uint8_t *bytes)
+{
+    uint8_t count = w->command[1];
+    int inside = w->mta_set && w->mta_ext == 0 && w->mta <= (uint32_t)(MEMORY - count);
+    insist("a write goes where an MTA was set", 1, (uint32_t)inside);
+    if (inside)
+        memcpy(w->cal + w->mta, bytes, count);
+    w->mta += count;
+}
+
+/* A write counts once its answer FF has left, at its own address or at the MTA that earlier answers
+ * tell. */
 static void acknowledge(struct witness *w, const uint8_t *answer, size_t len)
 {
     const uint8_t *c = w->command;
@@ -129,19 +153,16 @@ static void acknowledge(struct witness *w, const uint8_t *answer, size_t len)
         w->open = 1;
         w->mta_set = 0;
     } else if (c[0] == 0xF6 || c[0] == 0xF4) {
-        w->mta_set = 1;
-        w->mta_ext = c[3];
-        w->mta = c[4] | (uint32_t)c[5] << 8 | (uint32_t)c[6] << 16 | (uint32_t)c[7] << 24;
-        w->mta += (uint32_t)len - 1; /* SET_MTA's answer has no byte */
+        set_mta(w, (uint32_t)len - 1); /* SET_MTA's answer has no byte */
     } else if (c[0] == 0xF5) {
         w->mta += (uint32_t)len - 1;
     } else if (c[0] == 0xF3) {
         w->mta += c[4] | (uint32_t)c[5] << 8;
     } else if (c[0] == 0xF0) {
-        insist("a write goes where an MTA was set", 1,
-               w->mta_set && w->mta_ext == 0 && w->mta + c[1] <= MEMORY);
-        memcpy(w->cal + w->mta % MEMORY, c + 2, c[1]);
-        w->mta += c[1];
+        write_down(w, c + 2);
+    } else if (c[0] == 0xED) {
+        set_mta(w, 0);
+        write_down(w, c + 8);
     }
 }
 
@@ -300,6 +321,7 @@ static void shuts(struct rig *r)
 static void whole_session(damage *by)
 {
     static const uint8_t written[] = {1, 2, 0x9A, 0x9B, 5, 6, 0x9B, 0, 0x9A, 0x11, 0x22};
+    uint8_t table[56 + 62];
     struct rig r;
     struct witness w;
     struct moment m;
@@ -327,6 +349,8 @@ static void whole_session(damage *by)
     }
     check_note("%s", "");
     check_bytes("what the session wrote", written, sizeof written, r.cal + 0x9A, sizeof written);
+    bytes_of("9A*28 9B*28 9B*31 9A*31", table, sizeof table);
+    check_bytes("and in long packets", table, sizeof table, r.cal + 0x140, sizeof table);
     shuts(&r);
     rig_end(&r);
 }

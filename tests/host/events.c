@@ -4,7 +4,7 @@
 static void sampling(struct rig *r)
 {
     unlocked(r);
-    for (unsigned list = 0; list < 4; list++) {
+    for (unsigned list = 0; list < LIST_COUNT; list++) {
         entry(r, list, 0, 0, 2, 1, 16 * list);
         if (list < 2)
             entry(r, list, 1, 0, 3, 0, 16 * list);
@@ -66,7 +66,7 @@ static void counts(void)
 {
     struct rig r;
     unlocked(&r);
-    for (unsigned list = 0; list < 4; list++) {
+    for (unsigned list = 0; list < LIST_COUNT; list++) {
         HERE();
         entry(&r, list, 0, 0, 1, 0, 0);
         mode(&r, list, 0);
@@ -158,6 +158,107 @@ static void other_memories(void)
     rig_end(&r);
 }
 
+/* Lists as full as they can be: 61 measured bytes in ODT 0, 63 of calibration in ODT 1. */
+static void full_lists(struct rig *r)
+{
+    unlocked(r);
+    for (unsigned list = 0; list < LIST_COUNT; list++) {
+        entries(r, list, 0, ODT_0_MOST, 1, 0x400 * list);
+        entries(r, list, 1, ODT_1_MOST, 0, 0x400 * list + 7);
+        mode(r, list, 0);
+        start(r, list);
+    }
+}
+
+/* Both packets of every full list, whole and in order. */
+static void sends_full(struct rig *r, uint16_t clock)
+{
+    for (unsigned odt = 0; odt < ODT_COUNT; odt++)
+        for (unsigned list = 0; list < LIST_COUNT; list++)
+            if (odt == 0)
+                sends(r, "%02X %02X %02X %s", 2 * list, LE16(clock),
+                      hex_of(r->meas + 0x400 * list, ODT_0_MOST));
+            else
+                sends(r, "%02X %s", 2 * list + 1, hex_of(r->cal + 0x400 * list + 7, ODT_1_MOST));
+    sends(r, "");
+}
+
+/* Samples of the longest packets: of scattered bytes, of SYNC, of ESC, of both; at every CTR, since
+ * eight frames leave at a time. The clock is sent as pairs too, as often as not. */
+static void full_samples(void)
+{
+    struct rig r;
+    HERE();
+    full_lists(&r);
+    for (unsigned i = 0; i < 3 * 256 / 8; i++) {
+        check_note("sample %u", i);
+        for (size_t k = 0; i > 0 && k < REACH; k++) {
+            r.cal[k] = i % 3 == 0 ? SYNC : i % 3 == 1 ? ESC : (i + k) % 5 < 2 ? ESC : SYNC;
+            r.meas[k] = i % 3 == 0 ? ESC : i % 3 == 1 ? SYNC : (i + k) % 7 < 3 ? SYNC : ESC;
+        }
+        uint16_t clock = i % 2 == 0 ? 0x9A9B : (uint16_t)(259 * i);
+        NUMBER("all sample", 0x400, event(&r, 0, clock));
+        NUMBER("all miss the next", 4, event(&r, 0, 1));
+        HERE();
+        sends_full(&r, clock);
+    }
+    check_note("%s", "");
+    rig_end(&r);
+}
+
+/* Full packets of samples and of answers in turn; a command of the longest packet comes between. */
+static void full_packets_in_turn(void)
+{
+    struct rig r;
+    uint8_t packet[PACKET];
+    HERE();
+    full_lists(&r);
+    ask(&r, "FF", "F6 00 00 00 00 08 00 00");
+    NUMBER("all sample", 0x400, event(&r, 0, 1));
+    NUMBER("list 0", PACKET, (uint32_t)slot(&r, packet)); /* the last frame was an answer */
+    NUMBER("DOWNLOAD", 1, give(&r, "F0 3E 9A*62"));
+    SENDS(&r, "FF");
+    NUMBER("list 1", PACKET, (uint32_t)slot(&r, packet));
+    NUMBER("SHORT_DOWNLOAD", 1, give(&r, "ED 38 00 00 3E 08 00 00 9B*56"));
+    SENDS(&r, "FF");
+    NUMBER("list 2", PACKET, (uint32_t)slot(&r, packet));
+    NUMBER("SHORT_UPLOAD", 1, give(&r, "F4 3F 00 00 37 08 00 00"));
+    SENDS(&r, "FF 9A*7 9B*56");
+    NUMBER("list 3", PACKET, (uint32_t)slot(&r, packet));
+    NUMBER("its number", 6, packet[0]);
+    NUMBER("UPLOAD", 1, give(&r, "F5 3F"));
+    SENDS(&r, "FF %s", hex_of(r.cal + 0x876, UPLOAD_MOST));
+    for (unsigned list = 0; list < LIST_COUNT; list++) {
+        NUMBER("ODT 1", PACKET, (uint32_t)slot(&r, packet));
+        NUMBER("its number", 2 * list + 1, packet[0]);
+    }
+    SENDS(&r, "");
+    rig_end(&r);
+}
+
+/* Full lists whose memories end inside an entry, between two, or are gone: the rest reads 0. */
+static void shrunk_full(void)
+{
+    static const size_t lengths[] = {0, 1, 4, 31, 59, 60, 61, 62, 69, 70};
+    for (size_t i = 0; i < COUNT(lengths); i++) {
+        struct rig r;
+        uint8_t expected[2 * PACKET];
+        HERE();
+        full_lists(&r);
+        memset(expected, 0, sizeof expected);
+        memcpy(expected, r.meas, lengths[i]);
+        rig_resize_meas(&r, lengths[i]);
+        check_note("%zu bytes left", lengths[i]);
+        NUMBER("sampled all the same", 0x400, event(&r, 0, 0x0201));
+        SENDS(&r, "00 01 02 %s", hex_of(expected, ODT_0_MOST));
+        for (unsigned list = 1; list < LIST_COUNT; list++)
+            SENDS(&r, "%02X 01 02 00*61", 2 * list);
+        SENDS(&r, "01 %s", hex_of(r.cal + 7, ODT_1_MOST));
+        check_note("%s", "");
+        rig_end(&r);
+    }
+}
+
 /* ODT 0 without bytes still sends its number and the clock; ODT 1 without bytes sends nothing. */
 static void empty_odts(void)
 {
@@ -210,7 +311,7 @@ static void round_runs_on(void)
     SENDS(&r, CONNECTED);
     HERE();
     unlock(&r, LISTS);
-    for (unsigned list = 0; list < 4; list++) {
+    for (unsigned list = 0; list < LIST_COUNT; list++) {
         entry(&r, list, 0, 0, 1, 0, 0);
         mode(&r, list, 0);
         start(&r, list);
@@ -226,16 +327,17 @@ static void round_runs_on(void)
     rig_end(&r);
 }
 
-/* Events and slots between the bytes of a command do not disturb it. */
-static void between_bytes(void)
+/* Events and slots between the bytes of a command, a short or a long one, do not disturb it. */
+static void between_bytes(size_t count)
 {
-    static const uint8_t packet[] = {0xF0, 6, SYNC, ESC, 1, 0, SYNC, ESC};
     struct rig r;
-    uint8_t frame[FRAME], sent[PACKET];
+    uint8_t packet[PACKET] = {0xF0, (uint8_t)count}, frame[FRAME], sent[PACKET];
     HERE();
     sampling(&r);
     ask(&r, "FF", "F6 00 00 00 80 00 00 00");
-    size_t size = frame_of(SYNC, packet, sizeof packet, frame);
+    for (size_t i = 0; i < count; i++)
+        packet[2 + i] = (uint8_t)(i % 4 == 0 ? SYNC : i % 4 == 1 ? ESC : i % 4 == 2);
+    size_t size = frame_of(SYNC, packet, 2 + count, frame);
     for (size_t i = 0; i < size; i++) {
         check_note("byte %zu", i);
         NUMBER("number", i + 1 == size, feed(&r, frame[i]));
@@ -244,7 +346,7 @@ static void between_bytes(void)
             slot(&r, sent);
     }
     check_note("%s", "");
-    BYTES("written", packet + 2, 6, r.cal + 0x80, 6);
+    BYTES("written", packet + 2, count, r.cal + 0x80, count);
     int first = slot(&r, sent) > 0 && sent[0] == 0xFF;
     int second = slot(&r, sent) > 0 && sent[0] == 0xFF;
     NUMBER("its answer leaves in one of two slots", 1, (uint32_t)(first + second));
@@ -327,7 +429,7 @@ static void sixteen_slots(void)
     struct rig r;
     uint8_t packet[PACKET];
     unlocked(&r);
-    for (unsigned list = 0; list < 4; list++) {
+    for (unsigned list = 0; list < LIST_COUNT; list++) {
         HERE();
         entry(&r, list, 0, 0, 1, 0, 0);
         entry(&r, list, 1, 0, 1, 0, 1);
@@ -358,10 +460,14 @@ void test_events(void)
     no_list_runs();
     shrunk();
     other_memories();
+    full_samples();
+    full_packets_in_turn();
+    shrunk_full();
     empty_odts();
     half_a_sample();
     round_runs_on();
-    between_bytes();
+    between_bytes(6);
+    between_bytes(DOWNLOAD_MOST);
     turns();
     sixteen_slots();
 }

@@ -8,15 +8,17 @@
 
 #define COUNT(table) (sizeof(table) / sizeof(table)[0])
 
-void test_calls(void);    /* the calls themselves: sizes, states, NULL, numbers 8 to 10 */
-void test_line(void);     /* bytes to messages: numbers 0, 3, 4, 5, 7 */
-void test_session(void);  /* whole messages: numbers 1, 2, 6; a session from end to end; keys */
-void test_shut(void);     /* three wrong keys, and it stays shut until a power-up */
-void test_commands(void); /* every command's checks, in order, and that a refusal changes nothing */
-void test_memory(void);   /* reading and writing, at memories of any length */
-void test_lists(void);    /* lists: set up, selected, started, stopped */
-void test_events(void);   /* events and slots: samples, whose turn it is */
-void test_bench(void);    /* the bench sheet, byte for byte */
+void test_calls(void);          /* the calls themselves: sizes, states, NULL, numbers 8 to 10 */
+void test_line(void);           /* bytes to messages: numbers 0, 3, 4, 5, 7 */
+void test_session(void);        /* whole messages: numbers 1, 2, 6; a session to its end; keys */
+void test_shut(void);           /* three wrong keys, and it stays shut until a power-up */
+void test_commands(void);       /* every command's checks, in order; a refusal changes nothing */
+void test_short_download(void); /* writing at an address of its own */
+void test_memory(void);         /* reading and writing, at memories of any length */
+void test_lists(void);          /* lists: set up, selected, started, stopped */
+void test_events(void);         /* events and slots: samples, whose turn it is */
+void test_state(void);          /* the state's bytes: how each value reads, what is written */
+void test_bench(void);          /* the bench sheet, byte for byte */
 
 /* Situations, each from a power-up with the same memories. */
 void powered(struct rig *r);          /* no session */

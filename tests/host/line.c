@@ -32,7 +32,10 @@ static const struct row rows[] = {
     /* SYNC after an ended message */
     {__LINE__, "9A 01 01 FC FE 9A 01 01 FC FE", "0000200002"},
     /* SYNC after a dropped one: LEN */
-    {__LINE__, "9A 09 9A 01 01 FC FE", "0300002"},
+    {__LINE__, "9A 41 9A 01 01 FC FE", "0300002"},
+    {__LINE__, "9A FF 9A 01 01 FC FE", "0300002"},
+    /* cut off after the longest LEN */
+    {__LINE__, "9A 40 9A 01 01 FC FE", "0070002"},
     /* escape */
     {__LINE__, "9A 01 9B 05 9A 01 01 FC FE", "000400002"},
     /* checksum */
@@ -41,7 +44,7 @@ static const struct row rows[] = {
     {__LINE__, "9B 00 9B 01 9B 9A 01 01 FC FE", "0000000002"},
     /* ESC ESC: no new pair begins */
     {__LINE__, "9A 01 9B 9B 00 FC 9A 01 01 FC FE", "00040000002"},
-    /* LEN as a pair: 9B is above 8 */
+    /* LEN as a pair: 9B is above 64 */
     {__LINE__, "9A 9B 00 01 FC", "00300"},
     /* and so is 9A */
     {__LINE__, "9A 9B 01 01 FC", "00300"},
@@ -50,7 +53,7 @@ static const struct row rows[] = {
     /* LEN 0 */
     {__LINE__, "9A 00 01 FC FE", "03000"},
     /* the rest is passed over */
-    {__LINE__, "9A 09 01 02 03 04 05 06 07 08 09 0A 0B", "0300000000000"},
+    {__LINE__, "9A 41 01 02 03 04 05 06 07 08 09 0A 0B", "0300000000000"},
     /* a pair in CTR */
     {__LINE__, "9A 01 9B 01 FC 97", "000002"},
     {__LINE__, "9A 01 9B 00 FC 98", "000002"},
@@ -130,7 +133,7 @@ static void every_len(void)
     powered(&r);
     for (unsigned len = 0; len < 256; len++) {
         check_note("LEN %02X", len);
-        uint32_t expected = (len >= 1 && len <= 8) || len == SYNC || len == ESC ? 0 : 3;
+        uint32_t expected = (len >= 1 && len <= PACKET) || len == SYNC || len == ESC ? 0 : 3;
         feed(&r, SYNC);
         NUMBER("LEN", expected, feed(&r, (uint8_t)len));
     }
@@ -181,17 +184,46 @@ static void every_checksum(void)
     rig_end(&r);
 }
 
-/* Every CTR, and packets of 1 to 8 bytes of which all but the first are SYNC or ESC. */
+/* Every CTR with packets of every length, of which all bytes but the first are SYNC or ESC. */
 static void every_ctr_and_length(void)
 {
     struct rig r;
+    uint8_t packet[PACKET] = {0xFD}, answer[PACKET];
     connected(&r);
-    for (unsigned i = 0; i < 512; i++) {
-        uint8_t packet[PACKET] = {0xFD, SYNC, ESC, SYNC, SYNC, ESC, ESC, SYNC}, answer[PACKET];
-        check_note("frame %u", i);
-        NUMBER("taken", 1, give_bytes(&r, packet, 1 + i % PACKET));
-        NUMBER("answered", 6, (uint32_t)slot(&r, answer));
+    for (size_t i = 1; i < PACKET; i++)
+        packet[i] = i * 5 % 7 < 3 ? SYNC : ESC;
+    for (size_t len = 1; len <= PACKET; len++)
+        for (unsigned ctr = 0; ctr < 256; ctr++) {
+            r.master_ctr = (uint8_t)ctr;
+            check_note("CTR %02X, %zu bytes", ctr, len);
+            NUMBER("taken", 1, give_bytes(&r, packet, len));
+            NUMBER("answered", 6, (uint32_t)slot(&r, answer));
+        }
+    check_note("%s", "");
+    rig_end(&r);
+}
+
+/* The longest frame that can come: all behind LEN is SYNC or ESC, the checksum too. LEN never is,
+ * so that the frame has a byte less than is reckoned. SYNC cuts it off at every place. */
+static void longest_frame(void)
+{
+    struct rig r;
+    uint8_t packet[PACKET], frame[FRAME];
+    memset(packet, ESC, sizeof packet);
+    size_t size = frame_of(SYNC, packet, sizeof packet, frame);
+    NUMBER("its size", FRAME - 1, (uint32_t)size);
+    connected(&r);
+    for (size_t cut = 0; cut <= size; cut++) {
+        check_note("cut off after byte %zu", cut);
+        for (size_t i = 0; i < cut; i++)
+            NUMBER("a byte of it", i + 1 == size, feed(&r, frame[i]));
+        NUMBER("SYNC", cut > 1 && cut < size ? XCP_CUT_OFF : XCP_DONE, feed(&r, SYNC));
+        if (cut == size)
+            SENDS(&r, "FE 20"); /* 9B is no command */
+        WIRE(&r, "01 01 FC FE", "0001"); /* goes on behind that SYNC */
+        SENDS(&r, "FE 00");
     }
+    check_note("%s", "");
     rig_end(&r);
 }
 
@@ -205,4 +237,5 @@ void test_line(void)
     every_byte_outside();
     every_checksum();
     every_ctr_and_length();
+    longest_frame();
 }

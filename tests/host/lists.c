@@ -12,7 +12,7 @@ static void four_lists(struct rig *r)
 {
     unlocked(r);
     memcpy(r->meas, "\xB0\xB1\xB2\xB3", 4);
-    for (unsigned list = 0; list < 4; list++)
+    for (unsigned list = 0; list < LIST_COUNT; list++)
         small_list(r, list, 0);
 }
 
@@ -41,31 +41,24 @@ static void status_runs(struct rig *r, int runs)
 /* WRITE_DAQ steps through the entries of one ODT, and leaves the pointer unset after the last. */
 static void pointer_steps(void)
 {
-    for (unsigned odt = 0; odt < 2; odt++)
-        for (unsigned first = 0; first < 4; first++) {
+    for (unsigned odt = 0; odt < ODT_COUNT; odt++)
+        for (unsigned first = 0; first < ENTRY_COUNT; first++) {
             struct rig r;
             unlocked(&r);
-            memcpy(r.meas, "\xE0\xE1\xE2\xE3", 4);
             check_note("ODT %u from entry %u", odt, first);
             ASK(&r, "FF", "E2 00 03 00 %02X %02X", odt, first);
-            for (unsigned at = first; at < 4; at++)
+            for (unsigned at = first; at < ENTRY_COUNT; at++)
                 ASK(&r, "FF", "E1 FF 01 01 %02X 00 00 00", at);
             REFUSED(&r, "FE 29", "E1 FF 01 01 00 00 00 00");
             HERE();
             mode(&r, 3, 0);
             start(&r, 3);
             NUMBER("sampled", 0x100, event(&r, 0, 0x0102));
-            uint8_t expected[PACKET] = {6, 2, 1}, packet[PACKET];
-            size_t head = 3;
-            if (odt == 1) {
+            if (odt == 1)
                 SENDS(&r, "06 02 01");
-                expected[0] = 7;
-                head = 1;
-            }
-            for (unsigned at = first; at < 4; at++)
-                expected[head + at - first] = (uint8_t)(0xE0 + at);
-            size_t len = slot(&r, packet);
-            BYTES("packet", expected, head + 4 - first, packet, len);
+            SENDS(&r, "%s %s", odt == 0 ? "06 02 01" : "07",
+                  hex_of(r.meas + first, ENTRY_COUNT - first));
+            SENDS(&r, "");
             check_note("%s", "");
             rig_end(&r);
         }
@@ -125,14 +118,14 @@ static void start_and_stop(void)
     struct rig r;
     four_lists(&r);
     STATUS_RUNS(&r, 0);
-    for (unsigned list = 0; list < 4; list++) {
+    for (unsigned list = 0; list < LIST_COUNT; list++) {
         HERE();
         start(&r, list);
         STATUS_RUNS(&r, 1);
         SAMPLED_BY(&r, 0, (2u << list) - 1);
     }
     NUMBER("all sample", 0x400, event(&r, 0, 1));
-    for (unsigned list = 0; list < 4; list++) { /* a stop drops what waits */
+    for (unsigned list = 0; list < LIST_COUNT; list++) { /* a stop drops what waits */
         NUMBER("taken", 1, give(&r, "DE 00 %02X 00", list));
         SENDS(&r, "FF %02X", 2 * list);
         if (list < 3)
@@ -224,7 +217,7 @@ static void stop_selected(void)
 {
     struct rig r;
     four_lists(&r);
-    for (unsigned list = 0; list < 4; list++) {
+    for (unsigned list = 0; list < LIST_COUNT; list++) {
         HERE();
         start(&r, list);
     }
@@ -260,30 +253,64 @@ static void stop_all(void)
     rig_end(&r);
 }
 
-/* Which lists fit: all sizes of four entries, in either ODT. */
+/* List 0 with entries of these sizes in one ODT, and none in the other: it starts if they fit, and
+ * sends as many bytes. Then it is cleared. */
+static void starts_if_it_fits(struct rig *r, unsigned odt, const uint8_t sizes[ENTRY_COUNT])
+{
+    uint8_t packet[PACKET];
+    unsigned sum = 0;
+    ASK(r, "FF", "E2 00 00 00 %02X 00", odt);
+    for (unsigned at = 0; at < ENTRY_COUNT; at++) {
+        ASK(r, "FF", "E1 FF %02X 00 08 00 00 00", sizes[at]);
+        sum += sizes[at];
+    }
+    HERE();
+    mode(r, 0, 0);
+    check_note("ODT %u of %u bytes", odt, sum);
+    int fits = sum > 0 && sum <= (odt == 0 ? 61u : 63u);
+    ASK(r, fits ? "FF 00" : "FE 2A", "DE 01 00 00");
+    NUMBER("sampled", fits ? 0x100 : 0, event(r, 0, 9));
+    NUMBER("packet of ODT 0", fits ? odt == 0 ? 3 + sum : 3 : 0, (uint32_t)slot(r, packet));
+    NUMBER("packet of ODT 1", fits && odt == 1 ? 1 + sum : 0, (uint32_t)slot(r, packet));
+    ASK(r, "FF 00", "DE 00 00 00");
+    ASK(r, "FF", "E3 00 00 00");
+    check_note("%s", "");
+}
+
+/* Which lists fit: all sizes of four entries, in either ODT, beside twelve that are empty or full.
+ * The four stand at the front, in the middle and at the end. */
 static void every_size(void)
 {
-    for (unsigned sizes = 0; sizes < 2 * 625; sizes++) {
-        struct rig r;
-        unsigned odt = sizes / 625, sum = 0;
-        unlocked(&r);
-        check_note("ODT %u, sizes %u in base 5", odt, sizes % 625);
-        ASK(&r, "FF", "E2 00 00 00 %02X 00", odt);
-        for (unsigned at = 0, left = sizes % 625; at < 4; at++, left /= 5) {
-            ASK(&r, "FF", "E1 FF %02X 00 08 00 00 00", left % 5);
-            sum += left % 5;
-        }
-        HERE();
-        mode(&r, 0, 0);
-        int fits = sum > 0 && sum <= (odt == 0 ? 5u : 7u);
-        ASK(&r, fits ? "FF 00" : "FE 2A", "DE 01 00 00");
-        NUMBER("sampled", fits ? 0x100 : 0, event(&r, 0, 9));
-        uint8_t packet[PACKET];
-        NUMBER("packet of ODT 0", fits ? odt == 0 ? 3 + sum : 3 : 0, (uint32_t)slot(&r, packet));
-        NUMBER("packet of ODT 1", fits && odt == 1 ? 1 + sum : 0, (uint32_t)slot(&r, packet));
-        check_note("%s", "");
-        rig_end(&r);
+    struct rig r;
+    unlocked(&r);
+    for (unsigned i = 0; i < 2 * 2 * 3 * 625; i++) {
+        uint8_t sizes[ENTRY_COUNT];
+        unsigned first = i / 625 % 3 * 6, left = i % 625;
+        memset(sizes, i / 1875 % 2 == 0 ? 0 : ENTRY_MOST, sizeof sizes);
+        for (unsigned at = first; at < first + 4; at++, left /= 5)
+            sizes[at] = (uint8_t)(left % 5);
+        starts_if_it_fits(&r, i / 3750, sizes);
     }
+    rig_end(&r);
+}
+
+/* Every sum of an ODT's bytes, in entries as large as they can be and as even as they can be. */
+static void every_sum(void)
+{
+    struct rig r;
+    unlocked(&r);
+    for (unsigned odt = 0; odt < ODT_COUNT; odt++)
+        for (unsigned sum = 0; sum <= ENTRY_COUNT * ENTRY_MOST; sum++) {
+            uint8_t large[ENTRY_COUNT], even[ENTRY_COUNT];
+            for (unsigned at = 0; at < ENTRY_COUNT; at++) {
+                unsigned left = sum > ENTRY_MOST * at ? sum - ENTRY_MOST * at : 0;
+                large[at] = (uint8_t)(left > ENTRY_MOST ? ENTRY_MOST : left);
+                even[at] = (uint8_t)((sum + at) / ENTRY_COUNT);
+            }
+            starts_if_it_fits(&r, odt, large);
+            starts_if_it_fits(&r, odt, even);
+        }
+    rig_end(&r);
 }
 
 /* Size 0 has any address; it makes an entry read nothing, also one that had a size. */
@@ -296,7 +323,7 @@ static void size_0(void)
     entry(&r, 0, 0, 0, 0, 0, 0x80000000);
     REFUSED(&r, "FE 2A", "DE 01 00 00");
     HERE();
-    entry(&r, 0, 0, 3, 1, 1, 3);
+    entry(&r, 0, 0, 15, 1, 1, 3);
     start(&r, 0);
     NUMBER("sampled", 0x100, event(&r, 0, 0x0201));
     SENDS(&r, "00 01 02 B3");
@@ -324,6 +351,7 @@ void test_lists(void)
     stop_selected();
     stop_all();
     every_size();
+    every_sum();
     size_0();
     infos();
 }

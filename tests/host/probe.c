@@ -4,9 +4,6 @@
 #include <stdio.h>
 #include <string.h>
 
-/* The longest memory that a test lends. */
-#define LONGEST 8192
-
 static void write_down(struct seen *seen, const uint8_t *bytes, size_t len)
 {
     int fits = seen->len + len + 1 <= sizeof seen->bytes;
@@ -27,41 +24,54 @@ static void drain_into(struct rig *r, struct seen *seen)
         write_down(seen, packet, len);
 }
 
-/* Commands of one exchange, each with its number and what then leaves. "EV" stands for an event
- * of each number; "KEY" for an UNLOCK with the key of the last seed for that resource. */
-static void step(struct rig *r, struct seen *seen, const char *command)
+static void both_events(struct rig *r, struct seen *seen)
 {
-    uint8_t noted[3] = {0};
-    uint32_t key;
-    if (strcmp(command, "EV") == 0) {
-        for (unsigned number = 0; number < 2; number++) {
-            uint32_t counts = event(r, number, (uint16_t)(0x1100 + number));
-            noted[1] = (uint8_t)(counts >> 8);
-            noted[2] = (uint8_t)counts;
-            write_down(seen, noted, sizeof noted);
-            drain_into(r, seen);
-        }
-        return;
+    for (unsigned number = 0; number < 2; number++) {
+        uint32_t counts = event(r, number, (uint16_t)(0x1100 + number));
+        uint8_t noted[] = {(uint8_t)(counts >> 8), (uint8_t)counts};
+        write_down(seen, noted, sizeof noted);
+        drain_into(r, seen);
     }
-    if (strncmp(command, "KEY", 3) == 0) {
-        key = key_of(r->seed, command[3] == '1' ? CALIBRATION : LISTS);
-        noted[0] = (uint8_t)give(r, "F7 04 %02X %02X %02X %02X", LE32(key));
-    } else {
-        noted[0] = (uint8_t)give(r, "%s", command);
-    }
-    write_down(seen, noted, 1);
+}
+
+static void one_command(struct rig *r, struct seen *seen, const char *command)
+{
+    uint8_t number = (uint8_t)give(r, "%s", command);
+    write_down(seen, &number, 1);
     drain_into(r, seen);
 }
 
+/* Commands of one exchange, each with its number and what then leaves. "EV" stands for an event of
+ * each number; "KEY" for an UNLOCK with the key of the last seed for that resource; "STEPS" for as
+ * many WRITE_DAQs as an ODT has entries, of which some find the pointer unset behind the last. */
+static void step(struct rig *r, struct seen *seen, const char *command)
+{
+    if (strcmp(command, "EV") == 0) {
+        both_events(r, seen);
+    } else if (strcmp(command, "STEPS") == 0) {
+        for (int at = 0; at < ENTRY_COUNT; at++)
+            one_command(r, seen, "E1 FF 00 00 00 00 00 00");
+    } else if (strncmp(command, "KEY", 3) == 0) {
+        uint32_t key = key_of(r->seed, command[3] == '1' ? CALIBRATION : LISTS);
+        char text[TEXT];
+        snprintf(text, sizeof text, "F7 04 %02X %02X %02X %02X", LE32(key));
+        one_command(r, seen, text);
+    } else {
+        one_command(r, seen, command);
+    }
+}
+
 /* Exchanges that show one thing each: status and MTA; what the pointer points at, and all entries;
- * the modes; the lists as they run; the selections, started and stopped; which lists can start; the
- * seed; the generator; how many wrong keys it takes until no seed is given. */
+ * how far it is to its ODT's last entry; the modes; the lists as they run; the selections, started
+ * and stopped; which lists can start; the seed; the generator; how many wrong keys it takes until
+ * no seed is given. */
 static const char *const exchanges[][12] = {
     {"FD", "F5 07", "F5 01", NULL},
     {"F0 01 EE", "F4 07 00 00 00 00 00 00", NULL},
     {"E1 FF 01 01 05 00 00 00", "DD 00", "E0 10 00 00 00 00 01 00", "E0 10 01 00 00 00 01 00",
      "E0 10 02 00 00 00 01 00", "E0 10 03 00 00 00 01 00", "DE 01 00 00", "DE 01 01 00",
      "DE 01 02 00", "DE 01 03 00", "EV", NULL},
+    {"DD 00", "STEPS", NULL},
     {"DD 00", "E2 00 00 00 00 00", "E1 FF 01 01 05 00 00 00", "E2 00 01 00 00 00",
      "E1 FF 01 01 05 00 00 00", "DE 01 00 00", "DE 01 01 00", "DE 01 02 00", "DE 01 03 00", "EV",
      NULL},
@@ -127,10 +137,10 @@ void refused(struct rig *r, const char *answer, const char *format, ...)
 {
     static struct seen before, after;
     static struct memories kept;
-    char packet[64];
+    char packet[TEXT];
     va_list values;
     va_start(values, format);
-    vsnprintf(packet, sizeof packet, format, values);
+    insist("the text fits", 1, vsnprintf(packet, sizeof packet, format, values) < TEXT);
     va_end(values);
     before.len = after.len = 0;
     keep(r, &kept);

@@ -6,7 +6,7 @@
 #include "rig.h"
 
 struct seen {
-    uint8_t bytes[4096];
+    uint8_t bytes[16384];
     size_t len;
 };
 

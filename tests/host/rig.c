@@ -2,12 +2,13 @@
 
 #include <stdarg.h>
 #include <stdio.h>
+#include <stdlib.h>
 #include <string.h>
 
 /* What out holds before a slot, and so what must stay past the frame. */
 #define STALE 0xA5
 
-/* Scattered bytes: seven of them tell the address that they were read from. */
+/* Scattered bytes: a few of them tell the address that they were read from. */
 static void fill(uint8_t *memory, size_t len, uint32_t number)
 {
     for (size_t i = 0; i < len; i++) {
@@ -63,13 +64,40 @@ void rig_resize_meas(struct rig *r, size_t len)
 size_t bytes_of(const char *hex, uint8_t *bytes, size_t room)
 {
     size_t count = 0;
-    unsigned value;
-    int used;
-    while (count < room && sscanf(hex, " %2x%n", &value, &used) == 1) {
-        bytes[count++] = (uint8_t)value;
-        hex += used;
+    char *end;
+    for (;;) {
+        unsigned long value = strtoul(hex, &end, 16), times = 1;
+        if (end == hex)
+            break;
+        if (*end == '*')
+            times = strtoul(end + 1, &end, 10);
+        for (size_t i = count; i < count + times && i < room; i++)
+            bytes[i] = (uint8_t)value;
+        count += times;
+        hex = end;
     }
-    return count;
+    insist("the bytes fit", 1, count <= room);
+    return count <= room ? count : room;
+}
+
+const char *hex_of(const uint8_t *bytes, size_t count)
+{
+    static const char digits[] = "0123456789ABCDEF";
+    static char text[TEXT];
+    insist("no more bytes than a packet has", 1, count <= PACKET);
+    text[0] = 0;
+    for (size_t i = 0; i < count && i < PACKET; i++) {
+        const char pair[] = {digits[bytes[i] / 16], digits[bytes[i] % 16], ' ', 0};
+        memcpy(text + 3 * i, pair, sizeof pair);
+    }
+    return text;
+}
+
+const char *answer_of(const uint8_t *bytes, size_t count)
+{
+    static char text[TEXT];
+    snprintf(text, sizeof text, "FF %s", hex_of(bytes, count));
+    return text;
 }
 
 static size_t stuff(uint8_t byte, uint8_t *to)
@@ -116,13 +144,13 @@ uint32_t give_bytes(struct rig *r, const uint8_t *packet, size_t len)
 }
 
 /* The packet that a format makes. */
-#define PACKET_FROM(format, packet, len)                \
-    uint8_t packet[PACKET];                             \
-    char text[64];                                      \
-    va_list values;                                     \
-    va_start(values, format);                           \
-    vsnprintf(text, sizeof text, format, values);       \
-    va_end(values);                                     \
+#define PACKET_FROM(format, packet, len)                                             \
+    uint8_t packet[PACKET];                                                          \
+    char text[TEXT];                                                                 \
+    va_list values;                                                                  \
+    va_start(values, format);                                                        \
+    insist("the text fits", 1, vsnprintf(text, sizeof text, format, values) < TEXT); \
+    va_end(values);                                                                  \
     size_t len = bytes_of(text, packet, sizeof packet)
 
 uint32_t give(struct rig *r, const char *format, ...)
@@ -158,7 +186,7 @@ static uint32_t raw_slot(struct rig *r)
     uint32_t result = xcp_slot(r->state, XCP_STATE_SIZE, r->out, r->out_len);
     insist("a slot's number", XCP_DONE, XCP_NUMBER(result));
     uint32_t size = XCP_SIZE(result), touched = 0;
-    insist("a slot's size is at most 23", 1, size <= FRAME);
+    insist("a slot's size is at most that of the longest frame", 1, size <= FRAME);
     for (size_t i = size; i < r->out_len; i++)
         touched += r->out[i] != STALE;
     insist("bytes written past the frame", 0, touched);
@@ -227,7 +255,7 @@ void sends_frame(struct rig *r, const char *frame)
 
 void wire(struct rig *r, const char *hex, const char *numbers)
 {
-    uint8_t bytes[64];
+    uint8_t bytes[2 * FRAME];
     size_t count = bytes_of(hex, bytes, sizeof bytes);
     insist("one number for each byte", (uint32_t)count, (uint32_t)strlen(numbers));
     for (size_t i = 0; i < count; i++) {
@@ -274,6 +302,15 @@ void entry(struct rig *r, unsigned list, unsigned odt, unsigned at, unsigned siz
 {
     ask(r, "FF", "E2 00 %02X 00 %02X %02X", list, odt, at);
     ask(r, "FF", "E1 FF %02X %02X %02X %02X %02X %02X", size, ext, LE32(address));
+}
+
+void entries(struct rig *r, unsigned list, unsigned odt, unsigned size, unsigned ext,
+             uint32_t address)
+{
+    ask(r, "FF", "E2 00 %02X 00 %02X 00", list, odt);
+    for (unsigned at = 0; at < size; at += ENTRY_MOST)
+        ask(r, "FF", "E1 FF %02X %02X %02X %02X %02X %02X",
+            size - at < ENTRY_MOST ? size - at : ENTRY_MOST, ext, LE32(address + at));
 }
 
 void mode(struct rig *r, unsigned list, unsigned event_number)

@@ -4,9 +4,12 @@
 
 #include "check.h"
 #include "lend.h"
+#include "sizes.h"
 #include "xcp_slave.h"
 
-enum { SYNC = 0x9A, ESC = 0x9B, CALIBRATION = 0x01, LISTS = 0x04, PACKET = 8, FRAME = 23 };
+enum { SYNC = 0x9A, ESC = 0x9B, CALIBRATION = 0x01, LISTS = 0x04 };
+enum { TEXT = 4 * PACKET }; /* a packet in words, with room to spare */
+enum { LONGEST = 8192 };    /* no test lends a longer memory */
 
 struct rig {
     uint8_t *state, *cal, *meas, *out;
@@ -28,8 +31,12 @@ void rig_end(struct rig *r);
 void rig_resize_cal(struct rig *r, size_t len);
 void rig_resize_meas(struct rig *r, size_t len);
 
-/* Reads "FF 00 1A" into bytes; gives their count. */
+/* Reads "FF 00 1A*62" into bytes, of which the last is there 62 times; gives their count. */
 size_t bytes_of(const char *hex, uint8_t *bytes, size_t room);
+
+/* These bytes as "01 02 03 ", and behind an FF, as the answer that has them; until the next one. */
+const char *hex_of(const uint8_t *bytes, size_t count);
+const char *answer_of(const uint8_t *bytes, size_t count);
 
 /* Makes the frame of a packet; gives its size. */
 size_t frame_of(uint8_t ctr, const uint8_t *packet, size_t len, uint8_t *frame);
@@ -67,7 +74,7 @@ void wire(struct rig *r, const char *bytes, const char *numbers);
 #define WIRE(r, bytes, numbers) (HERE(), wire(r, bytes, numbers))
 
 /* What CONNECT is answered. */
-#define CONNECTED "FF 05 00 08 08 00 01 01"
+#define CONNECTED "FF 05 00 40 40 00 01 01"
 
 uint32_t key_of(uint32_t seed, uint8_t resource);
 void get_seed(struct rig *r, uint8_t resource);
@@ -80,6 +87,10 @@ void spend_key(struct rig *r, uint8_t resource);
 /* An entry through SET_DAQ_PTR and WRITE_DAQ; a list's mode; a start. All must be done. */
 void entry(struct rig *r, unsigned list, unsigned odt, unsigned at, unsigned size, unsigned ext,
            uint32_t address);
+/* Entries of an ODT from 0 on, for so many bytes from this address on: of 4 each, the last of the
+ * rest. */
+void entries(struct rig *r, unsigned list, unsigned odt, unsigned size, unsigned ext,
+             uint32_t address);
 void mode(struct rig *r, unsigned list, unsigned event_number);
 void start(struct rig *r, unsigned list);
 

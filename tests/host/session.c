@@ -17,9 +17,10 @@ static void whole_session(void)
     ASK(&r, "FF", "F0 06 11 22 33 44 55 9A");
     ASK(&r, "FF", "F0 02 9B 77");
     BYTES("memory", (const uint8_t *)"\x11\x22\x33\x44\x55\x9A\x9B\x77", 8, r.cal + 16, 8);
+    ASK(&r, "FF", "ED 38 00 00 18 00 00 00 9A*28 9B*28"); /* right behind them */
     ASK(&r, "FF", "F6 00 00 00 10 00 00 00");
-    ASK(&r, "FF 11 22 33 44 55 9A 9B", "F5 07");
-    ASK(&r, "FF 77", "F5 01");
+    ASK(&r, "FF 11 22 33 44 55 9A 9B 77 9A*28 9B*27", "F5 3F");
+    ASK(&r, "FF 9B", "F5 01");
     ASK(&r, "FF 33 44 55 9A", "F4 04 00 00 12 00 00 00");
     ASK(&r, "FF", "F6 00 00 00 10 00 00 00");
     ASK(&r, "FF 02 00 00 AB 02 00 00", "F3 00 00 00 08 00 00 00");
@@ -37,7 +38,7 @@ static void silence(void)
     powered(&r);
     for (unsigned code = 0; code < 256; code++)
         for (size_t len = 1; len <= PACKET; len++) {
-            uint8_t packet[PACKET] = {(uint8_t)code, 1, 1, 0, 0, 0, 0, 0};
+            uint8_t packet[PACKET] = {(uint8_t)code, 1, 1};
             check_note("code %02X, %zu bytes", code, len);
             NUMBER("no session", 2, give_bytes(&r, packet, len));
         }
@@ -46,7 +47,7 @@ static void silence(void)
         NUMBER("CONNECT of another mode", 2, give(&r, "FF %02X", connect_mode));
     NUMBER("CONNECT too short", 2, give(&r, "FF"));
     SENDS(&r, "");
-    ASK(&r, CONNECTED, "FF 00 01 02 03 04 05 06"); /* more bytes are ignored */
+    ASK(&r, CONNECTED, "FF 00 01*62"); /* more bytes are ignored */
     rig_end(&r);
 }
 

@@ -1,4 +1,5 @@
 #include "host.h"
+#include "layout.h"
 
 /* Three wrong keys since power-up, and it stays shut: no seed is given until the next power-up. */
 
@@ -9,8 +10,8 @@ static const uint8_t resources[] = {CALIBRATION, LISTS};
 
 /* Commands of what the keys open. */
 static const char *const locked[] = {
-    "F0 01 00", "E3 00 00 00", "E2 00 00 00 00 00", "E1 FF 00 00 00 00 00 00",
-    "E0 10 00 00 00 00 01 00", "DE 00 00 00", "DD 00", "DA", "D9",
+    "F0 01 00", "ED 01 00 00 13 00 00 00 00", "E3 00 00 00", "E2 00 00 00 00 00",
+    "E1 FF 00 00 00 00 00 00", "E0 10 00 00 00 00 01 00", "DE 00 00 00", "DD 00", "DA", "D9",
 };
 
 /* In a new session no seed is to be had, so nothing can be unlocked; and reading goes on. */
@@ -76,7 +77,7 @@ static void unread(struct rig *r)
     WIRE(r, "9A 06 00 F7 04 00 00 00 00 02", "0000000005");
     WIRE(r, "9A 06 00 F7 04 00 00 00 00 9A", "0000000007");
     WIRE(r, "06 00 F7 9B 02 00 00 00 00 01", "0000400000");
-    WIRE(r, "9A 09 00 F7 04 00 00 00 00 04", "0300000000");
+    WIRE(r, "9A 41 00 F7 04 00 00 00 00 3C", "0300000000");
     NUMBER("a command is taken", 1, give(r, "FC"));
     NUMBER("a wrong key behind it is not", 6, give(r, NO_KEY));
     SENDS(r, "FE 00");
@@ -183,15 +184,12 @@ static void power_up_opens(void)
     }
 }
 
-/* Where docs/STATE.md has the count, then reader and answer, and the session behind them. */
-enum { COUNT_AT = 8, READER_AT = 12, SESSION_AT = 34 };
-
 /* A seed is out, and the count's byte holds this. */
 static void seeded_at(struct rig *r, uint8_t resource, unsigned count)
 {
     connected(r);
     get_seed(r, resource);
-    r->state[COUNT_AT] = (uint8_t)count;
+    r->state[WRONG_KEYS_AT] = (uint8_t)count;
 }
 
 static void below_three(uint8_t resource, unsigned count)
@@ -200,14 +198,14 @@ static void below_three(uint8_t resource, unsigned count)
     seeded_at(&r, resource, count);
     ASK(&r, resource == CALIBRATION ? "FF 04" : "FF 01", "F7 04 %02X %02X %02X %02X",
         LE32(key_of(r.seed, resource)));
-    NUMBER("a right key leaves the count", count, r.state[COUNT_AT]);
+    NUMBER("a right key leaves the count", count, r.state[WRONG_KEYS_AT]);
     rig_end(&r);
     seeded_at(&r, resource, count);
     HERE();
     get_seed(&r, resource);
-    NUMBER("another seed leaves the count", count, r.state[COUNT_AT]);
+    NUMBER("another seed leaves the count", count, r.state[WRONG_KEYS_AT]);
     ASK(&r, "FE 25", NO_KEY);
-    NUMBER("a wrong key counts", count + 1, r.state[COUNT_AT]);
+    NUMBER("a wrong key counts", count + 1, r.state[WRONG_KEYS_AT]);
     rig_end(&r);
 }
 

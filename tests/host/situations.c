@@ -2,7 +2,7 @@
 
 void powered(struct rig *r)
 {
-    rig_start(r, 4096, 4096, 1);
+    rig_start(r, REACH, REACH, 1);
 }
 
 void connected(struct rig *r)
