@@ -1,4 +1,4 @@
--- What a received byte does to what waits: packets go only if their list is stopped or its session ends or is renewed, an answer stays, and one is
+-- What a received byte does to what waits: packets go only if their list is stopped or freed or its session ends or is renewed, an answer stays, and one is
 -- accepted only if none waits. Assumes nothing.
 use lib.Dec.{ltb, lit≤, lit<}
 use Prim.Native.Nat.{ℕ, _≤_}
@@ -9,42 +9,43 @@ use mathlib.Core.Option.{Option}
 use mathlib.Core.List.{List, [], _∷_, _++_, append-nil}
 use lib.ListN.{length}
 use Rattle.line.proofs.Stuffed.{false-true}
-use Rattle.state.specs.Layout.{packetMost, ctrAt, servedAt, lastAt, placeAt}
+use Rattle.state.specs.Layout.{packetMost, ctrAt, roundAt, lastAt, placeAt, answerAt, sessionAt}
 use Rattle.state.specs.State.{consistent}
 use Rattle.session.specs.Perform.{effect, reply, after}
 use Rattle.session.specs.Receive.{Step, receiveOf}
-use Rattle.model.specs.Model.{DaqList, Session, Slave, waiting, waitingIn, hasAnswer}
+use Rattle.model.specs.Model.{DaqList, Session, Slave, odtsBefore, runsIn, waiting, waitingIn, hasAnswer}
 use Rattle.model.specs.Step.{stepIn}
 use Rattle.model.specs.View.{sessionOf, viewOf}
 use Rattle.words.specs.Number.{receivedNumber}
 use Rattle.model.specs.declared.Deed.{Deed}
 use Rattle.words.specs.declared.Received.{Received}
 use Rattle.words.specs.declared.Received.the-variants.{Nothing, Answered, Silent, BadLength, BadEscape, BadChecksum, Unread, CutOff, NoState}
-use Rattle.fields.proofs.Frames.{only-answered}
+use Rattle.fields.proofs.Frames.{Only, only-answered}
 use Rattle.fields.proofs.Readers.{Same, apart, same-then, same-part, flag-reads}
-use Rattle.fields.proofs.Effects.{effected, answering, after-waits}
+use Rattle.fields.proofs.Effects.{Effected, effected, answering, after-waits}
 use Rattle.demands.specs.Slave.{ours}
 use Rattle.demands.specs.Runs.{Byte}
 use Rattle.demands.specs.Heard.{readBy, Commands, deedIn, stops, stopsBy, stopsAt}
 use Rattle.demands.specs.Waiting.{waitingAnswer, waitingOf}
 use Rattle.demands.specs.Kept.{answerBy, accepts}
+use Rattle.judge.specs.Doable.{Doable}
+use Rattle.views.proofs.Listed.{listed}
 use Rattle.views.proofs.Calls.{session-reads}
 use Rattle.views.proofs.Stepped.{Steps, stepped}
 use Rattle.look.proofs.Looked.{judged-doable}
 use Rattle.demands.proofs.Judged.{judged, found-entered}
-use Rattle.demands.proofs.Deeds.{step-waiting, step-stops}
+use Rattle.demands.proofs.Deeds.{step-waiting, step-stops, SameLists, lists-stay, step-lists}
 use Rattle.demands.proofs.ReadBy.{waits-shown, read-only, read-length, read-session, read-answer}
-use Rattle.demands.proofs.Received.{Does, Reads, rests, acts, received, commanded}
+use Rattle.demands.proofs.Received.{Does, Reads, rests, acts, received, commanded, read-can}
 
--- w has the CTR of v, the list served last, and whether the last frame was an answer
-pub record SameRound (v w : Slave) : Type 0 where
+-- w has the CTR of v, and whether the last frame was an answer
+pub record SameSent (v w : Slave) : Type 0 where
   pub ctr : w .ctr ≡ v .ctr
-  pub served : w .served ≡ v .served
   pub lastAnswer : w .lastAnswer ≡ v .lastAnswer
 
-pub round-reads : {s t : List ℕ} → Same ctrAt placeAt s t → SameRound (viewOf s) (viewOf t)
+pub sent-reads : {s t : List ℕ} → Same ctrAt roundAt s t → Same lastAt placeAt s t → SameSent (viewOf s) (viewOf t)
 unfolding viewOf
-round-reads w = record { ctr = w .byte ctrAt (lit≤ tt) (lit< tt); served = w .byte servedAt (lit≤ tt) (lit< tt); lastAnswer = flag-reads lastAt (same-part (lit≤ tt) (lit≤ tt) w) }
+sent-reads w f = record { ctr = w .byte ctrAt (lit≤ tt) (lit< tt); lastAnswer = flag-reads lastAt f }
 
 -- an answer is accepted with number 1 alone
 none-accepted : (r : Received) (t : List ℕ) → receivedNumber r ≢ 1 → answerBy r t ≡ []
@@ -61,32 +62,46 @@ none-accepted NoState t n = refl
 module _ (s cal meas : List ℕ) (b : ℕ) (c : consistent s ≡ true) where
   -- ---- a deed that is done
   module _ (d : Deed) (p : List ℕ) (w : Does s cal meas b d p) where
+    can : Doable d (sessionOf (readBy s b)) (length p) (length cal) (length meas)
+    can = read-can s b d (length p) (length cal) (length meas) c (w .can)
+
     few : length (reply d (readBy s b) cal meas) ≤ packetMost
-    few = answering d (readBy s b) cal meas (length p) (w .can) .few
+    few = answering d (readBy s b) cal meas (length p) can .few
 
     -- of the lists and the locks it leaves what it makes of the session
     pub done-steps : Steps (stepIn d (sessionOf s)) (sessionOf (after d (readBy s b) cal meas))
     done-steps =
         let t : List ℕ = readBy s b in
         let a = only-answered (effect d t) (reply d t cal meas) few in
-        subst (λ (x : Session). Steps (stepIn d (sessionOf s)) x) (sym (session-reads (apart tt a) (apart tt a)))
+        subst (λ (x : Session). Steps (stepIn d (sessionOf s)) x) (sym (session-reads (apart tt a) (apart tt a) (apart tt a)))
         (subst (λ (x : Session). Steps (stepIn d x) (sessionOf (effect d t))) (read-session s b c)
-        (stepped d t (length p) (length cal) (length meas) (read-length s b c) (w .can) (found-entered d p (sessionOf s) (w .found))))
+        (stepped d t (length p) (length cal) (length meas) (read-length s b c) can (found-entered d p (sessionOf s) (w .found))))
 
     deed-waiting : (l : ℕ) → (x : Bool) → stops l d (sessionOf s) ≡ x → waitingOf (after d (readBy s b) cal meas) l ≡ cond x [] (waitingOf s l)
-    deed-waiting l x e = ap₂ (λ (o : Bool) (f : ℕ → DaqList). waiting o l (f l)) (done-steps .opened) (done-steps .list) ∙ go x e where
+    deed-waiting l x e = ap₂ (λ (o : Bool) (f : ℕ → DaqList). waiting o (odtsBefore f l) (f l)) (done-steps .opened) (done-steps .list) ∙ go x e where
       go : (x : Bool) → stops l d (sessionOf s) ≡ x → waitingIn (stepIn d (sessionOf s)) l ≡ cond x [] (waitingOf s l)
       go true e = step-stops d (sessionOf s) l e
-      go false e = step-waiting d p (sessionOf s) l (w .found) e
+      go false e = step-waiting d p (sessionOf s) l (listed s) (w .found) e
 
-    deed-round : Same ctrAt placeAt (readBy s b) (after d (readBy s b) cal meas)
-    deed-round =
-        same-then (same-part (lit≤ tt) (lit≤ tt) (effected d (readBy s b) (length p) (length cal) (length meas) (w .can) .between)) (apart tt (only-answered (effect d (readBy s b)) (reply d (readBy s b) cal meas) few))
+    -- while a list runs that it does not stop, it leaves how many lists and ODTs there are
+    deed-lists : (l : ℕ) → stops l d (sessionOf s) ≡ false → runsIn (sessionOf s) l ≡ true → SameLists (sessionOf s) (sessionOf (after d (readBy s b) cal meas))
+    deed-lists l e run =
+        let x : SameLists (sessionOf s) (stepIn d (sessionOf s)) = step-lists d p (sessionOf s) l (listed s) (w .found) e run in
+        (record { lists = done-steps .lists ∙ x .0 .lists; odts = λ i. ap (λ (f : ℕ → DaqList). f i .odts) (done-steps .list) ∙ x .0 .odts i }, done-steps .round ∙ x .1)
+
+    abbrev answerOnly : Only answerAt sessionAt (effect d (readBy s b)) (after d (readBy s b) cal meas)
+    answerOnly = only-answered (effect d (readBy s b)) (reply d (readBy s b) cal meas) few
+
+    deed-effected : Effected (readBy s b) (effect d (readBy s b))
+    deed-effected = effected d (readBy s b) (length p) (length cal) (length meas) can
+
+    deed-sent : Same ctrAt roundAt (readBy s b) (after d (readBy s b) cal meas) × Same lastAt placeAt (readBy s b) (after d (readBy s b) cal meas)
+    deed-sent =
+        (same-then (deed-effected .ctr) (apart tt answerOnly), same-then (same-part (lit≤ tt) (lit≤ tt) (deed-effected .between)) (apart tt answerOnly))
 
     pub deed-waits : hasAnswer (viewOf (after d (readBy s b) cal meas)) ≡ true
     deed-waits =
-        sym (waits-shown (after d (readBy s b) cal meas) (only-answered (effect d (readBy s b)) (reply d (readBy s b) cal meas) few .long ∙ effected d (readBy s b) (length p) (length cal) (length meas) (w .can) .range .long ∙ read-length s b c))
-        ∙ after-waits d (readBy s b) cal meas (length p) (read-length s b c) (w .can)
+        sym (waits-shown (after d (readBy s b) cal meas) (answerOnly .long ∙ deed-effected .range .long ∙ read-length s b c)) ∙ after-waits d (readBy s b) cal meas (length p) (read-length s b c) can
 
   -- ---- the packets of a list
   waiting-by : {o : Step} {x : Option Deed} (l : ℕ) → Reads s cal meas b o x → waitingOf (o .state) l ≡ cond (stopsBy l x (sessionOf s)) [] (waitingOf s l)
@@ -96,13 +111,21 @@ module _ (s cal meas : List ℕ) (b : ℕ) (c : consistent s ≡ true) where
   pub byte-waiting : (l : ℕ) → waitingOf (receiveOf s cal meas b .state) l ≡ cond (stopsAt l s cal meas b) [] (waitingOf s l)
   byte-waiting l = waiting-by l (received s cal meas b c)
 
-  -- ---- the CTR, the list that was served last, and whether the last frame was an answer
-  round-by : {o : Step} {x : Option Deed} → Reads s cal meas b o x → Same ctrAt placeAt s (o .state)
-  round-by (rests r n f) = apart tt (read-only s b c)
-  round-by (acts d p w) = same-then (apart tt (read-only s b c)) (deed-round d p w)
+  -- ---- how many lists there are, while one of them runs
+  lists-by : {o : Step} {x : Option Deed} (l : ℕ) → Reads s cal meas b o x → stopsBy l x (sessionOf s) ≡ false → runsIn (sessionOf s) l ≡ true → SameLists (sessionOf s) (sessionOf (o .state))
+  lists-by l (rests r n f) e run = subst (SameLists (sessionOf s)) (sym (read-session s b c)) lists-stay
+  lists-by l (acts d p w) e run = deed-lists d p w l e run
 
-  pub byte-round : SameRound (viewOf s) (viewOf (receiveOf s cal meas b .state))
-  byte-round = round-reads (round-by (received s cal meas b c))
+  pub byte-lists : (l : ℕ) → stopsAt l s cal meas b ≡ false → runsIn (sessionOf s) l ≡ true → SameLists (sessionOf s) (sessionOf (receiveOf s cal meas b .state))
+  byte-lists l = lists-by l (received s cal meas b c)
+
+  -- ---- the CTR, and whether the last frame was an answer
+  sent-by : {o : Step} {x : Option Deed} → Reads s cal meas b o x → Same ctrAt roundAt s (o .state) × Same lastAt placeAt s (o .state)
+  sent-by (rests r n f) = (apart tt (read-only s b c), apart tt (read-only s b c))
+  sent-by (acts d p w) = (same-then (apart tt (read-only s b c)) (deed-sent d p w .0), same-then (apart tt (read-only s b c)) (deed-sent d p w .1))
+
+  pub byte-sent : SameSent (viewOf s) (viewOf (receiveOf s cal meas b .state))
+  byte-sent = let w = sent-by (received s cal meas b c) in sent-reads (w .0) (w .1)
 
   -- ---- an answer that waits stays
   kept-by : {o : Step} {x : Option Deed} → Reads s cal meas b o x → hasAnswer (viewOf s) ≡ true → viewOf (o .state) .answer ≡ viewOf s .answer

@@ -8,15 +8,14 @@ use native.Mathlib.Decide.{decLe, ℕ-discrete}
 use lib.Dec.{ltb}
 use lib.ListN.{length}
 use Rattle.line.specs.Message.{room}
-use Rattle.state.specs.Layout.{size, lists}
+use Rattle.state.specs.Layout.{size}
 use Rattle.state.specs.State.{consistent}
 use Rattle.lists.specs.Slot.{slotOf}
 use Rattle.model.specs.declared.Turn.{Turn}
-use Rattle.model.specs.declared.Turn.the-variants.{Packet}
 use Rattle.state.proofs.Consistent.{consistent-size}
 use Rattle.model.specs.Model.{Slave, waitingIn, hasAnswer}
 use Rattle.model.specs.Calls.{turnIn, packetFrom, packetFor, packetGone}
-use Rattle.model.specs.View.{viewOf}
+use Rattle.model.specs.View.{sessionOf, viewOf}
 use Rattle.demands.specs.Slave.{ours}
 use Rattle.demands.specs.Runs.{Call, Byte, Event, SendingSlot, Elsewhere, afterCall, run, sends, each, frames}
 use Rattle.demands.specs.Heard.{stopsAt}
@@ -24,7 +23,7 @@ use Rattle.demands.specs.Waiting.{waitingAnswer, waitingOf, isAnswer, is
 use Rattle.demands.specs.Kept.{accepts, gains, goes as goesOf, NothingLost}
 use Rattle.demands.proofs.Reached.{after-kept}
 use Rattle.demands.proofs.Turns.{Fair, nobody, answer, list, fair}
-use Rattle.demands.proofs.Sends.{turned, framesOf, slot-shows, slot-stays, slot-sends, slot-silent}
+use Rattle.demands.proofs.Sends.{next-low, turned, framesOf, slot-shows, slot-stays, slot-sends, slot-silent}
 use Rattle.demands.proofs.Carried.{carried-append, carries, carries-none, packet-no-answer, packet-own, packet-other, answer-answers, answer-of-none}
 use Rattle.demands.proofs.ByteKeeps.{byte-waiting, byte-answer}
 use Rattle.demands.proofs.Events.{event-waiting, event-answer}
@@ -63,7 +62,7 @@ answered-turn : (s : List ℕ) (t : Turn) → length s ≡ size → Fair (viewOf
     → carried isAnswer (framesOf (viewOf s .ctr) (packetFor t (viewOf s))) ++ answerIn (turned t (viewOf s)) ≡ answerIn (viewOf s)
 answered-turn s _ h nobody = refl
 answered-turn s _ h (answer w) = rw (carries isAnswer (viewOf s .ctr) (viewOf s .answer) (answer-answers s h w), w)
-answered-turn s _ h (list j k n) = rw (carries-none isAnswer (viewOf s .ctr) (packetFrom (viewOf s .session) k) (packet-no-answer (viewOf s .session) k (n .odt)))
+answered-turn s _ h (list j o n) = rw (carries-none isAnswer (viewOf s .ctr) (packetFrom (viewOf s .session) j o) (packet-no-answer (viewOf s .session) j o (next-low s j o n)))
 
 answers-step : (s : List ℕ) (c : Call) → consistent s ≡ true → answersIn (sends ours s c) ++ waitingAnswer (afterCall ours s c) ≡ waitingAnswer s ++ accepts ours s c
 answers-step s (Byte cal meas b) h = byte-answer s cal meas b h
@@ -80,33 +79,37 @@ answers-each s (c ∷ cs) =
 
 -- ---- the packets of list l
 packet-turn : (s : List ℕ) (l : ℕ) (t : Turn) → length s ≡ size → Fair (viewOf s) t
-    → carried (isOf l) (framesOf (viewOf s .ctr) (packetFor t (viewOf s))) ++ waitingIn (turned t (viewOf s) .session) l ≡ waitingIn (viewOf s .session) l
+    → carried (isOf (viewOf s .session) l) (framesOf (viewOf s .ctr) (packetFor t (viewOf s))) ++ waitingIn (turned t (viewOf s) .session) l ≡ waitingIn (viewOf s .session) l
 packet-turn s l _ h nobody = refl
-packet-turn s l _ h (answer w) = rw (carries-none (isOf l) (viewOf s .ctr) (viewOf s .answer) (answer-of-none l (viewOf s .answer) (answer-answers s h w)))
-packet-turn s l _ h (list j k n) = elim (ℕ-discrete l j) [ yes e ↦ own e | no e ↦ another e ] where
+packet-turn s l _ h (answer w) =
+    rw (carries-none (isOf (viewOf s .session) l) (viewOf s .ctr) (viewOf s .answer) (answer-of-none (viewOf s .session) l (viewOf s .answer) (answer-answers s h w)))
+packet-turn s l _ h (list j o n) = elim (ℕ-discrete l j) [ yes e ↦ own e | no e ↦ another e ] where
   v : Slave
   v = viewOf s
 
-  own : l ≡ j → carried (isOf l) (framesOf (v .ctr) (packetFor (Packet k) v)) ++ waitingIn (packetGone k v .session) l ≡ waitingIn (v .session) l
-  own e = rw (e, carries (isOf j) (v .ctr) (packetFrom (v .session) k) (packet-own (v .session) j k (n .odt) (n .list)), n .left, n .waiting)
+  p : List ℕ
+  p = packetFrom (v .session) j o
 
-  another : (l ≡ j → ⊥) → carried (isOf l) (framesOf (v .ctr) (packetFor (Packet k) v)) ++ waitingIn (packetGone k v .session) l ≡ waitingIn (v .session) l
-  another e = rw (carries-none (isOf l) (v .ctr) (packetFrom (v .session) k) (packet-other (v .session) l j k (n .odt) (n .list) e)) (n .others l e)
+  own : l ≡ j → carried (isOf (v .session) l) (framesOf (v .ctr) (p ∷ [])) ++ waitingIn (packetGone j o v .session) l ≡ waitingIn (v .session) l
+  own e = rw (e, carries (isOf (v .session) j) (v .ctr) p (packet-own (v .session) j o (next-low s j o n) (n .inList)), n .left, n .waiting)
+
+  another : (l ≡ j → ⊥) → carried (isOf (v .session) l) (framesOf (v .ctr) (p ∷ [])) ++ waitingIn (packetGone j o v .session) l ≡ waitingIn (v .session) l
+  another e = rw (carries-none (isOf (v .session) l) (v .ctr) p (packet-other (v .session) j o (next-low s j o n) l (n .inList) e)) (n .others l e)
 
 stopped-or-kept : (t : Bool) (w : List (List ℕ)) → cond t w [] ++ cond t [] w ≡ w ++ []
 stopped-or-kept true w = refl
 stopped-or-kept false w = sym (append-nil w)
 
-packets-step : (l : ℕ) → l < lists → (s : List ℕ) (c : Call) → consistent s ≡ true → goesOf ours l s c ++ waitingOf (afterCall ours s c) l ≡ waitingOf s l ++ gains l s c
+packets-step : (l : ℕ) (s : List ℕ) (c : Call) → consistent s ≡ true → goesOf ours l s c ++ waitingOf (afterCall ours s c) l ≡ waitingOf s l ++ gains l s c
 unfolding viewOf
-packets-step l q s (Byte cal meas b) h = rw (byte-waiting s cal meas b h l) (stopped-or-kept (stopsAt l s cal meas b) (waitingOf s l))
-packets-step l q s (Event cal meas event clock) h = event-waiting s cal meas event clock l h
-packets-step l q s (SendingSlot out) h = slot-balanced (isOf l) (λ (v : Slave). waitingIn (v .session) l) s out h (λ t f. packet-turn s l t (consistent-size s h) f)
-packets-step l q s Elsewhere h = sym (append-nil (waitingOf s l))
+packets-step l s (Byte cal meas b) h = rw (byte-waiting s cal meas b h l) (stopped-or-kept (stopsAt l s cal meas b) (waitingOf s l))
+packets-step l s (Event cal meas event clock) h = event-waiting s cal meas event clock l h
+packets-step l s (SendingSlot out) h = slot-balanced (isOf (sessionOf s) l) (λ (v : Slave). waitingIn (v .session) l) s out h (λ t f. packet-turn s l t (consistent-size s h) f)
+packets-step l s Elsewhere h = sym (append-nil (waitingOf s l))
 
 pub nothing-lost : NothingLost ours
 nothing-lost =
     record {
       answers = λ s cs h. rw (answers-each s cs) (balanced waitingAnswer (λ (t : List ℕ) (c : Call). answersIn (sends ours t c)) (accepts ours) answers-step s cs h);
-      packets = λ s l cs h q. balanced (λ (t : List ℕ). waitingOf t l) (goesOf ours l) (gains l) (packets-step l q) s cs h;
+      packets = λ s l cs h. balanced (λ (t : List ℕ). waitingOf t l) (goesOf ours l) (gains l) (packets-step l) s cs h;
     }

@@ -14,7 +14,8 @@ use Rattle.model.specs.Answers.{replyIn, written, writes}
 use Rattle.model.specs.View.{sessionOf, odtOf}
 use Rattle.line.specs.declared.Outcome.{Outcome}
 use Rattle.line.specs.declared.Outcome.the-variants as line
-use Rattle.state.specs.Layout.{addressable, firstOdt, entryCount, lists, uploadMost, odtCount}
+use Rattle.state.specs.Layout.{addressable, uploadMost}
+use Rattle.state.specs.Pool.{listCount, firstOdt, odtCount, entryCount}
 use Rattle.state.specs.Bytes.{block}
 use Rattle.state.specs.Memory.{reach, pick, insideOf, blockSum, byteOf, bytesOf}
 use Rattle.state.specs.State.{consistent, openOf, waits}
@@ -24,7 +25,7 @@ use Rattle.session.specs.Perform.{reply}
 use Rattle.session.specs.Receive.{Step, only, obeyed, heeded, meant, readOn, fedOf, receiveOf}
 use Rattle.model.specs.Heed.{goodConnect}
 use Rattle.lists.specs.Event.{samplingOf, captured, sampledState, Tally, counted, tally, eventOf, contentsOf, capturedOdts}
-use Rattle.model.specs.Model.{Entry, Odt}
+use Rattle.model.specs.Model.{Entry, Odt, Session}
 use Rattle.model.specs.Calls.{blockIn, blocksIn, leadOf, contentsIn}
 use Rattle.words.specs.declared.Extension.{Extension}
 use Rattle.words.specs.declared.Extension.the-variants.{Calibration, Measured}
@@ -33,7 +34,7 @@ use Rattle.model.specs.declared.Sampling.the-variants.{Idle, Sampled, Missed}
 use Rattle.words.specs.declared.Received.{Received}
 use Rattle.words.specs.declared.Received.the-variants.{Nothing, Silent, BadLength, BadEscape, BadChecksum, Unread, CutOff, NoState}
 use Rattle.model.specs.declared.Deed.{Deed}
-use Rattle.model.specs.declared.Deed.the-variants.{Refuse, RefuseSize, WrongKey, Connect, Disconnect, Status, Synch, NoSeed, GiveSeed, Unlock, SetMta, Upload, Checksum, Download, ClearList, SetPointer, ClearEntry, WriteEntry, SetMode, Stop, Start, KeepRunning, Select, StopAll, StartSelected, StopSelected, ProcessorInfo, ResolutionInfo}
+use Rattle.model.specs.declared.Deed.the-variants.{Refuse, RefuseSize, WrongKey, Connect, Disconnect, Status, Synch, NoSeed, GiveSeed, Unlock, SetMta, Upload, Checksum, Download, ClearList, SetPointer, ClearEntry, WriteEntry, SetMode, Stop, Start, KeepRunning, Select, StopAll, StartSelected, StopSelected, ProcessorInfo, ResolutionInfo, FreeLists, AllocLists, AllocOdts, AllocEntries}
 use Rattle.state.proofs.Inside.{inside-le}
 use Rattle.session.proofs.Data.{block-block}
 use Rattle.look.proofs.Looked.{judged-doable}
@@ -75,17 +76,17 @@ module _ (cal meas : List ℕ) where
   blocks-cut y zero = refl
   blocks-cut y (suc n) = ap₂ (λ (xs ys : List ℕ). xs ++ ys) (blocks-cut y n) (entry-cut (y .entry n))
 
-  contents-cut : (s : List ℕ) (k clock : ℕ) → contentsOf s k clock (front cal) (front meas) ≡ contentsOf s k clock cal meas
+  contents-cut : (s : List ℕ) (k o clock : ℕ) → contentsOf s k o clock (front cal) (front meas) ≡ contentsOf s k o clock cal meas
   unfolding contentsIn
-  contents-cut s k clock = ap (λ (bs : List ℕ). leadOf k clock ++ bs) (blocks-cut (odtOf s k) (entryCount k))
+  contents-cut s k o clock = ap (λ (bs : List ℕ). leadOf o clock ++ bs) (blocks-cut (odtOf s (k + o)) (entryCount s (k + o)))
 
   odts-cut : (s : List ℕ) (k clock n : ℕ) → capturedOdts s k clock (front cal) (front meas) n ≡ capturedOdts s k clock cal meas n
   unfolding capturedOdts
   odts-cut s k clock zero = refl
-  odts-cut s k clock (suc n) = rw (odts-cut s k clock n, contents-cut s (k + n) clock)
+  odts-cut s k clock (suc n) = rw (odts-cut s k clock n, contents-cut s k n clock)
 
   captured-cut : (s : List ℕ) (l clock : ℕ) → captured s l clock (front cal) (front meas) ≡ captured s l clock cal meas
-  captured-cut s l clock = odts-cut s (firstOdt l) clock (odtCount l)
+  captured-cut s l clock = odts-cut s (firstOdt s l) clock (odtCount s l)
 
   sampled-cut : (c : Sampling) (s : List ℕ) (l clock : ℕ) → sampledState c s l clock (front cal) (front meas) ≡ sampledState c s l clock cal meas
   unfolding sampledState
@@ -105,7 +106,7 @@ module _ (cal meas : List ℕ) where
 
 pub cutEvent : (s cal meas : List ℕ) (event clock : ℕ) → ours .event s cal meas event clock ≡ ours .event s (take addressable cal) (take addressable meas) event clock
 unfolding eventOf
-cutEvent s cal meas event clock = rw (tally-cut cal meas s event clock lists)
+cutEvent s cal meas event clock = rw (tally-cut cal meas s event clock (listCount s))
 
 -- ---- a deed
 block-cut : (mem : List ℕ) (a n : ℕ) → a + n ≤ addressable → block (front mem) a n ≡ block mem a n
@@ -116,7 +117,7 @@ inside-cut : (e : Extension) (cal meas : List ℕ) (most a n : ℕ) → Inside m
 inside-cut e cal meas most a n i =
     sym (rw (picked e cal meas) (block-cut (pick e cal meas) a n (inside-le a n (pick e (length cal) (length meas)) (i .1) .1)))
 
-reply-cut : (d : Deed) (long : ℕ) (s cal meas : List ℕ) → Doable d long (length cal) (length meas) → reply d s cal meas ≡ reply d s (front cal) (front meas)
+reply-cut : (d : Deed) (long : ℕ) (s cal meas : List ℕ) → Doable d (sessionOf s) long (length cal) (length meas) → reply d s cal meas ≡ reply d s (front cal) (front meas)
 unfolding replyIn sessionOf blockSum
 reply-cut (Refuse r) long s cal meas o = refl
 reply-cut RefuseSize long s cal meas o = refl
@@ -133,9 +134,9 @@ reply-cut (Upload e a n) long s cal meas o = rw (inside-cut e cal meas uploadMos
 reply-cut (Checksum e a n) long s cal meas o = rw (inside-cut e cal meas addressable a n o)
 reply-cut (Download from a n) long s cal meas o = refl
 reply-cut (ClearList l) long s cal meas o = refl
-reply-cut (SetPointer k e) long s cal meas o = refl
-reply-cut (ClearEntry k e) long s cal meas o = refl
-reply-cut (WriteEntry k e n x a) long s cal meas o = refl
+reply-cut (SetPointer l i e) long s cal meas o = refl
+reply-cut (ClearEntry l i e) long s cal meas o = refl
+reply-cut (WriteEntry l i e n x a) long s cal meas o = refl
 reply-cut (SetMode l event) long s cal meas o = refl
 reply-cut (Stop l) long s cal meas o = refl
 reply-cut (Start l) long s cal meas o = refl
@@ -146,6 +147,10 @@ reply-cut StartSelected long s cal meas o = refl
 reply-cut StopSelected long s cal meas o = refl
 reply-cut ProcessorInfo long s cal meas o = refl
 reply-cut ResolutionInfo long s cal meas o = refl
+reply-cut FreeLists long s cal meas o = refl
+reply-cut (AllocLists n) long s cal meas o = refl
+reply-cut (AllocOdts l n) long s cal meas o = refl
+reply-cut (AllocEntries l i n) long s cal meas o = refl
 
 -- stores into the front of a list
 sets-front : (xs l rest : List ℕ) (i : ℕ) → i + length xs ≤ length l → sets (l ++ rest) i xs ≡ sets l i xs ++ rest
@@ -163,10 +168,10 @@ download-cut p cal from a n i =
     let h : a + n ≤ length (front cal) = rw (length-take, min-comm) (leb-true _ _ i) in
     ap (λ (l : List ℕ). sets l a (block p from n)) (whole cal) ∙ sets-front (block p from n) (front cal) (drop addressable cal) a (omega arith)
 
-written-cut : (d : Deed) (p cal : List ℕ) (nm : ℕ) → Doable d (length p) (length cal) nm → written d p cal ≡ written d p (front cal) ++ drop addressable cal
+written-cut : (d : Deed) (c : Session) (p cal : List ℕ) (nm : ℕ) → Doable d c (length p) (length cal) nm → written d p cal ≡ written d p (front cal) ++ drop addressable cal
 unfolding writes
-written-cut d p cal nm =
-    by-write (λ (e : Deed). Doable e (length p) (length cal) nm → written e p cal ≡ written e p (front cal) ++ drop addressable cal)
+written-cut d c p cal nm =
+    by-write (λ (e : Deed). Doable e c (length p) (length cal) nm → written e p cal ≡ written e p (front cal) ++ drop addressable cal)
     (λ e w o. rw w (whole cal)) (λ from a n o. download-cut p cal from a n (o .1 .1)) d
 
 -- ---- a received byte
@@ -185,8 +190,8 @@ module _ (cal meas : List ℕ) where
   only-cut : (r : Received) (s : List ℕ) → Cut rest (only r s cal) (only r s (front cal))
   only-cut r s = record { same = ap (only r s) (whole cal) }
 
-  obeyed-cut : (d : Deed) (p s : List ℕ) → Doable d (length p) (length cal) (length meas) → Cut rest (obeyed d p s cal meas) (obeyed d p s (front cal) (front meas))
-  obeyed-cut d p s o = record { same = rw (reply-cut d (length p) s cal meas o, written-cut d p cal (length meas) o) }
+  obeyed-cut : (d : Deed) (p s : List ℕ) → Doable d (sessionOf s) (length p) (length cal) (length meas) → Cut rest (obeyed d p s cal meas) (obeyed d p s (front cal) (front meas))
+  obeyed-cut d p s o = record { same = rw (reply-cut d (length p) s cal meas o, written-cut d (sessionOf s) p cal (length meas) o) }
 
   judged-cut : (p s : List ℕ) → judgeOf p s (length (front cal)) (length (front meas)) ≡ judgeOf p s (length cal) (length meas)
   judged-cut p s = judge-cut (length cal) (length meas) (length (front cal)) (length (front meas)) (front-reach cal) (front-reach meas) p s

@@ -11,7 +11,7 @@ use Rattle.state.specs.Bytes.{u16At}
 use Rattle.state.specs.Memory.{reach, pick, insideOf}
 use Rattle.words.specs.Command.{commandOf}
 use Rattle.words.specs.declared.Command.{Command}
-use Rattle.words.specs.declared.Command.the-variants.{Unknown, Connect, Disconnect, GetStatus, Synch, GetSeed, Unlock, SetMta, Upload, ShortUpload, BuildChecksum, Download, ShortDownload, ClearDaqList, SetDaqPtr, WriteDaq, SetDaqListMode, StartStopDaqList, StartStopSynch, GetDaqProcessorInfo, GetDaqResolutionInfo}
+use Rattle.words.specs.declared.Command.the-variants.{Unknown, Connect, Disconnect, GetStatus, Synch, GetSeed, Unlock, SetMta, Upload, ShortUpload, BuildChecksum, Download, ShortDownload, ClearDaqList, SetDaqPtr, WriteDaq, SetDaqListMode, StartStopDaqList, StartStopSynch, GetDaqProcessorInfo, GetDaqResolutionInfo, FreeDaq, AllocDaq, AllocOdt, AllocOdtEntry}
 use Rattle.words.specs.declared.Extension.{Extension}
 use Rattle.words.specs.declared.Extension.the-variants.{Calibration, Measured}
 use Rattle.words.specs.declared.Mta.{Mta}
@@ -63,14 +63,14 @@ module _ (nc nm nc′ nm′ : ℕ) (c : reach nc′ ≡ reach nc) (m : reach nm�
   unfolding shortDownloadDeed
   short-download-cut n ext a long = rw (download-to-cut shortDownloadFrom (extensionFrom ext) a n)
 
-  write-block-cut : (k e n : ℕ) (x : Extension) (a : ℕ) → writeBlock k e n x a (pick x nc′ nm′) ≡ writeBlock k e n x a (pick x nc nm)
+  write-block-cut : (l o e n : ℕ) (x : Extension) (a : ℕ) → writeBlock l o e n x a (pick x nc′ nm′) ≡ writeBlock l o e n x a (pick x nc nm)
   unfolding writeBlock
-  write-block-cut k e n x a = rw (inside-cut x a n)
+  write-block-cut l o e n x a = rw (inside-cut x a n)
 
   write-cut : (at : Pointer) (runs : Bool) (bit n ext a : ℕ) → writeDeed at runs bit n ext a nc′ nm′ ≡ writeDeed at runs bit n ext a nc nm
   unfolding writeDeed
   write-cut NoEntry runs bit n ext a = refl
-  write-cut (Entry k e) runs bit n ext a = rw (write-block-cut k e n (extensionFrom ext) a)
+  write-cut (Entry l o e) runs bit n ext a = rw (write-block-cut l o e n (extensionFrom ext) a)
 
   the-cut : (x : Command) (p : Packet) (v : Seen) → judgeThe x p v nc′ nm′ ≡ judgeThe x p v nc nm
   unfolding judgeThe
@@ -95,7 +95,11 @@ module _ (nc nm nc′ nm′ : ℕ) (c : reach nc′ ≡ reach nc) (m : reach nm�
   the-cut StartStopSynch p v = refl
   the-cut GetDaqProcessorInfo p v = refl
   the-cut GetDaqResolutionInfo p v = refl
+  the-cut FreeDaq p v = refl
+  the-cut AllocDaq p v = refl
+  the-cut AllocOdt p v = refl
+  the-cut AllocOdtEntry p v = refl
 
   pub judge-cut : (p s : List ℕ) → judgeOf p s nc′ nm′ ≡ judgeOf p s nc nm
   unfolding judgeIn sessionOf judge judgeBy
-  judge-cut p s = rw (the-cut (commandOf (getD p 0 0)) (numbersOf p) (seenIn (u16At p 2) (sessionOf s)))
+  judge-cut p s = rw (the-cut (commandOf (getD p 0 0)) (numbersOf p) (seenIn (u16At p 2) (getD p 4 0) (sessionOf s)))

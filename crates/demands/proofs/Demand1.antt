@@ -2,7 +2,7 @@
 use lib.Seq.{sets, length-sets}
 use Rattle.fields.proofs.Stores.{out as outside}
 use Prim.{tt}
-use Prim.Native.Nat.{ℕ, zero, suc, _≤_, _<_, _+_}
+use Prim.Native.Nat.{ℕ, _≤_, _<_, _+_}
 use mathlib.Core.Path.{_≡_, refl, sym, ap, subst, _∙_}
 use mathlib.Core.Logic.{_≢_}
 use mathlib.Core.Bool.{true, false}
@@ -16,10 +16,10 @@ use Rattle.line.specs.Message.{most, room}
 use Rattle.line.specs.Writer.{Sent, writeOf}
 use Rattle.line.proofs.Laws.{cond-ind}
 use Rattle.line.proofs.Stuffed.{false-true}
-use Rattle.state.specs.Layout.{wrongKeysAt, placeAt, answerAt, size, allOdts, sessionAt, sessionSize, sampleAt}
+use Rattle.state.specs.Layout.{wrongKeysAt, placeAt, answerAt, size, sessionAt, sessionSize}
 use Rattle.state.specs.Bytes.{cleared}
 use Rattle.state.specs.Generator.{oneWrongMore}
-use Rattle.state.specs.State.{consistent, wrongKeysOf, countedWrong, ctrOf, dropped, closed, answerOf}
+use Rattle.state.specs.State.{consistent, wrongKeysOf, countedWrong, ctrOf, closed, answerOf}
 use Rattle.model.specs.Model.{byte}
 use Rattle.model.specs.View.{sessionOf, viewOf}
 use Rattle.session.specs.Perform.{effect, reply, after}
@@ -44,7 +44,7 @@ use Rattle.demands.specs.Waiting.{SameOutside}
 use Rattle.demands.specs.Demand1.{Demand1}
 use Rattle.demands.proofs.Judged.{Found}
 use Rattle.demands.proofs.ReadBy.{read-only}
-use Rattle.demands.proofs.Received.{Does, Reads, rests, acts, received, commanded, done-answer}
+use Rattle.demands.proofs.Received.{Does, Reads, rests, acts, received, commanded, read-can, done-answer}
 use Rattle.demands.proofs.Unchanged.{all-but, same-sets}
 use Rattle.demands.proofs.Refusals.{Idles, refusal, wrong-judged, disconnect-judged}
 use Rattle.demands.proofs.Life.{life-kept}
@@ -57,7 +57,7 @@ not-wrong s cal meas b d p n w e =
     false-true (sym k ∙ f)
 
 -- the answer alone, behind the reader
-answer-only : (d : Deed) (s t cal meas : List ℕ) (n : ℕ) → Only placeAt answerAt s t → effect d t ≡ t → Doable d n (length cal) (length meas) → Only placeAt sessionAt s (after d t cal meas)
+answer-only : (d : Deed) (s t cal meas : List ℕ) (n : ℕ) → Only placeAt answerAt s t → effect d t ≡ t → Doable d (sessionOf t) n (length cal) (length meas) → Only placeAt sessionAt s (after d t cal meas)
 answer-only d s t cal meas n w e can =
     let a : Only answerAt sessionAt t (after d t cal meas) = rw e (only-answered t (reply d t cal meas) (answering d t cal meas n can .few)) in
     only-then (only-wider (lit≤ tt) (lit≤ tt) w) (only-wider (lit≤ tt) (lit≤ tt) a)
@@ -69,7 +69,7 @@ refused-by {s} {cal} {meas} {b} c one fe n (acts d p w) =
     let t : List ℕ = readBy s b in
     let said : viewOf (after d t cal meas) .answer ≡ replyIn d (sessionOf s) cal meas = done-answer s cal meas b d (length p) c (w .can) in
     let i : Idles d p t cal = refusal d p (sessionOf s) t cal meas (not-wrong s cal meas b d p n w) (sym (ap (λ (l : List ℕ). byte l 0) said) ∙ fe) in
-    (all-but (answer-only d s t cal meas (length p) (read-only s b c) (i .state) (w .can)), i .memory)
+    (all-but (answer-only d s t cal meas (length p) (read-only s b c) (i .state) (read-can s b d (length p) (length cal) (length meas) c (w .can))), i .memory)
 
 -- ---- a wrong key
 -- the same stores in both leave what differs where it was
@@ -81,15 +81,10 @@ only-both {lo} {hi} {s} {t} i xs w = record { long = simp (length-sets, w .long)
 only-back : {lo hi : ℕ} {s t : List ℕ} → Only lo hi s t → Only lo hi t s
 only-back w = record { long = sym (w .long); bytes = λ j o. sym (w .bytes j o) }
 
-dropped-both : {lo hi : ℕ} {s t : List ℕ} (k n : ℕ) → Only lo hi s t → Only lo hi (dropped s k n) (dropped t k n)
-unfolding dropped
-dropped-both k zero w = w
-dropped-both k (suc n) w = only-both (sampleAt (k + n)) (0 ∷ []) (dropped-both k n w)
-
 -- what is alike outside the reader and the answer is so closed too
 closed-alike : {s t : List ℕ} → Only placeAt sessionAt s t → Only placeAt sessionAt (closed s) (closed t)
 unfolding closed cleared
-closed-alike w = dropped-both 0 allOdts (only-both sessionAt (replicate sessionSize 0) w)
+closed-alike w = only-both sessionAt (replicate sessionSize 0) w
 
 -- but for the answer a wrong key leaves the closed session with itself counted
 wrong-only : (t cal meas : List ℕ) → Only answerAt sessionAt (countedWrong (closed t)) (after WrongKey t cal meas)
@@ -193,7 +188,7 @@ sent : (t : Turn) (s out : List ℕ) → room ≤ length out → slottedNumber (
 unfolding sentBy
 sent Nobody s out h = refl
 sent Answer s out h = wrote (answerOf s) (ctrOf s) out h
-sent (Packet k) s out h = wrote (packetOf s k) (ctrOf s) out h
+sent (Packet l o) s out h = wrote (packetOf s l o) (ctrOf s) out h
 
 good-slot : (s out : List ℕ) → consistent s ≡ true → room ≤ length out → slottedNumber (slotOf s out .slotted) ≡ 0
 unfolding slotOf

@@ -28,7 +28,7 @@ use Rattle.demands.proofs.Received.{heeded-at, heeds-right, commanded, 
 use Rattle.demands.proofs.Reading.{frame-ends}
 use Rattle.demands.proofs.Reached.{run-kept}
 use Rattle.demands.proofs.Soon.{answer-leaves}
-use Rattle.demands.proofs.Whole.{leaves-all, sample-leaves}
+use Rattle.demands.proofs.Whole.{next-leaves, leaves-all, sample-leaves}
 
 -- ---- a command is answered
 module _ (s cal meas : List ℕ) (b : ℕ) (p : List ℕ) (c : consistent s ≡ true) (w : Commands s b p) where
@@ -64,4 +64,4 @@ unread s cal meas b p c w e =
     (ap (λ (x : Step). x .received) o, record { state = rw o (all-but (read-only s b c)); memory = ap (λ (x : Step). x .cal) o })
 
 pub demand3 : Demand3 ours
-demand3 = record { answered = answered-soon; leaves = answer-leaves; meanwhile = unread; whole = leaves-all; sampled = sample-leaves }
+demand3 = record { answered = answered-soon; leaves = answer-leaves; meanwhile = unread; next = λ s l cs p rest c k e h. next-leaves s l cs c k p rest e h; whole = leaves-all; sampled = sample-leaves }

@@ -7,13 +7,12 @@ use mathlib.Core.List.{List}
 use borrow.Author.Tests.{le-ltb}
 use lib.ListN.{length}
 use Rattle.model.specs.Judge.{pointedIn, seenIn, judgeIn, extensionFrom}
-use Rattle.model.specs.Model.{byte, Session, runsIn}
-use Rattle.state.specs.Layout.{entryMost, addressable, listOf}
+use Rattle.model.specs.Model.{byte, Session, entriesTaken, runsIn}
+use Rattle.state.specs.Layout.{entryMost, addressable}
 use Rattle.state.specs.Bytes.{u16At, u32At}
 use Rattle.state.specs.Memory.{pick}
 use Rattle.words.specs.Command.{commandOf}
 use Rattle.words.specs.declared.Command.{Command}
-use Rattle.words.specs.declared.Command.the-variants as command
 use Rattle.words.specs.declared.Resource.{Resource}
 use Rattle.words.specs.declared.Resource.the-variants.{Calibration}
 use Rattle.words.specs.declared.Seed.{Seed}
@@ -21,12 +20,12 @@ use Rattle.words.specs.declared.Seed.the-variants.{For}
 use Rattle.words.specs.declared.Pointer.{Pointer}
 use Rattle.model.specs.declared.Deed.{Deed}
 use Rattle.model.specs.Seen.{numbersOf, Seen}
-use Rattle.model.specs.declared.Deed.the-variants.{Refuse, RefuseSize, WrongKey, Connect, Disconnect, Status, Synch, NoSeed, GiveSeed, Unlock, SetMta, Upload, Checksum, Download, ClearList, SetPointer, ClearEntry, WriteEntry, SetMode, Stop, Start, KeepRunning, Select, StopAll, StartSelected, StopSelected, ProcessorInfo, ResolutionInfo}
+use Rattle.model.specs.declared.Deed.the-variants.{Refuse, RefuseSize, WrongKey, Connect, Disconnect, Status, Synch, NoSeed, GiveSeed, Unlock, SetMta, Upload, Checksum, Download, ClearList, SetPointer, ClearEntry, WriteEntry, SetMode, Stop, Start, KeepRunning, Select, StopAll, StartSelected, StopSelected, ProcessorInfo, ResolutionInfo, FreeLists, AllocLists, AllocOdts, AllocEntries}
 use Rattle.views.proofs.Fit.{entry-low}
 use Rattle.views.proofs.Stepped.{Entered}
 use Rattle.demands.specs.Heard.{bringsKey, keyMatches, wrongKeyBy, wrongKey}
 use Rattle.views.proofs.Coded.{Coded, coded}
-use Rattle.views.proofs.Verdict.{Keyed, Pointing, Verdict, refused, connects, disconnects, tells, synchs, no-seed, gives, unlocks, wrong, sets, uploads, shorts, no-size, sums, downloads, short-downloads, clears, points, zeroes, writes, modes, stops, starts, goes-on, selects, stops-all, starts-all, stops-some, processor, resolution, found}
+use Rattle.views.proofs.Verdict.{Keyed, Pointing, Verdict, refused, connects, disconnects, tells, synchs, no-seed, gives, unlocks, wrong, sets, uploads, shorts, no-size, sums, downloads, short-downloads, clears, points, zeroes, writes, modes, stops, starts, goes-on, selects, stops-all, starts-all, stops-some, processor, resolution, frees, allocs-lists, allocs-odts, allocs-entries, found}
 
 -- UNLOCK with the right key, for the seed that is out
 pub record RightKey (r : Resource) (p : List ℕ) (c : Session) : Type 0 where
@@ -35,12 +34,18 @@ pub record RightKey (r : Resource) (p : List ℕ) (c : Session) : Type 0 where
   pub right : keyMatches p r c ≡ true
 
 -- WRITE_DAQ to an entry of a list that does not run; it fits in the bytes that it is stored in
-pub record Entering (k n a : ℕ) (c : Session) : Type 0 where
-  pub still : runsIn c (listOf k) ≡ false
+pub record Entering (l n a : ℕ) (c : Session) : Type 0 where
+  pub still : runsIn c l ≡ false
   pub few : n ≤ entryMost
   pub low : a < addressable
 
--- what was found of packet p and session c; calibration is unlocked where it is written, and the lists that are changed do not run
+-- ALLOC_ODT_ENTRY for an ODT without entries, of a list that does not run
+pub record Filling (l o : ℕ) (c : Session) : Type 0 where
+  pub still : runsIn c l ≡ false
+  pub none : c .list l .odt o .entries ≡ 0
+
+-- what was found of packet p and session c; calibration is unlocked where it is written, and the lists that are changed do not run; lists are allocated where
+-- there are none, ODTs where none has entries
 abbrev pub Found : Deed → List ℕ → Session → Type 0
 Found (Refuse r) p c = Unit
 Found RefuseSize p c = Unit
@@ -57,9 +62,9 @@ Found (Upload e a n) p c = Unit
 Found (Checksum e a n) p c = Unit
 Found (Download from a n) p c = c .unlocked Calibration ≡ true
 Found (ClearList l) p c = runsIn c l ≡ false
-Found (SetPointer k e) p c = Unit
-Found (ClearEntry k e) p c = runsIn c (listOf k) ≡ false
-Found (WriteEntry k e n x a) p c = Entering k n a c
+Found (SetPointer l o e) p c = Unit
+Found (ClearEntry l o e) p c = runsIn c l ≡ false
+Found (WriteEntry l o e n x a) p c = Entering l n a c
 Found (SetMode l event) p c = runsIn c l ≡ false
 Found (Stop l) p c = Unit
 Found (Start l) p c = runsIn c l ≡ false
@@ -70,6 +75,10 @@ Found StartSelected p c = Unit
 Found StopSelected p c = Unit
 Found ProcessorInfo p c = Unit
 Found ResolutionInfo p c = Unit
+Found FreeLists p c = Unit
+Found (AllocLists n) p c = c .lists ≡ 0
+Found (AllocOdts l n) p c = entriesTaken c ≡ 0
+Found (AllocEntries l o n) p c = Filling l o c
 
 -- ---- what the verdict of a packet of bytes found
 -- UNLOCK with four key bytes
@@ -83,11 +92,11 @@ wrong-found seed r p c e key off = rw e (simp (key, off))
 
 module _ (p : List ℕ) (c : Session) (nc nm : ℕ) where
   abbrev seen : Seen
-  seen = seenIn (u16At p 2) c
+  seen = seenIn (u16At p 2) (byte p 4) c
 
   -- the pointer's list does not run
-  still-found : (k e : ℕ) → Pointing seen k e → runsIn c (listOf k) ≡ false
-  still-found k e w = subst (λ (q : Pointer). pointedIn q c ≡ false) (w .here) (w .still)
+  still-found : (l o e : ℕ) → Pointing seen l o e → runsIn c l ≡ false
+  still-found l o e w = subst (λ (q : Pointer). pointedIn q c ≡ false) (w .here) (w .still)
 
   by-verdict : (m : Command) (d : Deed) → Coded (byte p 0) m → Verdict (numbersOf p) seen nc nm m d → Found d p c
   by-verdict _ _ code (refused m r) = tt
@@ -108,9 +117,9 @@ module _ (p : List ℕ) (c : Session) (nc nm : ℕ) where
   by-verdict _ _ code (short-downloads free named long inside) = free
   by-verdict _ _ code (clears free list still) = still
   by-verdict _ _ code (points free list odt entry) = tt
-  by-verdict _ _ code (zeroes k e free w) = still-found k e w
-  by-verdict _ _ code (writes k e free w some inside) =
-      record { still = still-found k e w; few = inside .0; low = entry-low (u32At p 4) (byte p 2) (pick (extensionFrom (byte p 3)) nc nm) some (inside .1) }
+  by-verdict _ _ code (zeroes l o e free w) = still-found l o e w
+  by-verdict _ _ code (writes l o e free w some inside) =
+      record { still = still-found l o e w; few = inside .0; low = entry-low (u32At p 4) (byte p 2) (pick (extensionFrom (byte p 3)) nc nm) some (inside .1) }
   by-verdict _ _ code (modes free list event still) = still
   by-verdict _ _ code (stops free list) = tt
   by-verdict _ _ code (starts free list still) = still
@@ -121,13 +130,17 @@ module _ (p : List ℕ) (c : Session) (nc nm : ℕ) where
   by-verdict _ _ code (stops-some free) = tt
   by-verdict _ _ code processor = tt
   by-verdict _ _ code resolution = tt
+  by-verdict _ _ code (frees free) = tt
+  by-verdict _ _ code (allocs-lists free freed none some few) = none
+  by-verdict _ _ code (allocs-odts free list none unused some room) = unused
+  by-verdict _ _ code (allocs-entries free odt none still some room) = record { still = still; none = none }
 
 pub judged : (p : List ℕ) (c : Session) (nc nm : ℕ) → Found (judgeIn p c nc nm) p c
 unfolding judgeIn
-judged p c nc nm = by-verdict p c nc nm (commandOf (byte p 0)) _ (coded (byte p 0)) (found (numbersOf p) (seenIn (u16At p 2) c) nc nm)
+judged p c nc nm = by-verdict p c nc nm (commandOf (byte p 0)) _ (coded (byte p 0)) (found (numbersOf p) (seenIn (u16At p 2) (byte p 4) c) nc nm)
 
 -- an entry that is written fits
 pub found-entered : (d : Deed) (p : List ℕ) (c : Session) → Found d p c → Entered d
-found-entered d p c f k e n x a same =
-    let w : Entering k n a c = subst (λ (y : Deed). Found y p c) same f in
+found-entered d p c f l o e n x a same =
+    let w : Entering l n a c = subst (λ (y : Deed). Found y p c) same f in
     (w .few, w .low)

@@ -16,7 +16,7 @@ use Rattle.model.specs.Model.{DaqList, Session, Slave}
 use Rattle.model.specs.Judge.{judgeIn, getSeedDeed, judgeThe, judgeBy, judge}
 use Rattle.model.specs.Step.{withSeed, withGenerator, withLists, stepIn}
 use Rattle.model.specs.Answers.{replyIn}
-use Rattle.model.specs.Calls.{turnIn, packetGone}
+use Rattle.model.specs.Calls.{turnIn, packetGone, withRound}
 use Rattle.model.specs.View.{sessionOf, viewOf}
 use Rattle.line.specs.Message.{room}
 use Rattle.state.specs.Bytes.{u32At, bytes32}
@@ -63,9 +63,9 @@ alike-self = record { generator = refl; wrongKeys = refl; opened = refl; seed = 
 alike-then : {c d e : Session} → Alike c d → Alike d e → Alike c e
 alike-then p q = record { generator = q .generator ∙ p .generator; wrongKeys = q .wrongKeys ∙ p .wrongKeys; opened = q .opened ∙ p .opened; seed = q .seed ∙ p .seed; unlocked = q .unlocked ∙ p .unlocked; mta = q .mta ∙ p .mta }
 
--- a change of the lists alone, or none
-alike-lists : {c d : Session} (f : ℕ → DaqList) → d ≡ withLists c f → Alike c d
-alike-lists f e =
+-- a change of the lists and their round alone, or none
+alike-lists : {c d : Session} (f : ℕ → DaqList) (l : ℕ) → d ≡ withRound (withLists c f) l → Alike c d
+alike-lists f l e =
     record {
       generator = ap (λ (x : Session). x .generator) e;
       wrongKeys = ap (λ (x : Session). x .wrongKeys) e;
@@ -77,9 +77,9 @@ alike-lists f e =
 
 turn-alike : (t : Turn) (s u : List ℕ) → viewOf u ≡ turned t (viewOf s) → Alike (sessionOf s) (sessionOf u)
 unfolding viewOf
-turn-alike Nobody s u e = alike-lists (sessionOf s .list) (ap (λ (v : Slave). v .session) e)
-turn-alike Answer s u e = alike-lists (sessionOf s .list) (ap (λ (v : Slave). v .session) e)
-turn-alike (Packet k) s u e = alike-lists (packetGone k (viewOf s) .session .list) (ap (λ (v : Slave). v .session) e)
+turn-alike Nobody s u e = alike-lists (sessionOf s .list) (sessionOf s .round) (ap (λ (v : Slave). v .session) e)
+turn-alike Answer s u e = alike-lists (sessionOf s .list) (sessionOf s .round) (ap (λ (v : Slave). v .session) e)
+turn-alike (Packet l o) s u e = alike-lists (packetGone l o (viewOf s) .session .list) (packetGone l o (viewOf s) .session .round) (ap (λ (v : Slave). v .session) e)
 
 pub slot-alike : (s out : List ℕ) → consistent s ≡ true → Alike (sessionOf s) (sessionOf (slotOf s out .state))
 slot-alike s out c = elim (decLe room (length out)) [ yes r ↦ with-room r | no r ↦ without (lt-of-not-le r) ] where
@@ -90,7 +90,7 @@ slot-alike s out c = elim (decLe room (length out)) [ yes r ↦ with-room r | no
   without r = rw (slot-stays s out c r) alike-self
 
 pub event-alike : (s cal meas : List ℕ) (event clock : ℕ) → Alike (sessionOf s) (sessionOf (eventOf s cal meas event clock .state))
-event-alike s cal meas event clock = alike-lists _ (event-lists s cal meas event clock)
+event-alike s cal meas event clock = alike-lists _ (sessionOf s .round) (event-lists s cal meas event clock)
 
 pub run-alike : (cs : List Call) (s : List ℕ) → consistent s ≡ true → Uncommanded ours s cs → Alike (sessionOf s) (sessionOf (run ours s cs)) × (consistent (run ours s cs) ≡ true)
 run-alike [] s c u = (alike-self, c)

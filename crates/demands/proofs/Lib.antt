@@ -26,10 +26,11 @@ pub mod Life
 pub mod CutJudge
 pub mod Cut
 pub mod Demand2
--- What every command that is done makes of the slave; locked lists keep their settings; after three wrong keys it stays shut.
+-- What every command that is done makes of the slave; locked lists keep their settings; after three wrong keys it stays shut; the whole pool can be had.
 pub mod Obeyed
 pub mod ListsLocked
 pub mod StaysShut
+pub mod Pool
 -- The first two leave no choice.
 pub mod NoChoice
 -- The third demand, and that nothing is lost.

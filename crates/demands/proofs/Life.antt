@@ -32,8 +32,8 @@ use Rattle.demands.proofs.Received.{Reads, rests, acts, received}
 use Rattle.demands.proofs.Locks.{locked-keeps}
 use Rattle.demands.proofs.Downloads.{uploaded, Wrote, downloaded}
 use Rattle.demands.proofs.Numbering.{At, Numbered, slot-numbers, power-ctr, power-up-is}
-use Rattle.demands.proofs.ByteKeeps.{byte-round}
-use Rattle.demands.proofs.Events.{event-round}
+use Rattle.demands.proofs.ByteKeeps.{byte-sent}
+use Rattle.demands.proofs.Events.{event-sent}
 
 -- ---- the state stays consistent
 pub passed-kept : (h : Device) (m : Moment) → consistent (h .state) ≡ true → consistent (passed ours h m .state) ≡ true
@@ -121,9 +121,9 @@ life-numbers : (ms : List Moment) (i : ℕ) (h : Device) → consistent (h .stat
 life-numbers [] i h c a = refl
 life-numbers (PowerOn start ∷ ms) i h c a =
     life-numbers ms 0 (passed ours h (PowerOn start)) (passed-kept h (PowerOn start) c) (ap (λ (s : List ℕ). viewOf s .ctr) (power-up-is (h .state) start (consistent-size (h .state) c)) ∙ power-ctr start)
-life-numbers (Hears meas b ∷ ms) i h c a = life-numbers ms i (passed ours h (Hears meas b)) (passed-kept h (Hears meas b) c) (byte-round (h .state) (h .cal) meas b c .ctr ∙ a)
+life-numbers (Hears meas b ∷ ms) i h c a = life-numbers ms i (passed ours h (Hears meas b)) (passed-kept h (Hears meas b) c) (byte-sent (h .state) (h .cal) meas b c .ctr ∙ a)
 life-numbers (Samples meas event clock ∷ ms) i h c a =
-    life-numbers ms i (passed ours h (Samples meas event clock)) (passed-kept h (Samples meas event clock) c) (event-round (h .state) (h .cal) meas event clock .ctr ∙ a)
+    life-numbers ms i (passed ours h (Samples meas event clock)) (passed-kept h (Samples meas event clock) c) (event-sent (h .state) (h .cal) meas event clock .ctr ∙ a)
 life-numbers (Serves out ∷ ms) i h c a =
     let here : List (List ℕ) = dueAt (h .state) (SendingSlot out) in
     let u : Device = passed ours h (Serves out) in

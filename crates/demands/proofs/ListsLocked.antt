@@ -41,8 +41,8 @@ use Rattle.demands.proofs.ReadBy.{read-session}
 use Rattle.demands.proofs.Obeyed.{ended-bytes, shown-done, command-done}
 
 -- nothing changed
-settings-same : {c d : Session} → d ≡ c → SettingsKept c d
-settings-same e = rw e (record { pointer = refl; modes = λ l. refl; selected = λ l. refl; started = λ l. refl; entries = λ l o i. refl })
+pub settings-same : {c d : Session} → d ≡ c → SettingsKept c d
+settings-same e = rw e (record { pointer = refl; freed = refl; lists = refl; modes = λ l. refl; selected = λ l. refl; started = λ l. refl; odts = λ l. refl; counts = λ l o. refl; entries = λ l o i. refl })
 
 -- a good CONNECT renews it
 connect-ends : (p : List ℕ) (c : Session) (cal meas : List ℕ) → goodConnect p ≡ true → Shields p c (doneBy Connect p c cal meas)
@@ -92,7 +92,7 @@ sent-keeps : (t : Turn) (s out : List ℕ) → SettingsKept (sessionOf s) (sessi
 unfolding sentBy
 sent-keeps Nobody s out = settings-same refl
 sent-keeps Answer s out = settings-read (same-part (lit≤ tt) (lit≤ tt) (answerSent-session s))
-sent-keeps (Packet k) s out = settings-read (same-part (lit≤ tt) (lit≤ tt) (packetSent-rest s k))
+sent-keeps (Packet l o) s out = settings-read (same-part (lit≤ tt) (lit≤ tt) (packetSent-rest s l o))
 
 slot-keeps : (s out : List ℕ) → SettingsKept (sessionOf s) (sessionOf (slotOf s out .state))
 unfolding slotOf

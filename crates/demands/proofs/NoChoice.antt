@@ -1,5 +1,5 @@
 -- The first and the second demand leave a slave no choice: two slaves that meet them are the same in every call. Assumes nothing.
-use Prim.Native.Nat.{ℕ, _+_, _≤_, _<_, zero, suc}
+use Prim.Native.Nat.{ℕ, _+_, _*_, _≤_, _<_, zero, suc}
 use mathlib.Core.Path.{_≡_, refl, sym, ap, _∙_}
 use mathlib.Core.Logic.{_≢_}
 use mathlib.Core.Bool.{Bool, true, false}
@@ -12,7 +12,10 @@ use lib.Seq.{drop-drop}
 use Rattle.model.specs.Whole.{isSampled}
 use Rattle.line.specs.Message.{room}
 use Rattle.line.proofs.Stuffed.{false-true}
-use Rattle.state.specs.Layout.{lists, size, sampleAt, firstOdt}
+use Rattle.state.specs.Layout.{size, allOdts, sampleSize, sampleAt}
+use Rattle.state.specs.Pool.{listCount, odtsIn, firstOdt, odtCount, odtTotal}
+use Rattle.state.proofs.Ranges.{start-zero}
+use Rattle.state.proofs.Allocated.{odt-next}
 use Rattle.state.specs.Bytes.{block}
 use Rattle.state.specs.State.{consistent}
 use Rattle.session.specs.Receive.{Step}
@@ -30,7 +33,7 @@ use Rattle.demands.specs.Slave.{AnySlave, ours}
 use Rattle.demands.specs.Waiting.{SameOutside}
 use Rattle.demands.specs.Tight.{Tight}
 use Rattle.demands.specs.Demand1.{Demand1}
-use Rattle.demands.specs.Demand2.{Demand2, storeSize}
+use Rattle.demands.specs.Demand2.{Demand2, storesOf}
 use Rattle.demands.proofs.Numbers.{received-told, powered-up-told}
 use Rattle.demands.proofs.Demand1.{demand1}
 use Rattle.demands.proofs.Demand2.{demand2}
@@ -79,16 +82,15 @@ from-block : (i n : ℕ) (t u : List ℕ) → block t i n ≡ block u i n → dr
 from-block i n t u e f = whole n (drop i t) (drop i u) e (drop-drop n i t ∙ (f ∙ sym (drop-drop n i u)))
 
 -- the same before the stores, behind them, and in each
-same-lists : (t u : List ℕ) (n : ℕ) → ((l : ℕ) → l < n → block t (sampleAt (firstOdt l)) storeSize ≡ block u (sampleAt (firstOdt l)) storeSize)
-    → drop (sampleAt (firstOdt n)) t ≡ drop (sampleAt (firstOdt n)) u → drop (sampleAt 0) t ≡ drop (sampleAt 0) u
-same-lists t u zero e f = f
-same-lists t u (suc n) e f =
-    let next : sampleAt (firstOdt n) + storeSize ≡ sampleAt (firstOdt (suc n)) = omega arith in
-    same-lists t u n (λ l h. e l (omega arith)) (from-block (sampleAt (firstOdt n)) storeSize t u (e n (omega arith)) (rw next f))
+module _ (s t u : List ℕ) where
+  same-lists : (n : ℕ) → ((l : ℕ) → l < n → storesOf t s l ≡ storesOf u s l) → drop (sampleAt (firstOdt s n)) t ≡ drop (sampleAt (firstOdt s n)) u → drop (sampleAt 0) t ≡ drop (sampleAt 0) u
+  same-lists zero e f = rw (start-zero allOdts (odtsIn s)) at f
+  same-lists (suc n) e f =
+      let next : sampleAt (firstOdt s n) + odtCount s n * sampleSize ≡ sampleAt (firstOdt s (suc n)) = omega (arith, odt-next s n) in
+      same-lists n (λ l h. e l (omega arith)) (from-block (sampleAt (firstOdt s n)) (odtCount s n * sampleSize) t u (e n (omega arith)) (rw next f))
 
-same-stores : (s t u : List ℕ) → SameOutside (sampleAt 0) size s t → SameOutside (sampleAt 0) size s u
-    → ((l : ℕ) → l < lists → block t (sampleAt (firstOdt l)) storeSize ≡ block u (sampleAt (firstOdt l)) storeSize) → t ≡ u
-same-stores s t u a b e = whole (sampleAt 0) t u (a .front ∙ sym (b .front)) (same-lists t u lists e (a .back ∙ sym (b .back)))
+  same-stores : SameOutside (sampleAt 0) (sampleAt (odtTotal s)) s t → SameOutside (sampleAt 0) (sampleAt (odtTotal s)) s u → ((l : ℕ) → l < listCount s → storesOf t s l ≡ storesOf u s l) → t ≡ u
+  same-stores a b e = whole (sampleAt 0) t u (a .front ∙ sym (b .front)) (same-lists (listCount s) e (a .back ∙ sym (b .back)))
 
 idle-not : Idle ≢ Sampled
 idle-not e = false-true (ap isSampled e)
@@ -116,13 +118,12 @@ module _ (v w : AnySlave) (v1 : Demand1 v) (v2 : Demand2 v) (w1 : Demand1 w) (w2
         same-step (received-told _ _ (x .0 ∙ sym (y .0))) (x .1 ∙ sym (y .1)) (x .2 ∙ sym (y .2))
 
   -- the store of one list after an event
-  store-same : (s cal meas : List ℕ) (event clock l : ℕ) → consistent s ≡ true → event ≤ 1 → l < lists
-      → block (v .event s cal meas event clock .state) (sampleAt (firstOdt l)) storeSize ≡ block (w .event s cal meas event clock .state) (sampleAt (firstOdt l)) storeSize
+  store-same : (s cal meas : List ℕ) (event clock l : ℕ) → consistent s ≡ true → event ≤ 1 → l < listCount s
+      → storesOf (v .event s cal meas event clock .state) s l ≡ storesOf (w .event s cal meas event clock .state) s l
   store-same s cal meas event clock l c h q = go (samplingOf s l event) refl where
-    go : (x : Sampling) → samplingOf s l event ≡ x
-        → block (v .event s cal meas event clock .state) (sampleAt (firstOdt l)) storeSize ≡ block (w .event s cal meas event clock .state) (sampleAt (firstOdt l)) storeSize
+    go : (x : Sampling) → samplingOf s l event ≡ x → storesOf (v .event s cal meas event clock .state) s l ≡ storesOf (w .event s cal meas event clock .state) s l
     go Idle e = let n : samplingOf s l event ≢ Sampled = λ f. idle-not (sym e ∙ f) in v2 .others s cal meas event clock l c q n ∙ sym (w2 .others s cal meas event clock l c q n)
-    go Sampled e = v2 .stores s cal meas event clock l c h q e ∙ sym (w2 .stores s cal meas event clock l c h q e)
+    go Sampled e = v2 .stores s cal meas event clock l c h e ∙ sym (w2 .stores s cal meas event clock l c h e)
     go Missed e = let n : samplingOf s l event ≢ Sampled = λ f. missed-not (sym e ∙ f) in v2 .others s cal meas event clock l c q n ∙ sym (w2 .others s cal meas event clock l c q n)
 
   event-done : (s cal meas : List ℕ) (event clock : ℕ) → consistent s ≡ true → event ≤ 1 → v .event s cal meas event clock ≡ w .event s cal meas event clock

@@ -7,7 +7,7 @@ use native.Mathlib.Omega.{arith}
 use native.Mathlib.Nat.{lt-of-not-le, mod-eq-of-lt, mod-add-mod}
 use native.Mathlib.Decide.{decLe}
 use borrow.Author.Tests.{lt-ltb, le-ltb, eq-eqb}
-use lib.Dec.{lit<}
+use lib.Dec.{lit<, lit≤}
 use lib.ListN.{length}
 use Rattle.line.specs.Message.{room, frame}
 use Rattle.state.specs.Layout.{size, ctrAt}
@@ -27,8 +27,8 @@ use Rattle.demands.specs.Slave.{ours}
 use Rattle.demands.specs.Runs.{Call, Byte, Event, SendingSlot, Elsewhere, sends, frames}
 use Rattle.demands.specs.Demand2.{dueAt, due, numbered}
 use Rattle.demands.proofs.Sends.{turned, framesOf, slot-shows, slot-stays, slot-sends, slot-silent}
-use Rattle.demands.proofs.ByteKeeps.{byte-round}
-use Rattle.demands.proofs.Events.{event-round}
+use Rattle.demands.proofs.ByteKeeps.{byte-sent}
+use Rattle.demands.proofs.Events.{event-sent}
 
 -- i frames after CTR c
 abbrev pub At : ℕ → ℕ → List ℕ → Type 0
@@ -56,7 +56,7 @@ pub record Numbered (c i : ℕ) (frames′ packets : List (List ℕ)) (u : List 
 turn-numbers : (c i : ℕ) (s u : List ℕ) (t : Turn) → viewOf u ≡ turned t (viewOf s) → At c i s → Numbered c i (framesOf (viewOf s .ctr) (packetFor t (viewOf s))) (packetFor t (viewOf s)) u
 turn-numbers c i s u Nobody e a = record { sent = refl; ctr = at-same c i u (ap (λ (v : Slave). v .ctr) e ∙ a) }
 turn-numbers c i s u Answer e a = record { sent = rw a; ctr = at-next c i (ap (λ (v : Slave). v .ctr) e) a }
-turn-numbers c i s u (Packet k) e a = record { sent = rw a; ctr = at-next c i (ap (λ (v : Slave). v .ctr) e) a }
+turn-numbers c i s u (Packet l o) e a = record { sent = rw a; ctr = at-next c i (ap (λ (v : Slave). v .ctr) e) a }
 
 pub slot-numbers : (c i : ℕ) (s out : List ℕ) → consistent s ≡ true → At c i s → Numbered c i (sends ours s (SendingSlot out)) (dueAt s (SendingSlot out)) (slotOf s out .state)
 slot-numbers c i s out h a = elim (decLe room (length out)) [ yes r ↦ with-room r | no r ↦ without (lt-of-not-le r) ] where
@@ -70,9 +70,9 @@ slot-numbers c i s out h a = elim (decLe room (length out)) [ yes r ↦ with-roo
 -- ---- a run
 numbers-on : (c : ℕ) (cs : List Call) (i : ℕ) (s : List ℕ) → consistent s ≡ true → At c i s → frames ours s cs ≡ numbered c i (due ours s cs)
 numbers-on c [] i s h a = refl
-numbers-on c (Byte cal meas b ∷ cs) i s h a = numbers-on c cs i (receiveOf s cal meas b .state) (receive-kept s cal meas b h) (byte-round s cal meas b h .ctr ∙ a)
+numbers-on c (Byte cal meas b ∷ cs) i s h a = numbers-on c cs i (receiveOf s cal meas b .state) (receive-kept s cal meas b h) (byte-sent s cal meas b h .ctr ∙ a)
 numbers-on c (Event cal meas event clock ∷ cs) i s h a =
-    numbers-on c cs i (eventOf s cal meas event clock .state) (event-kept s cal meas event clock h) (event-round s cal meas event clock .ctr ∙ a)
+    numbers-on c cs i (eventOf s cal meas event clock .state) (event-kept s cal meas event clock h) (event-sent s cal meas event clock .ctr ∙ a)
 numbers-on c (SendingSlot out ∷ cs) i s h a =
     let here : List (List ℕ) = dueAt s (SendingSlot out) in
     let u : List ℕ = slotOf s out .state in
@@ -88,7 +88,7 @@ frames-numbered s cs h k = numbers-on (viewOf s .ctr) cs 0 s h (sym (low (viewOf
 -- power-up begins with CTR 0
 pub power-ctr : (start : ℕ) → viewOf (powered start) .ctr ≡ 0
 unfolding viewOf
-power-ctr start = powered-nought start ctrAt tt tt (λ e. omega arith) (lit< tt)
+power-ctr start = powered-nought start ctrAt (lit≤ tt) (lit< tt)
 
 pub power-up-is : (s : List ℕ) (start : ℕ) → length s ≡ size → powerUpOf s start .state ≡ powered start
 unfolding powerUpOf

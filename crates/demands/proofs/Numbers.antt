@@ -14,7 +14,7 @@ use Rattle.words.specs.declared.Slotted.the-variants as slot
 use Rattle.words.specs.declared.PoweredUp.{PoweredUp}
 use Rattle.words.specs.declared.PoweredUp.the-variants as power
 use Rattle.words.specs.declared.Reason.{Reason}
-use Rattle.words.specs.declared.Reason.the-variants.{Unknown, TooShort, Locked, Sequence, OutOfRange, DataMissing, ListRuns, ReadOnly, NotInside, CannotStart, WrongKey}
+use Rattle.words.specs.declared.Reason.the-variants.{Unknown, TooShort, Locked, Sequence, OutOfRange, DataMissing, ListRuns, ReadOnly, NotInside, CannotStart, PoolFull, WrongKey}
 use Rattle.demands.specs.Numbers.{eventSort, slotSort, reasonSort}
 
 -- what can be told from its number is the same where the numbers are
@@ -97,7 +97,8 @@ reasonAs n =
     (cond (eqb n 0x22) OutOfRange
     (cond (eqb n 0x11) ListRuns
     (cond (eqb n 0x23) ReadOnly
-    (cond (eqb n 0x24) NotInside CannotStart)))))))
+    (cond (eqb n 0x24) NotInside
+    (cond (eqb n 0x2A) CannotStart PoolFull))))))))
 
 reason-back : (r : Reason) → reasonAs (codeOf r) ≡ reasonSort r
 unfolding reasonAs
@@ -111,6 +112,7 @@ reason-back ListRuns = refl
 reason-back ReadOnly = refl
 reason-back NotInside = refl
 reason-back CannotStart = refl
+reason-back PoolFull = refl
 reason-back WrongKey = refl
 
 pub code-told : (r r′ : Reason) → codeOf r ≡ codeOf r′ → reasonSort r ≡ reasonSort r′

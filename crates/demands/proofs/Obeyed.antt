@@ -26,15 +26,18 @@ use Rattle.model.specs.Heed.{goodConnect}
 use Rattle.model.specs.declared.Deed.the-variants.{Connect}
 use Rattle.model.specs.View.{sessionOf, viewOf, shown}
 use Rattle.views.specs.Commands.{Obeys}
+use Rattle.views.specs.Full.{Fills}
 use Rattle.views.proofs.Bytes.{bytes-block, fed-bytes}
 use Rattle.views.proofs.Fit.{Fit, generator-fits, judged-fits}
 use Rattle.views.proofs.Done.{shown-after}
+use Rattle.views.proofs.Listed.{Listed, listed}
 use Rattle.views.proofs.Obeys.{AsModel, obeys}
+use Rattle.views.proofs.Full.{fills}
 use Rattle.demands.specs.Slave.{ours}
 use Rattle.demands.specs.Heard.{packetBy, packetEnded, readBy, Commands, deedIn}
 use Rattle.demands.specs.Obeyed.{Obeyed}
 use Rattle.demands.proofs.ReadBy.{read-length, read-session}
-use Rattle.demands.proofs.Received.{Does, Reads, rests, acts, some-none, received, commanded}
+use Rattle.demands.proofs.Received.{Does, Reads, rests, acts, some-none, received, commanded, read-can}
 
 -- the packet of a good message is of bytes
 packet-bytes : (o : Outcome) (m p : List ℕ) → Bytes m → packetBy o m ≡ some p → Bytes p
@@ -69,10 +72,10 @@ module _ (s : List ℕ) (b : ℕ) (c : consistent s ≡ true) (w : Bytes s) (low
   generator-low = subst (λ (x : Session). x .generator < 2 ^ 32) (sym (read-session s b c)) (generator-fits s w)
 
   -- a deed that is done at a byte shows what it makes of the session
-  pub shown-done : (d : Deed) (p cal meas : List ℕ) (n : ℕ) → Doable d n (length cal) (length meas) → Fit d (generatorOf (readBy s b)) (wrongKeysOf (readBy s b))
+  pub shown-done : (d : Deed) (p cal meas : List ℕ) (n : ℕ) → Doable d (sessionOf s) n (length cal) (length meas) → Fit d (generatorOf (readBy s b)) (wrongKeysOf (readBy s b))
       → shown (after d (readBy s b) cal meas) (written d p cal) ≡ doneBy d p (sessionOf s) cal meas
   shown-done d p cal meas n can fit =
-      shown-after d (readBy s b) cal meas n (read-length s b c) can fit p ∙ ap (λ (x : Session). doneBy d p x cal meas) (read-session s b c)
+      shown-after d (readBy s b) cal meas n (read-length s b c) (read-can s b d n (length cal) (length meas) c can) fit p ∙ ap (λ (x : Session). doneBy d p x cal meas) (read-session s b c)
 
   -- the deed that a command leads to
   pub command-done : (p cal meas : List ℕ) → Bytes p
@@ -105,13 +108,20 @@ module _ (s : List ℕ) (b : ℕ) (c : consistent s ≡ true) (w : Bytes s) (low
       → shown (receiveOf s cal meas b .state) (receiveOf s cal meas b .cal) ≡ commandIn p (sessionOf s) cal meas
   taken-shown p cal meas e one = taken-by p cal meas e one (received s cal meas b c)
 
-as-model : AsModel (Obeyed ours)
-as-model p c cal meas o r =
-    r .leaves ∙ taken-shown (r .state) (r .last) (r .sound) (r .bytes) (r .low) p cal meas (r .ends) (r .taken) ∙ ap (λ (x : Session). commandIn p x cal meas) (sym (r .before))
+pub as-model : AsModel (Obeyed ours)
+as-model = record {
+  listed = λ p c cal meas o r. subst Listed (sym (r .before)) (listed (r .state));
+  same = λ p c cal meas o r. r .leaves ∙ taken-shown (r .state) (r .last) (r .sound) (r .bytes) (r .low) p cal meas (r .ends) (r .taken)
+      ∙ ap (λ (x : Session). commandIn p x cal meas) (sym (r .before));
+}
 
 -- every command, of the received byte itself
 pub ours-obeys : Obeys (Obeyed ours)
 ours-obeys = obeys (Obeyed ours) as-model
+
+-- the pool
+pub ours-fills : Fills (Obeyed ours)
+ours-fills = fills (Obeyed ours) as-model
 
 -- a command that is heard while a session is open and no answer waits is taken
 pub heard-obeyed : (s cal meas : List ℕ) (b : ℕ) (p : List ℕ) → consistent s ≡ true → Bytes s → b < 256 → Commands s b p

@@ -6,7 +6,7 @@ use mathlib.Core.Bool.{Bool, true, false, cond}
 use mathlib.Core.Option.{Option}
 use mathlib.Core.List.{List, [], _∷_}
 use native.Mathlib.Omega.{arith}
-use lib.Dec.{lit<}
+use lib.Dec.{lit<, lit≤}
 use Rattle.line.proofs.Laws.{cond-ind}
 use Rattle.line.proofs.Stuffed.{false-true}
 use Rattle.state.specs.Layout.{openAt}
@@ -22,7 +22,7 @@ use Rattle.lists.specs.Slot.{slotOf}
 use Rattle.words.specs.declared.Resource.{Resource}
 use Rattle.words.specs.declared.Resource.the-variants.{Calibration, Lists}
 use Rattle.model.specs.declared.Deed.{Deed}
-use Rattle.model.specs.declared.Deed.the-variants.{Refuse, RefuseSize, WrongKey, Connect, Disconnect, Status, Synch, NoSeed, GiveSeed, Unlock, SetMta, Upload, Checksum, Download, ClearList, SetPointer, ClearEntry, WriteEntry, SetMode, Stop, Start, KeepRunning, Select, StopAll, StartSelected, StopSelected, ProcessorInfo, ResolutionInfo}
+use Rattle.model.specs.declared.Deed.the-variants.{Refuse, RefuseSize, WrongKey, Connect, Disconnect, Status, Synch, NoSeed, GiveSeed, Unlock, SetMta, Upload, Checksum, Download, ClearList, SetPointer, ClearEntry, WriteEntry, SetMode, Stop, Start, KeepRunning, Select, StopAll, StartSelected, StopSelected, ProcessorInfo, ResolutionInfo, FreeLists, AllocLists, AllocOdts, AllocEntries}
 use Rattle.state.proofs.Consistent.{consistent-size}
 use Rattle.views.proofs.Calls.{powered-nought}
 use Rattle.demands.specs.Heard.{readBy}
@@ -71,9 +71,9 @@ opens (Upload x a m) p c r f e = inr e
 opens (Checksum x a m) p c r f e = inr e
 opens (Download from a m) p c r f e = inr e
 opens (ClearList l) p c r f e = inr e
-opens (SetPointer k x) p c r f e = inr e
-opens (ClearEntry k x) p c r f e = inr e
-opens (WriteEntry k x m y a) p c r f e = inr e
+opens (SetPointer l o x) p c r f e = inr e
+opens (ClearEntry l o x) p c r f e = inr e
+opens (WriteEntry l o x m y a) p c r f e = inr e
 opens (SetMode l event) p c r f e = inr e
 opens (Stop l) p c r f e = inr e
 opens (Start l) p c r f e = inr e
@@ -84,6 +84,10 @@ opens StartSelected p c r f e = inr e
 opens StopSelected p c r f e = inr e
 opens ProcessorInfo p c r f e = inr e
 opens ResolutionInfo p c r f e = inr e
+opens FreeLists p c r f e = inr e
+opens (AllocLists n) p c r f e = inr e
+opens (AllocOdts l n) p c r f e = inr e
+opens (AllocEntries l o n) p c r f e = inr e
 
 -- ---- a byte
 connect-unlocks : (r : Resource) → Connect ≡ Unlock r → ⊥
@@ -136,7 +140,7 @@ byte-shut s cal meas b c h none = go (sessionOf s .opened) (sessionOf s .unlocke
 -- power-up shuts it
 power-shut : (start : ℕ) → shut (sessionOf (powered start)) ≡ true
 unfolding sessionOf flagOf
-power-shut start = rw (powered-nought start openAt tt tt (λ e. omega arith) (lit< tt))
+power-shut start = rw (powered-nought start openAt (lit≤ tt) (lit< tt))
 
 passed-shut : (h : Device) (m : Moment) → consistent (h .state) ≡ true → shut (sessionOf (h .state)) ≡ true → OfByte Keyless h m → shut (sessionOf (passed ours h m .state)) ≡ true
 passed-shut h (PowerOn start) c e k = rw (power-up-is (h .state) start (consistent-size (h .state) c)) (power-shut start)

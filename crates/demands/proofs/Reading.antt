@@ -38,7 +38,7 @@ use Rattle.model.specs.Model.{Slave}
 use Rattle.model.specs.Calls.{turnIn}
 use Rattle.model.specs.Whole.{fedIn}
 use Rattle.views.proofs.Receiving.{message-long}
-use Rattle.model.specs.View.{viewOf}
+use Rattle.model.specs.View.{sessionOf, viewOf}
 use Rattle.model.specs.declared.Deed.{Deed}
 use Rattle.state.proofs.Consistent.{consistent-size}
 use Rattle.fields.proofs.Frames.{only-answered}
@@ -64,7 +64,7 @@ pub record ReaderAt (v : Slave) (p : Place) (m : List ℕ) : Type 0 where
 abbrev Fed-by : List ℕ → ℕ → List ℕ → Type 0
 Fed-by s b t = ReaderAt (viewOf t) (fedIn b (viewOf s) .taken .place) (fedIn b (viewOf s) .message)
 
-after-reader : (d : Deed) (s cal meas : List ℕ) (n : ℕ) → Doable d n (length cal) (length meas) → ReaderAt (viewOf (after d s cal meas)) (viewOf s .place) (viewOf s .message)
+after-reader : (d : Deed) (s cal meas : List ℕ) (n : ℕ) → Doable d (sessionOf s) n (length cal) (length meas) → ReaderAt (viewOf (after d s cal meas)) (viewOf s .place) (viewOf s .message)
 unfolding viewOf
 after-reader d s cal meas n h =
     let w = only-answered (effect d s) (reply d s cal meas) (answering d s cal meas n h .few) in
@@ -78,7 +78,7 @@ unfolding viewOf
 byte-by {s} {b = b} c (rests r p q) = let e = read-shows s b c in record { place = ap (λ (v : Slave). v .place) e; message = ap (λ (v : Slave). v .message) e }
 byte-by {s} {cal} {meas} {b} c (acts d p w) =
     let e = read-shows s b c in
-    let a = after-reader d (readBy s b) cal meas (length p) (w .can) in
+    let a = after-reader d (readBy s b) cal meas (length p) (byte.read-can s b d (length p) (length cal) (length meas) c (w .can)) in
     record { place = a .place ∙ ap (λ (v : Slave). v .place) e; message = a .message ∙ ap (λ (v : Slave). v .message) e }
 
 byte-holds : (s cal meas : List ℕ) (b : ℕ) → consistent s ≡ true → Fed-by s b (receiveOf s cal meas b .state)
@@ -92,7 +92,7 @@ event-holds s cal meas event clock = let w = event-back s cal meas event clock i
 turned-holds : (t : Turn) (v w : Slave) → w ≡ turned t v → ReaderAt w (v .place) (v .message)
 turned-holds Nobody v w e = record { place = ap (λ (u : Slave). u .place) e; message = ap (λ (u : Slave). u .message) e }
 turned-holds Answer v w e = record { place = ap (λ (u : Slave). u .place) e; message = ap (λ (u : Slave). u .message) e }
-turned-holds (Packet k) v w e = record { place = ap (λ (u : Slave). u .place) e; message = ap (λ (u : Slave). u .message) e }
+turned-holds (Packet l o) v w e = record { place = ap (λ (u : Slave). u .place) e; message = ap (λ (u : Slave). u .message) e }
 
 slot-holds : (s out : List ℕ) → consistent s ≡ true → ReaderAt (viewOf (slotOf s out .state)) (viewOf s .place) (viewOf s .message)
 slot-holds s out c =

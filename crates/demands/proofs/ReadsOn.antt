@@ -35,7 +35,7 @@ use Rattle.demands.specs.Runs.{Call, run}
 use Rattle.demands.specs.Heard.{readBy, deedIn}
 use Rattle.demands.specs.Demand2.{Brings, Uncommanded}
 use Rattle.demands.proofs.ReadBy.{read-length}
-use Rattle.demands.proofs.Received.{commanded, command-answer}
+use Rattle.demands.proofs.Received.{commanded, read-can, command-answer}
 use Rattle.demands.proofs.Keys.{run-alike}
 use Rattle.demands.proofs.Downloads.{upload-says}
 
@@ -60,9 +60,9 @@ module _ (s cal meas : List ℕ) (b : ℕ) (p bs : List ℕ) (u : consistent s �
   unfolding viewOf
   mta-after d m is fit leaves =
       let t : List ℕ = readBy s b in
-      let can : Doable d (length p) (length cal) (length meas) = subst (λ (e : Deed). Doable e (length p) (length cal) (length meas)) is (judged-doable p s (length cal) (length meas)) in
+      let can : Doable d (sessionOf s) (length p) (length cal) (length meas) = subst (λ (e : Deed). Doable e (sessionOf s) (length p) (length cal) (length meas)) is (judged-doable p s (length cal) (length meas)) in
       ap (λ (o : Step). sessionOf (o .state) .mta) (commanded s cal meas b p u (w .command)) ∙ ap (λ (e : Deed). sessionOf (after e t cal meas) .mta) is
-      ∙ ap (λ (v : Slave). v .session .mta) (view-after d t cal meas (length p) (read-length s b u) can (fit _ _)) ∙ leaves (sessionOf t)
+      ∙ ap (λ (v : Slave). v .session .mta) (view-after d t cal meas (length p) (read-length s b u) (read-can s b d (length p) (length cal) (length meas) u can) (fit _ _)) ∙ leaves (sessionOf t)
 
   read-bytes : (From : Extension → ℕ → Type 0) (r : Reading p (sessionOf s) cal meas From (deedIn p (sessionOf s) cal meas)) → bs ≡ block (pick (r .extension) cal meas) (r .address) (byte p 1)
   read-bytes From r =

@@ -38,7 +38,7 @@ use Rattle.demands.proofs.ReadBy.{waits-shown, Roomy, read-roomy, read-
 pub record Does (s cal meas : List ℕ) (b : ℕ) (d : Deed) (p : List ℕ) : Type 0 where
   pub ended : packetEnded s b ≡ some p
   pub free : hasAnswer (viewOf s) ≡ false
-  pub can : Doable d (length p) (length cal) (length meas)
+  pub can : Doable d (sessionOf s) (length p) (length cal) (length meas)
   pub found : Found d p (sessionOf s)
   pub opened : sessionOf s .opened ≡ true → d ≡ deedIn p (sessionOf s) cal meas
   pub closed : sessionOf s .opened ≡ false → (d ≡ Connect) × (goodConnect p ≡ true)
@@ -148,12 +148,16 @@ pub commanded : (s cal meas : List ℕ) (b : ℕ) (p : List ℕ) → consistent 
 unfolding heedingIn
 commanded s cal meas b p c w = heeds-right s cal meas b p c (w .ends) ∙ heeded-at s cal meas b p c ∙ simp (w .free, w .opened)
 
+-- what can be done can be done once the byte is read
+pub read-can : (s : List ℕ) (b : ℕ) (d : Deed) (n nc nm : ℕ) → consistent s ≡ true → Doable d (sessionOf s) n nc nm → Doable d (sessionOf (readBy s b)) n nc nm
+read-can s b d n nc nm c can = subst (λ (x : Session). Doable d x n nc nm) (sym (read-session s b c)) can
+
 -- its answer reads as it was given
-pub done-answer : (s cal meas : List ℕ) (b : ℕ) (d : Deed) (n : ℕ) → consistent s ≡ true → Doable d n (length cal) (length meas)
+pub done-answer : (s cal meas : List ℕ) (b : ℕ) (d : Deed) (n : ℕ) → consistent s ≡ true → Doable d (sessionOf s) n (length cal) (length meas)
     → viewOf (after d (readBy s b) cal meas) .answer ≡ replyIn d (sessionOf s) cal meas
 unfolding viewOf
 done-answer s cal meas b d n c can =
-    after-answer d (readBy s b) cal meas n (read-length s b c) can ∙ ap (λ (x : Session). replyIn d x cal meas) (read-session s b c)
+    after-answer d (readBy s b) cal meas n (read-length s b c) (read-can s b d n (length cal) (length meas) c can) ∙ ap (λ (x : Session). replyIn d x cal meas) (read-session s b c)
 
 -- a test of the command and of its answer: where nothing is done it fails, and where a deed is done it is of that packet and that answer
 pub resting : (test : List ℕ → List ℕ → Bool) (s cal : List ℕ) (b : ℕ) (r : Received) → receivedNumber r ≢ 1 → ofAnswered test (only r (readBy s b) cal) s b ≡ false

@@ -19,7 +19,7 @@ use Rattle.words.specs.declared.Resource.{Resource}
 use Rattle.words.specs.declared.Seed.{Seed}
 use Rattle.words.specs.declared.Seed.the-variants.{None, For}
 use Rattle.model.specs.declared.Deed.{Deed}
-use Rattle.model.specs.declared.Deed.the-variants.{Refuse, RefuseSize, WrongKey, Connect, Disconnect, Status, Synch, NoSeed, GiveSeed, Unlock, SetMta, Upload, Checksum, Download, ClearList, SetPointer, ClearEntry, WriteEntry, SetMode, Stop, Start, KeepRunning, Select, StopAll, StartSelected, StopSelected, ProcessorInfo, ResolutionInfo}
+use Rattle.model.specs.declared.Deed.the-variants.{Refuse, RefuseSize, WrongKey, Connect, Disconnect, Status, Synch, NoSeed, GiveSeed, Unlock, SetMta, Upload, Checksum, Download, ClearList, SetPointer, ClearEntry, WriteEntry, SetMode, Stop, Start, KeepRunning, Select, StopAll, StartSelected, StopSelected, ProcessorInfo, ResolutionInfo, FreeLists, AllocLists, AllocOdts, AllocEntries}
 use Rattle.demands.specs.Heard.{bringsKey, keyMatches, wrongKeyBy, wrongKey}
 
 -- ---- what is answered FE
@@ -49,9 +49,9 @@ refusal (Upload x a m) p c s cal meas n e = absurd (ff-fe e)
 refusal (Checksum x a m) p c s cal meas n e = absurd (ff-fe e)
 refusal (Download from a m) p c s cal meas n e = absurd (ff-fe e)
 refusal (ClearList l) p c s cal meas n e = absurd (ff-fe e)
-refusal (SetPointer k x) p c s cal meas n e = absurd (ff-fe e)
-refusal (ClearEntry k x) p c s cal meas n e = absurd (ff-fe e)
-refusal (WriteEntry k x m y a) p c s cal meas n e = absurd (ff-fe e)
+refusal (SetPointer l o x) p c s cal meas n e = absurd (ff-fe e)
+refusal (ClearEntry l o x) p c s cal meas n e = absurd (ff-fe e)
+refusal (WriteEntry l o x m y a) p c s cal meas n e = absurd (ff-fe e)
 refusal (SetMode l event) p c s cal meas n e = absurd (ff-fe e)
 refusal (Stop l) p c s cal meas n e = absurd (ff-fe e)
 refusal (Start l) p c s cal meas n e = absurd (ff-fe e)
@@ -62,6 +62,10 @@ refusal StartSelected p c s cal meas n e = absurd (ff-fe e)
 refusal StopSelected p c s cal meas n e = absurd (ff-fe e)
 refusal ProcessorInfo p c s cal meas n e = record { state = refl; memory = refl }
 refusal ResolutionInfo p c s cal meas n e = record { state = refl; memory = refl }
+refusal FreeLists p c s cal meas n e = absurd (ff-fe e)
+refusal (AllocLists m) p c s cal meas n e = absurd (ff-fe e)
+refusal (AllocOdts l m) p c s cal meas n e = absurd (ff-fe e)
+refusal (AllocEntries l o m) p c s cal meas n e = absurd (ff-fe e)
 
 -- ---- keys
 -- UNLOCK with four key bytes

@@ -1,5 +1,5 @@
 -- What a slot sends: the frame of the packet whose turn it is, one at most, and what it leaves. Assumes nothing.
-use Prim.Native.Nat.{ℕ, suc, _≤_, _<_}
+use Prim.Native.Nat.{ℕ, suc, _+_, _≤_, _<_}
 use mathlib.Core.Path.{_≡_, refl, ap, _∙_}
 use mathlib.Core.Bool.{true, false}
 use mathlib.Core.List.{List, [], _∷_}
@@ -15,6 +15,7 @@ use Rattle.line.proofs.Laws.{cond-ind, length-front}
 use Rattle.line.proofs.RoundTrip.{round-trip}
 use Rattle.line.proofs.Stuffed.{frame-short}
 use Rattle.state.specs.Layout.{size, allOdts}
+use Rattle.state.specs.Pool.{listCount, firstOdt, odtCount}
 use Rattle.state.specs.State.{consistent, ctrOf, answerOf}
 use Rattle.state.specs.Lists.{storedLength}
 use Rattle.lists.specs.Slot.{Slot, sentAs, answerSent, packetSent, sentBy, slotOf}
@@ -23,16 +24,17 @@ use Rattle.words.specs.declared.Slotted.the-variants.{NoRoom}
 use Rattle.model.specs.declared.Turn.{Turn}
 use Rattle.model.specs.declared.Turn.the-variants.{Nobody, Answer, Packet}
 use Rattle.state.proofs.Consistent.{consistent-size}
-use Rattle.model.specs.Model.{Slave, hasAnswer}
+use Rattle.state.proofs.Allocated.{odt-most}
+use Rattle.model.specs.Model.{Slave, firstOf, hasAnswer}
 use Rattle.model.specs.Calls.{turnIn, packetFrom, packetFor, answerGone, packetGone}
 use Rattle.model.specs.View.{sessionOf, viewOf}
-use Rattle.model.proofs.Shown.{stored-most, stored-long, packet-by, answer-most, answer-long}
+use Rattle.model.proofs.Shown.{stored-most, stored-long, odts-at, first-of, packet-by, answer-most, answer-long}
 use Rattle.views.proofs.Calls.{view-answerSent, view-packetSent}
 use Rattle.demands.specs.Slave.{ours}
 use Rattle.demands.specs.Runs.{SendingSlot, frameSent, sends}
 use Rattle.demands.specs.Waiting.{SameOutside}
 use Rattle.demands.specs.Demand2.{ReadsBack}
-use Rattle.demands.proofs.Turns.{Fair, nobody, answer, list, fair}
+use Rattle.demands.proofs.Turns.{Next, Fair, nobody, answer, list, fair}
 
 -- ---- with room, and without
 pub slot-is : (s out : List ℕ) → consistent s ≡ true → room ≤ length out → slotOf s out ≡ sentBy (turnIn (viewOf s)) s out
@@ -50,13 +52,24 @@ slot-stays s out c h = ap (λ (o : Slot). o .state) (slot-refused s out c h)
 abbrev pub turned : Turn → Slave → Slave
 turned Nobody v = v
 turned Answer v = answerGone v
-turned (Packet k) v = packetGone k v
+turned (Packet l o) v = packetGone l o v
+
+-- a packet that is next is of an ODT that there is
+pub next-there : (s : List ℕ) (j o : ℕ) → Next (viewOf s) j o → (j < listCount s) × (o < odtCount s j)
+unfolding viewOf sessionOf
+next-there s j o n = (n .inside, rw (odts-at s j (n .inside)) at (n .inList))
+
+pub next-low : (s : List ℕ) (j o : ℕ) → Next (viewOf s) j o → firstOf (viewOf s .session) j + o < allOdts
+unfolding viewOf
+next-low s j o n = let w = next-there s j o n in omega (arith, w .0, w .1, first-of s j (le (w .0)), odt-most s j) where
+  le : j < listCount s → j ≤ listCount s
+  le h = omega arith
 
 sent-shows : (t : Turn) (s out : List ℕ) → length s ≡ size → Fair (viewOf s) t → viewOf (sentBy t s out .state) ≡ turned t (viewOf s)
 unfolding sentBy
 sent-shows _ s out h nobody = refl
 sent-shows _ s out h (answer w) = view-answerSent s h
-sent-shows _ s out h (list j k n) = view-packetSent s k h (n .odt)
+sent-shows _ s out h (list j o n) = let w = next-there s j o n in view-packetSent s j o h (w .0) (w .1)
 
 pub slot-shows : (s out : List ℕ) → consistent s ≡ true → room ≤ length out → viewOf (slotOf s out .state) ≡ turned (turnIn (viewOf s)) (viewOf s)
 slot-shows s out c h = ap (λ (o : Slot). viewOf (o .state)) (slot-is s out c h) ∙ sent-shows (turnIn (viewOf s)) s out (consistent-size s c) (fair (viewOf s))
@@ -74,11 +87,14 @@ answer-packed s h w =
     record { some = n; few = rw (answer-long s h) (answer-most s) }
 
 -- a packet's length
-packet-length : (s : List ℕ) (k : ℕ) → length s ≡ size → k < allOdts → length (packetFrom (sessionOf s) k) ≡ suc (storedLength s k)
-packet-length s k h q = ap length (packet-by s k q) ∙ ap suc (stored-long s k h q)
+packet-length : (s : List ℕ) (l o : ℕ) → length s ≡ size → l < listCount s → o < odtCount s l → length (packetFrom (sessionOf s) l o) ≡ suc (storedLength s (firstOdt s l + o))
+packet-length s l o h p q = ap length (packet-by s l o p q) ∙ ap suc (stored-long s (firstOdt s l + o) h (omega (arith, odt-most s l)))
 
-pub packet-packed : (s : List ℕ) (k : ℕ) → length s ≡ size → k < allOdts → Packed (packetFrom (sessionOf s) k)
-packet-packed s k h q = record { some = rw (packet-length s k h q) (omega arith); few = rw (packet-length s k h q) (omega (arith, stored-most s k)) }
+pub packet-packed : (s : List ℕ) (l o : ℕ) → length s ≡ size → Next (viewOf s) l o → Packed (packetFrom (sessionOf s) l o)
+packet-packed s l o h n =
+    let w = next-there s l o n in
+    let long = packet-length s l o h (w .0) (w .1) in
+    record { some = rw long (omega arith); few = rw long (omega (arith, stored-most s (firstOdt s l + o))) }
 
 written-frame : (p out : List ℕ) (c : ℕ) → Packed p → room ≤ length out → writeOf p c out ≡ record { written = Frame (length (frame c p)); out = atFront (frame c p) out }
 unfolding writeOf
@@ -100,10 +116,9 @@ sent-turn : (s out : List ℕ) (t : Turn) → length s ≡ size → room ≤ len
 unfolding viewOf sentBy
 sent-turn s out _ h r nobody = refl
 sent-turn s out _ h r (answer w) = let k = answer-packed s h w in rw (written-frame (answerOf s) out (ctrOf s) k r, wrote (answerOf s) out (ctrOf s) k r)
-sent-turn s out _ h r (list j i n) =
-    let k = packet-packed s i h (n .odt) in
-    let p : List ℕ = packetFrom (sessionOf s) i in
-    rw (written-frame (packetFrom (sessionOf s) i) out (ctrOf s) k r, wrote (packetFrom (sessionOf s) i) out (ctrOf s) k r)
+sent-turn s out _ h r (list j o n) =
+    let k = packet-packed s j o h n in
+    rw (written-frame (packetFrom (sessionOf s) j o) out (ctrOf s) k r, wrote (packetFrom (sessionOf s) j o) out (ctrOf s) k r)
 
 pub slot-sends : (s out : List ℕ) → consistent s ≡ true → room ≤ length out → sends ours s (SendingSlot out) ≡ framesOf (viewOf s .ctr) (packetFor (turnIn (viewOf s)) (viewOf s))
 slot-sends s out c h =
@@ -119,9 +134,9 @@ reads-back s _ e h nobody = rw e refl
 reads-back s _ e h (answer w) =
     let k = answer-packed s h w in
     (refl, answerOf s, rw e refl, λ place m fits. round-trip place m (answerOf s) (ctrOf s) fits (k .some) (k .few))
-reads-back s _ e h (list j k n) =
-    let p = packet-packed s k h (n .odt) in
-    (refl, packetFrom (sessionOf s) k, rw e refl, λ place m fits. round-trip place m (packetFrom (sessionOf s) k) (ctrOf s) fits (p .some) (p .few))
+reads-back s _ e h (list j o n) =
+    let p = packet-packed s j o h n in
+    (refl, packetFrom (sessionOf s) j o, rw e refl, λ place m fits. round-trip place m (packetFrom (sessionOf s) j o) (ctrOf s) fits (p .some) (p .few))
 
 pub slot-reads-back : (s out : List ℕ) → consistent s ≡ true → room ≤ length out → ReadsBack (sends ours s (SendingSlot out)) s
 slot-reads-back s out c h = rw (slot-sends s out c h) (reads-back s (turnIn (viewOf s)) refl (consistent-size s c) (fair (viewOf s)))
@@ -149,7 +164,7 @@ sent-past : (t : Turn) (s out : List ℕ) → Past out (sentBy t s out)
 unfolding sentBy
 sent-past Nobody s out = untouched
 sent-past Answer s out = written-past (answerOf s) out (answerSent s) (ctrOf s)
-sent-past (Packet k) s out = written-past (packetFrom (sessionOf s) k) out (packetSent s k) (ctrOf s)
+sent-past (Packet l o) s out = written-past (packetFrom (sessionOf s) l o) out (packetSent s l o) (ctrOf s)
 
 pub slot-past : (s out : List ℕ) → SameOutside 0 (slottedValue (slotOf s out .slotted)) out (slotOf s out .out)
 unfolding slotOf

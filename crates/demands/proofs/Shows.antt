@@ -1,10 +1,8 @@
 -- What each call shows is what document 01 says of it, of ours and so of every slave that meets the first two demands; likewise the laws of its
--- commands and of its locks. Assumes nothing.
-use Prim.Native.Nat.{ℕ, _≤_, _<_}
+-- commands, of the pool and of its locks. Assumes nothing.
 use mathlib.Core.Path.{sym, subst}
-use native.Mathlib.Omega.{arith}
-use Rattle.state.specs.Layout.{events}
 use Rattle.views.specs.Commands.{Obeys}
+use Rattle.views.specs.Full.{Fills}
 use Rattle.views.proofs.Receiving.{view-receive}
 use Rattle.views.proofs.Happening.{view-event}
 use Rattle.views.proofs.Sending.{view-slot, view-powerUp}
@@ -16,13 +14,11 @@ use Rattle.demands.specs.Obeyed.{Obeyed}
 use Rattle.demands.specs.ListsLocked.{ListsLocked}
 use Rattle.demands.specs.StaysShut.{StaysShut}
 use Rattle.demands.specs.Shows.{Shows}
-use Rattle.demands.proofs.Obeyed.{ours-obeys}
+use Rattle.demands.proofs.Events.{event-low}
+use Rattle.demands.proofs.Obeyed.{ours-obeys, ours-fills}
 use Rattle.demands.proofs.ListsLocked.{lists-locked}
 use Rattle.demands.proofs.StaysShut.{stays-shut}
 use Rattle.demands.proofs.NoChoice.{only-ours}
-
-low : (number : ℕ) → number ≤ 1 → number < events
-low number h = omega arith
 
 pub ours-shows : Shows ours
 ours-shows = record {
@@ -30,7 +26,7 @@ ours-shows = record {
   event = view-event;
   slot = view-slot;
   powerUp = λ s start h k. view-powerUp s start h k .1;
-  sample = λ s cal meas number clock l c h e. event-samples s cal meas number clock l c (low number h) e;
+  sample = λ s cal meas number clock l c h e. event-samples s cal meas number clock l c (event-low number h) e;
 }
 
 -- whatever stands of ours stands of every slave that meets the first two demands
@@ -42,6 +38,9 @@ every-shows = every Shows ours-shows
 
 pub every-obeys : (v : AnySlave) → Demand1 v → Demand2 v → Obeys (Obeyed v)
 every-obeys = every (λ (v : AnySlave). Obeys (Obeyed v)) ours-obeys
+
+pub every-fills : (v : AnySlave) → Demand1 v → Demand2 v → Fills (Obeyed v)
+every-fills = every (λ (v : AnySlave). Fills (Obeyed v)) ours-fills
 
 pub every-locked : (v : AnySlave) → Demand1 v → Demand2 v → ListsLocked v
 every-locked = every ListsLocked lists-locked

@@ -26,10 +26,10 @@ use Rattle.demands.specs.Runs.{Call, Byte, Event, SendingSlot, Elsewhere
 use Rattle.demands.specs.Waiting.{isAnswer, answersIn}
 use Rattle.demands.specs.Demand3.{LeavesWithin}
 use Rattle.demands.proofs.Turns.{Next, Fair, nobody, answer, list, round-fair}
-use Rattle.demands.proofs.Sends.{turned, framesOf, slot-shows, slot-stays, slot-sends, slot-silent}
+use Rattle.demands.proofs.Sends.{next-low, turned, framesOf, slot-shows, slot-stays, slot-sends, slot-silent}
 use Rattle.demands.proofs.Carried.{carried-append, carries-none, packet-no-answer}
-use Rattle.demands.proofs.ByteKeeps.{byte-round, byte-answer-kept}
-use Rattle.demands.proofs.Events.{event-answer, event-round}
+use Rattle.demands.proofs.ByteKeeps.{byte-sent, byte-answer-kept}
+use Rattle.demands.proofs.Events.{event-answer, event-sent}
 
 -- ---- counted slots
 pub counted : (out : List ℕ) (n : ℕ) → room ≤ length out → oneMore (leb room (length out)) n ≡ suc n
@@ -50,16 +50,16 @@ slots-cons Elsewhere cs = omega arith
 -- ---- an answer that waits goes now, or a list's packet goes and the last frame was an answer
 data Soon (v : Slave) : Turn → Type 0 where
   now : Soon v Answer
-  next : (j k : ℕ) → Next v j k → v .lastAnswer ≡ true → Soon v (Packet k)
+  next : (j o : ℕ) → Next v j o → v .lastAnswer ≡ true → Soon v (Packet j o)
 
 or-soon : (v : Slave) (t : Turn) → v .lastAnswer ≡ true → Fair v t → Soon v (orElse t Answer)
 or-soon v _ f nobody = now
 or-soon v _ f (answer w) = now
-or-soon v _ f (list j k n) = next j k n f
+or-soon v _ f (list j o n) = next j o n f
 
 soon : (v : Slave) → hasAnswer v ≡ true → Soon v (turnIn v)
 unfolding turnIn
-soon v w = rw w (cond-ind (Soon v) (v .lastAnswer) (λ f. or-soon v (roundIn (v .session) (v .served)) f (round-fair v)) (λ _. now))
+soon v w = rw w (cond-ind (Soon v) (v .lastAnswer) (λ f. or-soon v (roundIn (v .session)) f (round-fair v)) (λ _. now))
 
 -- how many slots it takes, by whether the last frame was an answer
 abbrev need : Bool → ℕ
@@ -122,14 +122,14 @@ slot-by cs a last s out w r h later _ e now =
       sent = slot-sends s out c r ∙ ap (λ t. framesOf (viewOf s .ctr) (packetFor t (viewOf s))) e ∙ ap (λ x. frame (viewOf s .ctr) x ∷ []) (w .answer);
       noneAfter = ap hasAnswer gone;
     }
-slot-by cs a last s out w r h later _ e (next j k n f) =
+slot-by cs a last s out w r h later _ e (next j o n f) =
     let c : consistent s ≡ true = w .fit in
     let v : Slave = viewOf s in
-    let gone : viewOf (slotOf s out .state) ≡ packetGone k v = slot-shows s out c r ∙ ap (λ t. turned t (viewOf s)) e in
+    let gone : viewOf (slotOf s out .state) ≡ packetGone j o v = slot-shows s out c r ∙ ap (λ t. turned t (viewOf s)) e in
     let u : Waits a false (slotOf s out .state) = record { fit = slot-kept s out c; waits = ap hasAnswer gone ∙ w .waits; answer = ap (λ (x : Slave). x .answer) gone ∙ w .answer; flag = ap (λ (x : Slave). x .lastAnswer) gone } in
     let two : need last ≡ 2 = ap need (sym (w .flag) ∙ f) in
     let quiet : answersIn (sends ours s (SendingSlot out)) ≡ [] =
-    ap answersIn (slot-sends s out c r ∙ ap (λ t. framesOf (viewOf s .ctr) (packetFor t (viewOf s))) e) ∙ carries-none isAnswer (viewOf s .ctr) (packetFrom (viewOf s .session) k) (packet-no-answer (viewOf s .session) k (n .odt)) in
+    ap answersIn (slot-sends s out c r ∙ ap (λ t. framesOf (viewOf s .ctr) (packetFor t (viewOf s))) e) ∙ carries-none isAnswer (viewOf s .ctr) (packetFrom (viewOf s .session) j o) (packet-no-answer (viewOf s .session) j o (next-low s j o n)) in
     goes-on (SendingSlot out) s a cs 1 (need last) (later a false (slotOf s out .state) u (omega (arith, two))) (omega (arith, two, counted out 0 r)) quiet
 
 goes : (cs : List Call) → Later cs
@@ -137,12 +137,12 @@ goes [] a last s w h = absurd (omega (arith, need-some last))
 goes (Byte cal meas b ∷ cs) a last s w h =
     let c : consistent s ≡ true = w .fit in
     goes-on (Byte cal meas b) s a cs (need last) (need last)
-    (goes cs a last (receiveOf s cal meas b .state) (waits-on (receive-kept s cal meas b c) (byte-answer-kept s cal meas b c (w .waits)) (byte-round s cal meas b c .lastAnswer) w) h)
+    (goes cs a last (receiveOf s cal meas b .state) (waits-on (receive-kept s cal meas b c) (byte-answer-kept s cal meas b c (w .waits)) (byte-sent s cal meas b c .lastAnswer) w) h)
     (omega arith) refl
 goes (Event cal meas event clock ∷ cs) a last s w h =
     goes-on (Event cal meas event clock) s a cs (need last) (need last)
     (goes cs a last (eventOf s cal meas event clock .state)
-    (waits-on (event-kept s cal meas event clock (w .fit)) (event-answer s cal meas event clock) (event-round s cal meas event clock .lastAnswer) w) h)
+    (waits-on (event-kept s cal meas event clock (w .fit)) (event-answer s cal meas event clock) (event-sent s cal meas event clock .lastAnswer) w) h)
     (omega arith) refl
 goes (SendingSlot out ∷ cs) a last s w h = elim (decLe room (length out)) [ yes r ↦ with-room r (goes cs) | no r ↦ without (lt-of-not-le r) (goes cs) ] where
   with-room : room ≤ length out → Later cs → LeavesWithin (need last) ours s a (SendingSlot out ∷ cs)

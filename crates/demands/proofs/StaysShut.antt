@@ -22,7 +22,7 @@ use Rattle.session.specs.PowerUp.{powered}
 use Rattle.session.specs.Receive.{Step, only, obeyed, receiveOf}
 use Rattle.model.specs.Heed.{goodConnect}
 use Rattle.model.specs.declared.Deed.{Deed}
-use Rattle.model.specs.declared.Deed.the-variants.{Refuse, RefuseSize, WrongKey, Connect, Disconnect, Status, Synch, NoSeed, GiveSeed, Unlock, SetMta, Upload, Checksum, Download, ClearList, SetPointer, ClearEntry, WriteEntry, SetMode, Stop, Start, KeepRunning, Select, StopAll, StartSelected, StopSelected, ProcessorInfo, ResolutionInfo}
+use Rattle.model.specs.declared.Deed.the-variants.{Refuse, RefuseSize, WrongKey, Connect, Disconnect, Status, Synch, NoSeed, GiveSeed, Unlock, SetMta, Upload, Checksum, Download, ClearList, SetPointer, ClearEntry, WriteEntry, SetMode, Stop, Start, KeepRunning, Select, StopAll, StartSelected, StopSelected, ProcessorInfo, ResolutionInfo, FreeLists, AllocLists, AllocOdts, AllocEntries}
 use Rattle.model.specs.Model.{byte, Session}
 use Rattle.model.specs.Step.{stepIn}
 use Rattle.model.specs.Answers.{replyIn}
@@ -35,7 +35,7 @@ use Rattle.views.proofs.WrongKeys.{one-more, short-judged, shut-judged, seedles
 use Rattle.demands.specs.Slave.{ours}
 use Rattle.demands.specs.Heard.{readBy, Commands, deedIn, wrongKey}
 use Rattle.demands.specs.Life.{Device, Moment, PowerOn, Hears, Samples, Serves, passed, lived, OfBytes}
-use Rattle.demands.specs.Demand2.{shut, RightKeyEnds, Keyless}
+use Rattle.demands.specs.Demand2.{RightKeyEnds, Keyless}
 use Rattle.demands.specs.StaysShut.{saysWrong, judgedWrong, wrongAt, wrongIn, PoweredOn, StaysShut}
 use Rattle.demands.proofs.ReadBy.{read-session}
 use Rattle.demands.proofs.Received.{Does, Reads, rests, acts, received, done-answer, resting, acting, command-answer}
@@ -82,9 +82,9 @@ step-count (Upload e a m) c n = refl
 step-count (Checksum e a m) c n = refl
 step-count (Download from a m) c n = refl
 step-count (ClearList l) c n = refl
-step-count (SetPointer k e) c n = refl
-step-count (ClearEntry k e) c n = refl
-step-count (WriteEntry k e m x a) c n = refl
+step-count (SetPointer l o e) c n = refl
+step-count (ClearEntry l o e) c n = refl
+step-count (WriteEntry l o e m x a) c n = refl
 step-count (SetMode l event) c n = refl
 step-count (Stop l) c n = refl
 step-count (Start l) c n = refl
@@ -95,6 +95,10 @@ step-count StartSelected c n = refl
 step-count StopSelected c n = refl
 step-count ProcessorInfo c n = refl
 step-count ResolutionInfo c n = refl
+step-count FreeLists c n = refl
+step-count (AllocLists m) c n = refl
+step-count (AllocOdts l m) c n = refl
+step-count (AllocEntries l o m) c n = refl
 
 -- ---- the count and the seed: none is out once there were three
 few-then : (s : List ℕ) (r : Resource) → sessionOf s .seed ≡ For r → sessionOf s .wrongKeys < 3

@@ -12,7 +12,8 @@ use Rattle.line.specs.Message.{longest, room, frame}
 use Rattle.line.specs.Run as line
 use Rattle.line.specs.Wire.{heard}
 use Rattle.line.specs.declared.Place.{Place}
-use Rattle.state.specs.Layout.{lists, odts, addressable, sampleSize, sampleAt, firstOdt, size}
+use Rattle.state.specs.Layout.{addressable, sampleSize, sampleAt, size}
+use Rattle.state.specs.Pool.{listCount, firstOdt, odtCount, odtTotal}
 use Rattle.state.specs.Bytes.{block, bytes32, u32At}
 use Rattle.state.specs.Memory.{pick}
 use Rattle.state.specs.State.{consistent, bitOf}
@@ -160,9 +161,9 @@ pub record SeedOpens (v : AnySlave) (r : Resource) (s t : List ℕ) : Type 0 whe
       → (sessionOf (v .receive (run v t between) cal meas b .state) .unlocked r ≡ true)
       × (sessionOf (v .receive (run v t between) cal meas b .state) .unlocked (otherLock r) ≡ sessionOf s .unlocked (otherLock r))
 
--- the bytes in which a list's packets are stored
-abbrev pub storeSize : ℕ
-storeSize = odts * sampleSize
+-- the bytes of t in which the packets of list l are stored, which s has
+abbrev pub storesOf : List ℕ → List ℕ → ℕ → List ℕ
+storesOf t s l = block t (sampleAt (firstOdt s l)) (odtCount s l * sampleSize)
 
 pub record Demand2 (v : AnySlave) : Type 0 where
   -- power-up leaves the one state that document 01 says
@@ -225,12 +226,12 @@ pub record Demand2 (v : AnySlave) : Type 0 where
   pub counts : (s cal meas : List ℕ) (event clock : ℕ) → consistent s ≡ true → event ≤ 1
       → v .event s cal meas event clock .evented ≡ countedIn (sessionOf s) event
   -- the lists that are sampled gain a sample, each byte as the memories lent to this event hold it
-  pub samples : (s cal meas : List ℕ) (event clock l : ℕ) → consistent s ≡ true → event ≤ 1 → l < lists → samplingIn (sessionOf s) l event ≡ Sampled
+  pub samples : (s cal meas : List ℕ) (event clock l : ℕ) → consistent s ≡ true → event ≤ 1 → samplingIn (sessionOf s) l event ≡ Sampled
       → waitingOf (v .event s cal meas event clock .state) l ≡ sampleOf s l clock cal meas
   -- which is stored as if that list alone were captured
-  pub stores : (s cal meas : List ℕ) (event clock l : ℕ) → consistent s ≡ true → event ≤ 1 → l < lists → samplingIn (sessionOf s) l event ≡ Sampled
-      → block (v .event s cal meas event clock .state) (sampleAt (firstOdt l)) storeSize ≡ block (captured s l clock cal meas) (sampleAt (firstOdt l)) storeSize
+  pub stores : (s cal meas : List ℕ) (event clock l : ℕ) → consistent s ≡ true → event ≤ 1 → samplingIn (sessionOf s) l event ≡ Sampled
+      → storesOf (v .event s cal meas event clock .state) s l ≡ storesOf (captured s l clock cal meas) s l
   -- no other byte of the state changes
-  pub others : (s cal meas : List ℕ) (event clock l : ℕ) → consistent s ≡ true → l < lists → samplingIn (sessionOf s) l event ≢ Sampled
-      → block (v .event s cal meas event clock .state) (sampleAt (firstOdt l)) storeSize ≡ block s (sampleAt (firstOdt l)) storeSize
-  pub storesOnly : (s cal meas : List ℕ) (event clock : ℕ) → SameOutside (sampleAt 0) size s (v .event s cal meas event clock .state)
+  pub others : (s cal meas : List ℕ) (event clock l : ℕ) → consistent s ≡ true → l < listCount s → samplingIn (sessionOf s) l event ≢ Sampled
+      → storesOf (v .event s cal meas event clock .state) s l ≡ storesOf s s l
+  pub storesOnly : (s cal meas : List ℕ) (event clock : ℕ) → SameOutside (sampleAt 0) (sampleAt (odtTotal s)) s (v .event s cal meas event clock .state)

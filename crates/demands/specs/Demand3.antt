@@ -6,7 +6,7 @@ use mathlib.Core.Option.{some}
 use mathlib.Core.List.{List, [], _∷_, _++_}
 use lib.ListN.{length}
 use Rattle.line.specs.Message.{most, room, frame}
-use Rattle.state.specs.Layout.{lists, placeAt, answerAt}
+use Rattle.state.specs.Layout.{placeAt, answerAt}
 use Rattle.state.specs.State.{consistent}
 use Rattle.model.specs.Calls.{samplingIn}
 use Rattle.model.specs.Model.{hasAnswer}
@@ -38,7 +38,7 @@ pub record AnsweredSoon (n : ℕ) (v : AnySlave) (s cal meas : List ℕ) (b : �
   pub answer : viewOf (v .receive s cal meas b .state) .answer ≡ answerTo p (sessionOf s) cal meas
   pub leaves : n ≤ slots later → LeavesWithin n v (v .receive s cal meas b .state) (answerTo p (sessionOf s) cal meas) later
 
--- in no call of the run list l is stopped, or its session ended or renewed
+-- in no call of the run list l is stopped or freed, or its session ended or renewed
 abbrev pub Undisturbed : AnySlave → ℕ → List ℕ → List Call → Type 0
 Undisturbed v l s [] = Unit {0}
 Undisturbed v l s (Byte cal meas b ∷ cs) = (stopsAt l s cal meas b ≡ false) × Undisturbed v l (afterCall v s (Byte cal meas b)) cs
@@ -60,19 +60,25 @@ AnsweredBy n v =
     → sessionOf (run v s before) .opened ≡ true → hasAnswer (viewOf (run v s before)) ≡ false
     → AnsweredSoon n v (run v s before) cal meas b p later
 
--- what waits of a list, p packets, leaves whole and in order by the counted slot `bound p`, unless the list is stopped or its session ends or is
--- renewed
-abbrev pub WholeBy : (ℕ → ℕ) → AnySlave → Type 0
+-- what waits of one of L lists, p packets, leaves whole and in order by the counted slot `bound L p`, unless the list is stopped or freed or its session
+-- ends or is renewed
+abbrev pub WholeBy : (ℕ → ℕ → ℕ) → AnySlave → Type 0
 WholeBy bound v =
-    (s : List ℕ) (l : ℕ) (cs : List Call) → consistent s ≡ true → l < lists → Undisturbed v l s cs
-    → bound (length (waitingOf s l)) ≤ slots cs → Begins (waitingOf s l) (packetsIn l (frames v s cs))
+    (s : List ℕ) (l : ℕ) (cs : List Call) → consistent s ≡ true → Undisturbed v l s cs
+    → bound (sessionOf s .lists) (length (waitingOf s l)) ≤ slots cs → Begins (waitingOf s l) (packetsIn (sessionOf s) l (frames v s cs))
 
--- a captured sample leaves whole by the counted slot n, unless its list is stopped or its session ends or is renewed
-abbrev pub SampledBy : ℕ → AnySlave → Type 0
-SampledBy n v =
-    (s cal meas : List ℕ) (event clock l : ℕ) (cs : List Call) → consistent s ≡ true → event ≤ 1 → l < lists → samplingIn (sessionOf s) l event ≡ Sampled
-    → Undisturbed v l (v .event s cal meas event clock .state) cs → n ≤ slots cs
-    → Begins (sampleOf s l clock cal meas) (packetsIn l (frames v (v .event s cal meas event clock .state) cs))
+-- so does its next packet by the counted slot `bound L`
+abbrev pub NextBy : (ℕ → ℕ) → AnySlave → Type 0
+NextBy bound v =
+    (s : List ℕ) (l : ℕ) (cs : List Call) (p : List ℕ) (rest : List (List ℕ)) → consistent s ≡ true → Undisturbed v l s cs → waitingOf s l ≡ p ∷ rest
+    → bound (sessionOf s .lists) ≤ slots cs → Begins (p ∷ []) (packetsIn (sessionOf s) l (frames v s cs))
+
+-- a captured sample of p packets leaves whole by the counted slot `bound L p`, unless its list is stopped or freed or its session ends or is renewed
+abbrev pub SampledBy : (ℕ → ℕ → ℕ) → AnySlave → Type 0
+SampledBy bound v =
+    (s cal meas : List ℕ) (event clock l : ℕ) (cs : List Call) → consistent s ≡ true → event ≤ 1 → samplingIn (sessionOf s) l event ≡ Sampled
+    → Undisturbed v l (v .event s cal meas event clock .state) cs → bound (sessionOf s .lists) (length (sampleOf s l clock cal meas)) ≤ slots cs
+    → Begins (sampleOf s l clock cal meas) (packetsIn (sessionOf s) l (frames v (v .event s cal meas event clock .state) cs))
 
 pub record Demand3 (v : AnySlave) : Type 0 where
   -- an answer leaves in the first or second counted slot after its command
@@ -82,6 +88,7 @@ pub record Demand3 (v : AnySlave) : Type 0 where
   -- good messages meanwhile are number 6 and change the reader's place alone
   pub meanwhile : (s cal meas : List ℕ) (b : ℕ) (p : List ℕ) → consistent s ≡ true → hasAnswer (viewOf s) ≡ true → packetEnded s b ≡ some p
       → (v .receive s cal meas b .received ≡ Unread) × ChangesOnly placeAt answerAt v s cal meas b
-  -- p packets of a list leave by the counted slot 2 L p, and so a sample by the sixteenth
-  pub whole : WholeBy (λ p. 2 * (lists * p)) v
-  pub sampled : SampledBy 16 v
+  -- with L lists the next packet of a list leaves by the counted slot 2 L, p packets of it by 2 L p, and so a sample of p packets
+  pub next : NextBy (λ L. 2 * L) v
+  pub whole : WholeBy (λ L p. 2 * (L * p)) v
+  pub sampled : SampledBy (λ L p. 2 * (L * p)) v

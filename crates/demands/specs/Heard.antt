@@ -22,7 +22,7 @@ use Rattle.words.specs.declared.Resource.{Resource}
 use Rattle.words.specs.declared.Seed.{Seed}
 use Rattle.words.specs.declared.Seed.the-variants.{None, For}
 use Rattle.model.specs.declared.Deed.{Deed}
-use Rattle.model.specs.declared.Deed.the-variants.{Refuse, RefuseSize, WrongKey, Connect, Disconnect, Status, Synch, NoSeed, GiveSeed, Unlock, SetMta, Upload, Checksum, Download, ClearList, SetPointer, ClearEntry, WriteEntry, SetMode, Stop, Start, KeepRunning, Select, StopAll, StartSelected, StopSelected, ProcessorInfo, ResolutionInfo}
+use Rattle.model.specs.declared.Deed.the-variants.{Refuse, RefuseSize, WrongKey, Connect, Disconnect, Status, Synch, NoSeed, GiveSeed, Unlock, SetMta, Upload, Checksum, Download, ClearList, SetPointer, ClearEntry, WriteEntry, SetMode, Stop, Start, KeepRunning, Select, StopAll, StartSelected, StopSelected, ProcessorInfo, ResolutionInfo, FreeLists, AllocLists, AllocOdts, AllocEntries}
 
 -- the packet of a good message that has just ended
 abbrev pub packetBy : Outcome → List ℕ → Option (List ℕ)
@@ -97,7 +97,7 @@ wrongKeyIn (some p) c = wrongKey p c
 abbrev pub wrongKeyAt : List ℕ → ℕ → Bool
 wrongKeyAt s b = wrongKeyIn (packetEnded s b) (sessionOf s)
 
--- ---- the deeds that stop list l (DE 0, DD 0, or DD 2 with it selected), or end or renew its session (CONNECT, DISCONNECT, a wrong key)
+-- ---- the deeds that stop list l (DE 0, DD 0, or DD 2 with it selected), free it (D6), or end or renew its session (CONNECT, DISCONNECT, a wrong key)
 abbrev pub stops : ℕ → Deed → Session → Bool
 stops l (Refuse r) c = false
 stops l RefuseSize c = false
@@ -114,9 +114,9 @@ stops l (Upload e a n) c = false
 stops l (Checksum e a n) c = false
 stops l (Download from a n) c = false
 stops l (ClearList j) c = false
-stops l (SetPointer k e) c = false
-stops l (ClearEntry k e) c = false
-stops l (WriteEntry k e n x a) c = false
+stops l (SetPointer j o e) c = false
+stops l (ClearEntry j o e) c = false
+stops l (WriteEntry j o e n x a) c = false
 stops l (SetMode j event) c = false
 stops l (Stop j) c = eqb l j
 stops l (Start j) c = false
@@ -127,11 +127,15 @@ stops l StartSelected c = false
 stops l StopSelected c = c .list l .selected
 stops l ProcessorInfo c = false
 stops l ResolutionInfo c = false
+stops l FreeLists c = true
+stops l (AllocLists n) c = false
+stops l (AllocOdts j n) c = false
+stops l (AllocEntries j o n) c = false
 
 abbrev pub stopsBy : ℕ → Option Deed → Session → Bool
 stopsBy l none c = false
 stopsBy l (some d) c = stops l d c
 
--- at byte b list l is stopped, or its session ends or is renewed
+-- at byte b list l is stopped or freed, or its session ends or is renewed
 abbrev pub stopsAt : ℕ → List ℕ → List ℕ → List ℕ → ℕ → Bool
 stopsAt l s cal meas b = stopsBy l (doneAt s cal meas b) (sessionOf s)

@@ -1,10 +1,9 @@
 -- Nothing lost, nothing invented: what slots sent, and what waits, is what waited before and what was accepted since.
-use Prim.Native.Nat.{ℕ, _<_}
+use Prim.Native.Nat.{ℕ}
 use mathlib.Core.Path.{_≡_}
 use mathlib.Core.Bool.{true, cond}
 use mathlib.Core.List.{List, [], _∷_, _++_}
 use lib.Dec.{ltb}
-use Rattle.state.specs.Layout.{lists}
 use Rattle.state.specs.State.{consistent}
 use Rattle.model.specs.Calls.{samplingIn}
 use Rattle.model.specs.Whole.{isSampled}
@@ -47,11 +46,11 @@ gains l s Elsewhere = []
 abbrev pub gained : AnySlave → ℕ → List ℕ → List Call → List (List ℕ)
 gained v l s cs = each (gains l) v s cs
 
--- its packets go when a slot sends them, or when it is stopped or its session ends or is renewed, and then all at once
+-- its packets go when a slot sends them, or when it is stopped or freed or its session ends or is renewed, and then all at once
 abbrev pub goes : AnySlave → ℕ → List ℕ → Call → List (List ℕ)
 goes v l s (Byte cal meas b) = cond (stopsAt l s cal meas b) (waitingOf s l) []
 goes v l s (Event cal meas event clock) = []
-goes v l s (SendingSlot out) = packetsIn l (sends v s (SendingSlot out))
+goes v l s (SendingSlot out) = packetsIn (sessionOf s) l (sends v s (SendingSlot out))
 goes v l s Elsewhere = []
 
 abbrev pub gone : AnySlave → ℕ → List ℕ → List Call → List (List ℕ)
@@ -61,4 +60,4 @@ pub record NothingLost (v : AnySlave) : Type 0 where
   -- the answers sent and the one that waits are the one that waited and those accepted since
   pub answers : (s : List ℕ) (cs : List Call) → consistent s ≡ true → answersIn (frames v s cs) ++ waitingAnswer (run v s cs) ≡ waitingAnswer s ++ accepted v s cs
   -- of each list the packets gone and those that wait are those that waited and those gained since
-  pub packets : (s : List ℕ) (l : ℕ) (cs : List Call) → consistent s ≡ true → l < lists → gone v l s cs ++ waitingOf (run v s cs) l ≡ waitingOf s l ++ gained v l s cs
+  pub packets : (s : List ℕ) (l : ℕ) (cs : List Call) → consistent s ≡ true → gone v l s cs ++ waitingOf (run v s cs) l ≡ waitingOf s l ++ gained v l s cs

@@ -4,7 +4,7 @@ use Rattle.words.specs.declared.Evented.the-variants as event
 use Rattle.words.specs.declared.Slotted.{Slotted}
 use Rattle.words.specs.declared.Slotted.the-variants as slot
 use Rattle.words.specs.declared.Reason.{Reason}
-use Rattle.words.specs.declared.Reason.the-variants.{Unknown, TooShort, Locked, Sequence, OutOfRange, DataMissing, ListRuns, ReadOnly, NotInside, CannotStart, WrongKey}
+use Rattle.words.specs.declared.Reason.the-variants.{Unknown, TooShort, Locked, Sequence, OutOfRange, DataMissing, ListRuns, ReadOnly, NotInside, CannotStart, PoolFull, WrongKey}
 
 -- an event that is done, whatever it counted
 abbrev pub eventSort : Evented → Evented
@@ -31,4 +31,5 @@ reasonSort ListRuns = ListRuns
 reasonSort ReadOnly = ReadOnly
 reasonSort NotInside = NotInside
 reasonSort CannotStart = CannotStart
+reasonSort PoolFull = PoolFull
 reasonSort WrongKey = Locked

@@ -24,4 +24,4 @@ pub record Shows (v : AnySlave) : Type 0 where
   pub powerUp : (s : List ℕ) (start : ℕ) → length s ≡ size → start < 2 ^ 32 → viewOf (v .powerUp s start .state) ≡ poweredUp start
   -- each byte of a sample is that of its own place
   pub sample : (s cal meas : List ℕ) (number clock l : ℕ) → consistent s ≡ true → number ≤ 1 → samplingIn (sessionOf s) l number ≡ Sampled
-      → Samples l clock cal meas (sessionOf s .list l) (sessionOf (v .event s cal meas number clock .state) .list l)
+      → Samples clock cal meas (sessionOf s .list l) (sessionOf (v .event s cal meas number clock .state) .list l)

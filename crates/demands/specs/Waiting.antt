@@ -1,14 +1,13 @@
 -- What waits to be sent, what a frame carries, and what a sample is.
-use Prim.Native.Nat.{ℕ}
+use Prim.Native.Nat.{ℕ, _+_}
 use mathlib.Core.Path.{_≡_}
 use mathlib.Core.Bool.{Bool, false, cond}
 use mathlib.Core.List.{List, [], _∷_}
-use lib.Dec.{eqb, leb}
+use lib.Dec.{ltb, leb}
 use lib.ListN.{length, getD, take, drop}
 use Rattle.line.specs.Wire.{unstuff}
-use Rattle.state.specs.Layout.{listOf}
 use Rattle.state.specs.Bytes.{block}
-use Rattle.model.specs.Model.{hasAnswer, waitingIn}
+use Rattle.model.specs.Model.{Session, firstOf, hasAnswer, waitingIn}
 use Rattle.model.specs.Calls.{sampleIn}
 use Rattle.model.specs.View.{sessionOf, viewOf}
 
@@ -41,8 +40,9 @@ packetRead f = packetInside (unstuff (drop 1 f))
 abbrev pub isAnswer : List ℕ → Bool
 isAnswer p = leb 0xFE (getD p 0 0)
 
-abbrev pub isOf : ℕ → List ℕ → Bool
-isOf l p = cond (isAnswer p) false (eqb (listOf (getD p 0 0)) l)
+-- one of list l's, as session c numbers them
+abbrev pub isOf : Session → ℕ → List ℕ → Bool
+isOf c l p = cond (isAnswer p) false (cond (ltb (getD p 0 0) (firstOf c l)) false (ltb (getD p 0 0) (firstOf c l + c .list l .odts)))
 
 -- those of the frames' packets that pass a test
 abbrev pub carried : (List ℕ → Bool) → List (List ℕ) → List (List ℕ)
@@ -52,5 +52,5 @@ carried test (f ∷ fs) = cond (test (packetRead f)) (packetRead f ∷ carried t
 abbrev pub answersIn : List (List ℕ) → List (List ℕ)
 answersIn fs = carried isAnswer fs
 
-abbrev pub packetsIn : ℕ → List (List ℕ) → List (List ℕ)
-packetsIn l fs = carried (isOf l) fs
+abbrev pub packetsIn : Session → ℕ → List (List ℕ) → List (List ℕ)
+packetsIn c l fs = carried (isOf c l) fs

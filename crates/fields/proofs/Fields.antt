@@ -1,23 +1,24 @@
 -- A field of the state reads as it was set; what a closed session and a fresh one hold. Assumes nothing.
-use Prim.Native.Nat.{ℕ, zero, suc, _+_, _-_, _%_, _^_, _≤_, _<_}
+use Prim.Native.Nat.{ℕ, zero, suc, _+_, _*_, _-_, _%_, _^_, _≤_, _<_}
 use mathlib.Core.Path.{_≡_, refl, sym, ap, subst, _∙_}
 use mathlib.Core.Logic.{_≢_}
 use mathlib.Core.Bool.{Bool, true, false, cond}
 use mathlib.Core.List.{List, _∷_}
 use native.Mathlib.Omega.{arith}
-use native.Mathlib.Nat.{mod-eq-of-lt, zero-add}
-use borrow.Author.Tests.{leb-true, leb-false, eqb-true, eqb-false, ne-eqb, lt-ltb, le-ltb, lt-leb}
-use lib.Dec.{T, eqb, ltb, lit<, lit≤}
+use native.Mathlib.Nat.{mod-eq-of-lt}
+use borrow.Author.Tests.{leb-true, leb-false, eqb-true, eqb-false, ne-eqb, lt-ltb, le-ltb}
+use lib.Dec.{T, eqb, lit<, lit≤}
 use lib.ListN.{length, getD, set, length-set}
 use lib.Seq.{sets, getD-set-same, getD-set-other, set-getD}
 use Rattle.line.specs.declared.Place.{Place}
 use Rattle.line.specs.declared.Place.the-variants.{Outside, Inside, Escaped}
 use Rattle.line.proofs.Laws.{cond-ind}
-use Rattle.state.specs.Layout.{size, wrongMost, generatorAt, wrongKeysAt, sessionAt, sessionSize, openAt, calibrationAt, listsAt, seedAt, pointerAt, pointerEntryAt, mtaAt, addressAt, entriesAt, sampleAt, placeAt, countAt, messageAt, answerAt, answerBytesAt, entryCount, allOdts, packetMost}
-use Rattle.state.specs.Bytes.{u32At, put32, block, cleared}
+use Rattle.state.specs.Layout.{size, wrongMost, generatorAt, wrongKeysAt, sessionAt, sessionSize, openAt, calibrationAt, listsAt, seedAt, pointerAt, pointerEntryAt, mtaAt, addressAt, phaseAt, odtsAt, modeAt, roundAt, sampleAt, placeAt, countAt, messageAt, answerAt, answerBytesAt, lists, allOdts, packetMost}
+use Rattle.state.specs.Bytes.{u32At, put32, block}
 use Rattle.state.specs.Generator.{startOf, staysShut, oneWrongMore}
 use Rattle.state.specs.State.{bitOf, flagOf, generatorOf, setGenerator, wrongKeysOf, countedWrong, openOf, lockAt, unlockedOf, seedOf, setSeed, mtaTag, mtaOf, setMta, pointerOf, setPointer, Pointed, dropped, closed, fresh, placeOf, setPlace, answerLength, waits, answerKind, answerOf, answered}
-use Rattle.state.specs.Lists.{leastOf, storedLength}
+use Rattle.state.specs.Pool.{phaseOf, freedOf, listCount, roundOf, firstOdt, odtCount}
+use Rattle.state.specs.Lists.{storedLength}
 use Rattle.words.specs.declared.Resource.{Resource}
 use Rattle.words.specs.declared.Resource.the-variants.{Calibration, Lists}
 use Rattle.words.specs.declared.Extension.{Extension}
@@ -28,9 +29,11 @@ use Rattle.words.specs.declared.Mta.{Mta}
 use Rattle.words.specs.declared.Mta.the-variants.{Unset, At}
 use Rattle.words.specs.declared.Pointer.{Pointer}
 use Rattle.words.specs.declared.Pointer.the-variants.{Unset as NoEntry, At as Entry}
-use Rattle.state.proofs.Sets.{cleared-length}
+use Rattle.state.proofs.Allocated.{lists-most, odt-most}
+use Rattle.state.proofs.Pointers.{at-entry}
 use Rattle.model.proofs.Bounded.{either}
-use Rattle.fields.proofs.Frames.{out-below, only-dropped, only-closed}
+use Rattle.fields.proofs.Frames.{only-dropped, only-pointer, only-closed}
+use Rattle.fields.proofs.Readers.{Same, apart, pointer-unset, listCount-reads, firstOdt-reads, odtCount-reads, entryCount-reads}
 use Rattle.fields.proofs.Stores.{set-out, put32-out, put32-same, sets-in, block-sets, cleared-in}
 
 -- ---- a field reads as it was set
@@ -52,18 +55,24 @@ mta-same s Unset h l = simp (getD-set-same s mtaAt 0 0 (omega arith))
 mta-same s (At CalibrationMemory a) h l = simp (mta-tagged s CalibrationMemory a h, mta-addressed s CalibrationMemory a h l)
 mta-same s (At Measured a) h l = simp (mta-tagged s Measured a h, mta-addressed s Measured a h l)
 
-pub pointer-same : (s : List ℕ) (p : Pointer) → length s ≡ size → Pointed p → pointerOf (setPointer s p) ≡ p
-unfolding setPointer pointerOf
-pointer-same s NoEntry h l = simp (getD-set-same s pointerAt 0 0 (omega arith))
-pointer-same s (Entry k e) h l =
-    let kl : k < allOdts = l .0 in
-    let m : (k + 1) % 256 ≡ k + 1 = mod-eq-of-lt (omega arith) in
-    let back : k + 1 - 1 ≡ k = omega arith in
-    let odt : getD (set (set s pointerAt (k + 1)) pointerEntryAt e) pointerAt 0 ≡ k + 1
-    = getD-set-other (set s pointerAt (k + 1)) pointerEntryAt pointerAt e 0 (omega arith) ∙ getD-set-same s pointerAt (k + 1) 0 (omega arith) in
-    let entry : getD (set (set s pointerAt (k + 1)) pointerEntryAt e) pointerEntryAt 0 ≡ e
-    = getD-set-same (set s pointerAt (k + 1)) pointerEntryAt e 0 (rw length-set (omega arith)) in
-    simp (m, odt, entry, back, ne-eqb (k + 1) 0 (omega arith), le-ltb allOdts (k + 1) (omega arith), lt-leb (entryCount k) e (l .1))
+pub pointer-same : (s : List ℕ) (p : Pointer) → length s ≡ size → Pointed s p → pointerOf (setPointer s p) ≡ p
+unfolding setPointer
+pointer-same s NoEntry h there = pointer-unset (set s pointerAt 0) (getD-set-same s pointerAt 0 0 (omega arith))
+pointer-same s (Entry l o e) h there =
+    let one : l < listCount s = there .0 in
+    let its : o < odtCount s l = there .1 in
+    let few : l < lists = omega (arith, lists-most s) in
+    let k : ℕ = firstOdt s l + o in
+    let odt : k < allOdts = omega (arith, odt-most s l) in
+    let b : ℕ = allOdts * l + o + 1 in
+    let m : b % 256 ≡ b = mod-eq-of-lt (omega arith) in
+    let t : List ℕ = set (set s pointerAt (b % 256)) pointerEntryAt e in
+    let tag : getD t pointerAt 0 ≡ b
+    = getD-set-other (set s pointerAt (b % 256)) pointerEntryAt pointerAt e 0 (omega arith) ∙ getD-set-same s pointerAt (b % 256) 0 (omega arith) ∙ m in
+    let entry : getD t pointerEntryAt 0 ≡ e = getD-set-same (set s pointerAt (b % 256)) pointerEntryAt e 0 (rw length-set (omega arith)) in
+    let a : Same phaseAt (modeAt 0) s t = apart tt (only-pointer s (Entry l o e)) in
+    at-entry t b l o e tag (omega arith) (omega arith) (omega arith) entry (rw (listCount-reads a) one) (rw (odtCount-reads a l few) its)
+    (rw (firstOdt-reads a l (omega arith), entryCount-reads a k odt) (there .2))
 
 -- the count of wrong keys is never above 3, also with one more
 capped : (n m : ℕ) → (n < wrongMost → m ≤ wrongMost) → cond (staysShut n) wrongMost m ≤ wrongMost
@@ -200,10 +209,9 @@ unfolding answerOf
 answer-same s bs h a =
     rw (kind-answered s bs h a, set-getD, length-answered s bs h (a .some) (a .few)) (bytes-answered s bs h (a .few))
 
--- ---- a session of which nothing is set: no packet waits, and every byte of it up to the entries is 0, but perhaps the first, whether it is open
+-- ---- a session of which nothing is set: every byte of it up to the count of lists is 0, but perhaps the first, whether it is open. It has no lists
 pub record Bare (s : List ℕ) : Type 0 where
-  pub nought : (j : ℕ) → calibrationAt ≤ j → j < entriesAt 0 → getD s j 0 ≡ 0
-  pub stores : (k : ℕ) → k < allOdts → getD s (sampleAt k) 0 ≡ 0
+  pub nought : (j : ℕ) → calibrationAt ≤ j → j < odtsAt → getD s j 0 ≡ 0
 
 pub bare-locked : (s : List ℕ) (r : Resource) → Bare s → unlockedOf s r ≡ false
 unfolding flagOf
@@ -219,13 +227,27 @@ unfolding mtaOf
 bare-mta s z = simp (z .nought mtaAt (lit≤ tt) (lit< tt))
 
 pub bare-pointer : (s : List ℕ) → Bare s → pointerOf s ≡ NoEntry
-unfolding pointerOf
-bare-pointer s z = simp (z .nought pointerAt (lit≤ tt) (lit< tt))
+bare-pointer s z = pointer-unset s (z .nought pointerAt (lit≤ tt) (lit< tt))
+
+bare-phase : (s : List ℕ) → Bare s → phaseOf s ≡ 0
+unfolding phaseOf
+bare-phase s z = simp (z .nought phaseAt (lit≤ tt) (lit< tt))
+
+pub bare-freed : (s : List ℕ) → Bare s → freedOf s ≡ false
+bare-freed s z = simp (bare-phase s z)
+
+pub bare-lists : (s : List ℕ) → Bare s → listCount s ≡ 0
+bare-lists s z = simp (bare-phase s z)
+
+-- without lists the round begins with list 0, whatever its byte is
+pub no-round : (s : List ℕ) → listCount s ≡ 0 → roundOf s ≡ 0
+unfolding roundOf
+no-round s e = simp (le-ltb (getD s roundAt 0) (listCount s) (omega arith))
 
 -- an empty store
 pub empty-stored : (s : List ℕ) (k : ℕ) → getD s (sampleAt k) 0 ≡ 0 → storedLength s k ≡ 0
 unfolding storedLength
-empty-stored s k e = rw e (cond-ind (λ (n : ℕ). n ≡ 0) (ltb 0 (leastOf k)) (λ _. refl) (λ _. refl))
+empty-stored s k e = simp e
 
 -- packets dropped
 pub dropped-empty : (s : List ℕ) (k n j : ℕ) → length s ≡ size → k + n ≤ allOdts → j < n → getD (dropped s k n) (sampleAt (k + j)) 0 ≡ 0
@@ -243,29 +265,20 @@ dropped-empty s k (suc n) j h q p =
 pub closed-length : (s : List ℕ) → length (closed s) ≡ length s
 closed-length s = only-closed s .long
 
-closed-zero : (s : List ℕ) (j : ℕ) → length s ≡ size → sessionAt ≤ j → j < entriesAt 0 → getD (closed s) j 0 ≡ 0
+closed-zero : (s : List ℕ) (j : ℕ) → length s ≡ size → sessionAt ≤ j → j < odtsAt → getD (closed s) j 0 ≡ 0
 unfolding closed
-closed-zero s j h p q =
-    let t : List ℕ = cleared s sessionAt sessionSize in
-    only-dropped t 0 allOdts .bytes j (out-below (sampleAt 0) (sampleAt allOdts) j (omega arith)) ∙ cleared-in s sessionAt sessionSize j (omega arith) p (omega arith)
-
-closed-stores : (s : List ℕ) (k : ℕ) → length s ≡ size → k < allOdts → getD (closed s) (sampleAt k) 0 ≡ 0
-unfolding closed
-closed-stores s k h p = rw zero-add at (dropped-empty (cleared s sessionAt sessionSize) 0 allOdts k (cleared-length s sessionAt sessionSize ∙ h) (lit≤ tt) p)
+closed-zero s j h p q = cleared-in s sessionAt sessionSize j (omega arith) p (omega arith)
 
 pub closed-open : (s : List ℕ) → length s ≡ size → openOf (closed s) ≡ false
 unfolding flagOf
 closed-open s h = simp (closed-zero s openAt h (lit≤ tt) (lit< tt))
 
 pub closed-bare : (s : List ℕ) → length s ≡ size → Bare (closed s)
-closed-bare s h = record { nought = λ j p q. closed-zero s j h (omega arith) q; stores = λ k p. closed-stores s k h p }
+closed-bare s h = record { nought = λ j p q. closed-zero s j h (omega arith) q }
 
 -- a byte before the locks leaves it bare
 bare-set : (s : List ℕ) (i v : ℕ) → i < calibrationAt → Bare s → Bare (set s i v)
-bare-set s i v h z = record {
-  nought = λ j p q. getD-set-other s i j v 0 (omega arith) ∙ z .nought j p q;
-  stores = λ k p. getD-set-other s i (sampleAt k) v 0 (omega arith) ∙ z .stores k p;
-}
+bare-set s i v h z = record { nought = λ j p q. getD-set-other s i j v 0 (omega arith) ∙ z .nought j p q }
 
 pub counted-bare : (s : List ℕ) → Bare s → Bare (countedWrong s)
 unfolding countedWrong

@@ -1,5 +1,5 @@
 -- Which bytes a writer changes, and which a reader reads: what a change leaves as it was. Assumes nothing.
-use Prim.Native.Nat.{ℕ, zero, suc, _+_, _-_, _%_, _≤_, _<_}
+use Prim.Native.Nat.{ℕ, zero, suc, _+_, _*_, _-_, _%_, _≤_, _<_}
 use mathlib.Core.Path.{_≡_, refl, sym, ap, _∙_}
 use mathlib.Core.Bool.{Bool, true, false, cond}
 use mathlib.Core.List.{List, _∷_, _++_, append-assoc}
@@ -13,7 +13,7 @@ use Rattle.line.specs.Unstuffing.{Fed}
 use Rattle.line.specs.declared.Place.{Place}
 use Rattle.line.specs.declared.Place.the-variants.{Outside, Inside, Escaped}
 use Rattle.line.proofs.Laws.{cond-ind}
-use Rattle.state.specs.Layout.{size, generatorAt, wrongKeysAt, ctrAt, placeAt, countAt, messageAt, answerAt, sessionAt, sessionSize, openAt, calibrationAt, listsAt, seedAt, mtaAt, addressAt, pointerAt, pointerEntryAt, modeAt, sampleAt, allOdts, packetMost}
+use Rattle.state.specs.Layout.{size, generatorAt, wrongKeysAt, ctrAt, placeAt, countAt, messageAt, answerAt, sessionAt, sessionSize, openAt, calibrationAt, listsAt, seedAt, mtaAt, addressAt, pointerAt, pointerEntryAt, phaseAt, odtsAt, sampleAt, allOdts, packetMost}
 use Rattle.state.specs.Bytes.{put32, cleared}
 use Rattle.state.specs.State.{setGenerator, countedWrong, lockAt, bitOf, setSeed, mtaTag, setMta, setPointer, dropped, closed, fresh, setPlace, setMessage, answered}
 use Rattle.session.specs.Receive.{readOn}
@@ -118,11 +118,12 @@ unfolding setMta
 only-mta s Unset = only-set s mtaAt 0 (lit≤ tt) (lit< tt)
 only-mta s (At e a) = only-then (only-set s mtaAt (mtaTag e) (lit≤ tt) (lit< tt)) (only-put32 (set s mtaAt (mtaTag e)) addressAt a (lit≤ tt) (lit≤ tt))
 
-pub only-pointer : (s : List ℕ) (p : Pointer) → Only pointerAt (modeAt 0) s (setPointer s p)
+pub only-pointer : (s : List ℕ) (p : Pointer) → Only pointerAt phaseAt s (setPointer s p)
 unfolding setPointer
 only-pointer s NoEntry = only-set s pointerAt 0 (lit≤ tt) (lit< tt)
-only-pointer s (Entry k e) =
-    only-then (only-set s pointerAt ((k + 1) % 256) (lit≤ tt) (lit< tt)) (only-set (set s pointerAt ((k + 1) % 256)) pointerEntryAt e (lit≤ tt) (lit< tt))
+only-pointer s (Entry l o e) =
+    let at : ℕ = (allOdts * l + o + 1) % 256 in
+    only-then (only-set s pointerAt at (lit≤ tt) (lit< tt)) (only-set (set s pointerAt at) pointerEntryAt e (lit≤ tt) (lit< tt))
 
 pub only-dropped : (s : List ℕ) (k n : ℕ) → Only (sampleAt k) (sampleAt (k + n)) s (dropped s k n)
 unfolding dropped
@@ -130,12 +131,12 @@ only-dropped s k zero = only-none
 only-dropped s k (suc n) =
     only-then (only-wider (omega arith) (omega arith) (only-dropped s k n)) (only-set (dropped s k n) (sampleAt (k + n)) 0 (omega arith) (omega arith))
 
-pub only-closed : (s : List ℕ) → Only sessionAt size s (closed s)
+-- what is behind the count of lists stays: without lists it is not read
+pub only-closed : (s : List ℕ) → Only sessionAt odtsAt s (closed s)
 unfolding closed
-only-closed s =
-    only-then (only-cleared s sessionAt sessionSize (lit≤ tt) (lit≤ tt)) (only-wider (lit≤ tt) (lit≤ tt) (only-dropped (cleared s sessionAt sessionSize) 0 allOdts))
+only-closed s = only-cleared s sessionAt sessionSize (lit≤ tt) (lit≤ tt)
 
-pub only-fresh : (s : List ℕ) → Only sessionAt size s (fresh s)
+pub only-fresh : (s : List ℕ) → Only sessionAt odtsAt s (fresh s)
 unfolding fresh
 only-fresh s = only-then (only-closed s) (only-set (closed s) openAt 1 (lit≤ tt) (lit< tt))
 

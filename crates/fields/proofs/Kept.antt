@@ -16,14 +16,15 @@ use Rattle.line.specs.declared.Outcome.{Outcome}
 use Rattle.line.specs.declared.Outcome.the-variants as line
 use Rattle.line.proofs.Laws.{cond-ind}
 use Rattle.line.proofs.After.{take-length}
-use Rattle.state.specs.Layout.{mark, markAt, size, generatorAt, ctrAt, servedAt, lastAt, messageAt, answerAt, answerBytesAt, lists, modeAt, selectedAt, runningAt, usedAt, entryAt, sampleAt, firstOdt, odtCount, listOf, events, listSize, entrySize, lastList}
-use Rattle.state.specs.Bytes.{u32At, put32, block, cleared}
+use Rattle.state.specs.Layout.{mark, markAt, size, generatorAt, ctrAt, roundAt, lastAt, messageAt, answerAt, answerBytesAt, lists, allOdts, odtsAt, countsAt, modeAt, selectedAt, runningAt, phaseAt, entriesAt, sampleAt, events, listSize, entrySize}
+use Rattle.state.specs.Pool.{listCount, firstOdt, odtCount, firstEntry, entryCount, entryTotal, entryAt}
+use Rattle.state.specs.Bytes.{u32At, put32, block, copied, cleared}
 use Rattle.state.specs.Generator.{startOf, nextOf}
-use Rattle.state.specs.State.{consistent, flagOf, generatorOf, setGenerator, lockAt, setSeed, setMta, setPointer, dropped, closed, placeOf, messageOf, waits, answerKind, answered}
-use Rattle.state.specs.Lists.{usedOf}
-use Rattle.lists.specs.Lists.{runsOf, switched, listCleared, modeSet, entryReached, headOf, entrySet, stopEach, startOne, startSelected, stopSelected}
+use Rattle.state.specs.State.{consistent, flagOf, generatorOf, setGenerator, lockAt, setSeed, setMta, setPointer, dropped, closed, pointerOf, placeOf, messageOf, waits, answerKind, answered}
+use Rattle.lists.specs.Lists.{runsOf, switched, entriesOfList, listCleared, modeSet, headOf, entrySet, stopEach, startOne, startSelected, stopSelected}
+use Rattle.lists.specs.Alloc.{listsAllocated, odtsAllocated, roomMade, entriesAllocated}
 use Rattle.model.specs.Step.{nextEntry}
-use Rattle.session.specs.Perform.{effect, reply, after}
+use Rattle.session.specs.Perform.{entryWritten, effect, reply, after}
 use Rattle.session.specs.Receive.{Step, heededBy, heeded, meant, readOn, fedOf, receiveOf}
 use Rattle.lists.specs.Event.{stored, capturedOdts, captured, samplingOf, sampledState, tally, Happened, eventOf}
 use Rattle.lists.specs.Slot.{Slot, turnOf, ctrNext, answerSent, packetSent, sentBy, slotOf}
@@ -39,7 +40,7 @@ use Rattle.model.specs.declared.Sampling.the-variants.{Idle, Sampled, Missed}
 use Rattle.model.specs.declared.Turn.{Turn}
 use Rattle.model.specs.declared.Turn.the-variants.{Nobody, Answer, Packet}
 use Rattle.model.specs.declared.Deed.{Deed}
-use Rattle.model.specs.declared.Deed.the-variants.{Refuse, RefuseSize, WrongKey, Connect, Disconnect, Status, Synch, NoSeed, GiveSeed, Unlock, SetMta, Upload, Checksum, Download, ClearList, SetPointer, ClearEntry, WriteEntry, SetMode, Stop, Start, KeepRunning, Select, StopAll, StartSelected, StopSelected, ProcessorInfo, ResolutionInfo}
+use Rattle.model.specs.declared.Deed.the-variants.{Refuse, RefuseSize, WrongKey, Connect, Disconnect, Status, Synch, NoSeed, GiveSeed, Unlock, SetMta, Upload, Checksum, Download, ClearList, SetPointer, ClearEntry, WriteEntry, SetMode, Stop, Start, KeepRunning, Select, StopAll, StartSelected, StopSelected, ProcessorInfo, ResolutionInfo, FreeLists, AllocLists, AllocOdts, AllocEntries}
 use Rattle.state.proofs.Sets.{block-length}
 use Rattle.state.proofs.Consistent.{consistent-size}
 use Rattle.fields.proofs.Stores.{take-sets}
@@ -95,9 +96,7 @@ marked-blank = refl
 
 pub power-consistent : (start : ℕ) → consistent (powered start) ≡ true
 unfolding powered
-power-consistent start =
-    let blank : List ℕ = put32 (replicate size 0) markAt mark in
-    kept (marked-then (marked-only (lit≤ tt) (only-generator blank (startOf start))) (marked-set (setGenerator blank (startOf start)) servedAt lastList (lit≤ tt))) marked-blank
+power-consistent start = kept (marked-only (lit≤ tt) (only-generator (put32 (replicate size 0) markAt mark) (startOf start))) marked-blank
 
 -- a state of the right size is consistent after power-up, whatever it was
 pub power-up-consistent : (s : List ℕ) (start : ℕ) → length s ≡ size → consistent (powerUpOf s start .state) ≡ true
@@ -112,7 +111,7 @@ marked-dropped s k (suc n) = marked-then (marked-dropped s k n) (marked-set (dro
 
 marked-switched : (s : List ℕ) (l on : ℕ) → Marked s (switched s l on)
 unfolding switched
-marked-switched s l on = marked-then (marked-set s (runningAt l) on (omega arith)) (marked-dropped (set s (runningAt l) on) (firstOdt l) (odtCount l))
+marked-switched s l on = marked-then (marked-set s (runningAt l) on (omega arith)) (marked-dropped (set s (runningAt l) on) (firstOdt s l) (odtCount s l))
 
 marked-deselected : {s t : List ℕ} (l : ℕ) → Marked s t → Marked s (set t (selectedAt l) 0)
 marked-deselected {s} {t} l m = marked-then m (marked-set t (selectedAt l) 0 (omega arith))
@@ -120,29 +119,21 @@ marked-deselected {s} {t} l m = marked-then m (marked-set t (selectedAt l) 0 (om
 marked-listCleared : (s : List ℕ) (l : ℕ) → Marked s (listCleared s l)
 unfolding listCleared
 marked-listCleared s l =
-    marked-then (marked-cleared s (modeAt l) listSize (omega arith)) (marked-cleared (cleared s (modeAt l) listSize) (usedAt (firstOdt l)) (odtCount l) (omega arith))
+    marked-then (marked-cleared s (modeAt l) listSize (omega arith))
+    (marked-cleared (cleared s (modeAt l) listSize) (entriesAt (firstEntry s (firstOdt s l))) (entrySize * entriesOfList s l) (omega arith))
 
 marked-modeSet : (s : List ℕ) (l event : ℕ) → Marked s (modeSet s l event)
 unfolding modeSet
 marked-modeSet s l event =
     marked-then (marked-set s (modeAt l) ((event + 1) % 256) (omega arith)) (marked-set (set s (modeAt l) ((event + 1) % 256)) (runningAt l) 0 (omega arith))
 
-marked-reached : (s : List ℕ) (k e : ℕ) → Marked s (entryReached s k e)
-unfolding entryReached
-marked-reached s k e =
-    let n : ℕ = entrySize * (e + 1 - usedOf s k) in
-    marked-cond (ltb e (usedOf s k)) marked-none
-    (marked-then (marked-cleared s (entryAt k (usedOf s k)) n (omega arith)) (marked-set (cleared s (entryAt k (usedOf s k)) n) (usedAt k) ((e + 1) % 256) (omega arith)))
-
 marked-entrySet : (s : List ℕ) (l k e n : ℕ) (x : Extension) (a : ℕ) → Marked s (entrySet s l k e n x a)
 unfolding entrySet
 marked-entrySet s l k e n x a =
     let s₁ : List ℕ = set s (runningAt l) 0 in
-    let s₂ : List ℕ = entryReached s₁ k e in
-    let s₃ : List ℕ = set s₂ (entryAt k e) (headOf n x a) in
+    let s₂ : List ℕ = set s₁ (entryAt s k e) (headOf n x a) in
     marked-then (marked-set s (runningAt l) 0 (omega arith))
-    (marked-then (marked-reached s₁ k e)
-    (marked-then (marked-set s₂ (entryAt k e) (headOf n x a) (omega arith)) (marked-set s₃ (entryAt k e + 1) (a % 256) (omega arith))))
+    (marked-then (marked-set s₁ (entryAt s k e) (headOf n x a) (omega arith)) (marked-set s₂ (entryAt s k e + 1) (a % 256) (omega arith)))
 
 marked-stopEach : (s : List ℕ) (n : ℕ) → Marked s (stopEach s n)
 unfolding stopEach
@@ -175,8 +166,39 @@ marked-mta s m = marked-only (lit≤ tt) (only-mta s m)
 marked-pointer : (s : List ℕ) (p : Pointer) → Marked s (setPointer s p)
 marked-pointer s p = marked-only (lit≤ tt) (only-pointer s p)
 
-marked-entered : (s : List ℕ) (k e n : ℕ) (x : Extension) (a : ℕ) → Marked s (setPointer (entrySet s (listOf k) k e n x a) (nextEntry k e))
-marked-entered s k e n x a = marked-then (marked-entrySet s (listOf k) k e n x a) (marked-pointer (entrySet s (listOf k) k e n x a) (nextEntry k e))
+marked-entered : (s : List ℕ) (l o e n : ℕ) (x : Extension) (a : ℕ) → Marked s (entryWritten s l o e n x a)
+marked-entered s l o e n x a =
+    let k : ℕ = firstOdt s l + o in
+    marked-then (marked-entrySet s l k e n x a) (marked-pointer (entrySet s l k e n x a) (nextEntry (entryCount s k) l o e))
+
+-- ---- the allocations
+marked-copied : (d : List ℕ) (i : ℕ) (s : List ℕ) (from n : ℕ) → generatorAt ≤ i → Marked d (copied d i s from n)
+unfolding copied
+marked-copied d i s from n h = marked-sets d i (block s from n) h
+
+marked-newLists : (s : List ℕ) (n : ℕ) → Marked s (listsAllocated s n)
+unfolding listsAllocated
+marked-newLists s n =
+    let s₁ : List ℕ = cleared s odtsAt (modeAt lists - odtsAt) in
+    marked-then (marked-cleared s odtsAt (modeAt lists - odtsAt) (lit≤ tt)) (marked-then (marked-set s₁ roundAt 0 (lit≤ tt)) (marked-set (set s₁ roundAt 0) phaseAt ((n + 1) % 256) (lit≤ tt)))
+
+marked-newOdts : (s : List ℕ) (l n : ℕ) → Marked s (odtsAllocated s l n)
+unfolding odtsAllocated
+marked-newOdts s l n =
+    let s₁ : List ℕ = dropped s 0 allOdts in
+    marked-then (marked-dropped s 0 allOdts) (marked-then (marked-cleared s₁ countsAt allOdts (lit≤ tt)) (marked-set (cleared s₁ countsAt allOdts) (odtsAt + l) n (omega arith)))
+
+marked-room : (s : List ℕ) (i m n : ℕ) → Marked s (roomMade s i m n)
+unfolding roomMade
+marked-room s i m n =
+    marked-then (marked-copied s (entriesAt (i + n)) s (entriesAt i) (entrySize * (m - i)) (omega arith))
+    (marked-cleared (copied s (entriesAt (i + n)) s (entriesAt i) (entrySize * (m - i))) (entriesAt i) (entrySize * n) (omega arith))
+
+marked-newEntries : (s : List ℕ) (k n : ℕ) → Marked s (entriesAllocated s k n)
+unfolding entriesAllocated
+marked-newEntries s k n =
+    let s₁ : List ℕ = roomMade s (firstEntry s k) (entryTotal s) n in
+    marked-then (marked-room s (firstEntry s k) (entryTotal s) n) (marked-then (marked-set s₁ (countsAt + k) n (omega arith)) (marked-pointer (set s₁ (countsAt + k) n) (pointerOf s)))
 
 pub marked-effect : (d : Deed) (s : List ℕ) → Marked s (effect d s)
 unfolding effect
@@ -197,19 +219,23 @@ marked-effect (Upload e a n) s = marked-mta s _
 marked-effect (Checksum e a n) s = marked-mta s _
 marked-effect (Download from a n) s = marked-mta s _
 marked-effect (ClearList l) s = marked-listCleared s l
-marked-effect (SetPointer k e) s = marked-pointer s _
-marked-effect (ClearEntry k e) s = marked-entered s k e 0 Calibration 0
-marked-effect (WriteEntry k e n x a) s = marked-entered s k e n x a
+marked-effect (SetPointer l o e) s = marked-pointer s _
+marked-effect (ClearEntry l o e) s = marked-entered s l o e 0 Calibration 0
+marked-effect (WriteEntry l o e n x a) s = marked-entered s l o e n x a
 marked-effect (SetMode l event) s = marked-modeSet s l event
 marked-effect (Stop l) s = marked-switched s l 0
 marked-effect (Start l) s = marked-switched s l 1
 marked-effect (KeepRunning l) s = marked-none
 marked-effect (Select l) s = marked-set s (selectedAt l) 1 (omega arith)
-marked-effect StopAll s = marked-stopEach s lists
-marked-effect StartSelected s = marked-startSelected s lists
-marked-effect StopSelected s = marked-stopSelected s lists
+marked-effect StopAll s = marked-stopEach s (listCount s)
+marked-effect StartSelected s = marked-startSelected s (listCount s)
+marked-effect StopSelected s = marked-stopSelected s (listCount s)
 marked-effect ProcessorInfo s = marked-none
 marked-effect ResolutionInfo s = marked-none
+marked-effect FreeLists s = marked-set s phaseAt 1 (lit≤ tt)
+marked-effect (AllocLists n) s = marked-newLists s n
+marked-effect (AllocOdts l n) s = marked-newOdts s l n
+marked-effect (AllocEntries l o n) s = marked-newEntries s (firstOdt s l + o) n
 
 pub marked-answered : (s bs : List ℕ) → Marked s (answered s bs)
 unfolding answered
@@ -265,7 +291,7 @@ marked-odts s k clock cal meas zero = marked-none
 marked-odts s k clock cal meas (suc n) = marked-then (marked-odts s k clock cal meas n) (marked-stored (capturedOdts s k clock cal meas n) (k + n) _)
 
 marked-captured : (s : List ℕ) (l clock : ℕ) (cal meas : List ℕ) → Marked s (captured s l clock cal meas)
-marked-captured s l clock cal meas = marked-odts s (firstOdt l) clock cal meas (odtCount l)
+marked-captured s l clock cal meas = marked-odts s (firstOdt s l) clock cal meas (odtCount s l)
 
 marked-sampled : (c : Sampling) (s : List ℕ) (l clock : ℕ) (cal meas : List ℕ) → Marked s (sampledState c s l clock cal meas)
 unfolding sampledState
@@ -285,7 +311,7 @@ unfolding eventOf
 marked-event s cal meas event clock =
     let Good : Happened → Type 0 = λ (o : Happened). Marked s (o .state) in
     cond-ind Good (consistent s)
-    (λ _. cond-ind Good (leb events event) (λ _. marked-none) (λ _. marked-tally s event clock cal meas lists))
+    (λ _. cond-ind Good (leb events event) (λ _. marked-none) (λ _. marked-tally s event clock cal meas (listCount s)))
     (λ _. marked-none)
 
 pub event-kept : (s cal meas : List ℕ) (event clock : ℕ) → consistent s ≡ true → consistent (eventOf s cal meas event clock .state) ≡ true
@@ -302,21 +328,22 @@ marked-answerSent s =
     (marked-then (marked-set s₁ answerAt 0 (lit≤ tt))
     (marked-then (marked-set s₂ ctrAt (ctrNext s) (lit≤ tt)) (marked-set s₃ lastAt 1 (lit≤ tt))))
 
-marked-packetSent : (s : List ℕ) (k : ℕ) → Marked s (packetSent s k)
+marked-packetSent : (s : List ℕ) (l o : ℕ) → Marked s (packetSent s l o)
 unfolding packetSent
-marked-packetSent s k =
-    let s₁ : List ℕ = set s (sampleAt k) 0 in
+marked-packetSent s l o =
+    let at : ℕ = sampleAt (firstOdt s l + o) in
+    let s₁ : List ℕ = set s at 0 in
     let s₂ : List ℕ = set s₁ ctrAt (ctrNext s) in
-    let s₃ : List ℕ = set s₂ servedAt (listOf k) in
-    marked-then (marked-set s (sampleAt k) 0 (omega arith))
+    let s₃ : List ℕ = set s₂ roundAt (l + 1) in
+    marked-then (marked-set s at 0 (omega arith))
     (marked-then (marked-set s₁ ctrAt (ctrNext s) (lit≤ tt))
-    (marked-then (marked-set s₂ servedAt (listOf k) (lit≤ tt)) (marked-set s₃ lastAt 0 (lit≤ tt))))
+    (marked-then (marked-set s₂ roundAt (l + 1) (lit≤ tt)) (marked-set s₃ lastAt 0 (lit≤ tt))))
 
 marked-sent : (t : Turn) (s out : List ℕ) → Marked s (sentBy t s out .state)
 unfolding sentBy
 marked-sent Nobody s out = marked-none
 marked-sent Answer s out = marked-answerSent s
-marked-sent (Packet k) s out = marked-packetSent s k
+marked-sent (Packet l o) s out = marked-packetSent s l o
 
 marked-slot : (s out : List ℕ) → Marked s (slotOf s out .state)
 unfolding slotOf

@@ -1,6 +1,7 @@
 -- A reader reads its own bytes alone: a change elsewhere leaves what it reads. Assumes nothing.
 use Prim.Native.Nat.{ℕ, _+_, _≤_, _<_}
 use mathlib.Core.Path.{_≡_, refl, sym, _∙_}
+use mathlib.Core.Logic.{_≢_}
 use mathlib.Core.Bool.{Bool, true, false, cond}
 use mathlib.Core.List.{List}
 use native.Mathlib.Omega.{arith}
@@ -9,16 +10,21 @@ use lib.Dec.{T, eqb, ltb, leb, leb→le, lit<, lit≤}
 use lib.ListN.{length, getD, drop, set, length-take, length-drop, length-set}
 use lib.Seq.{getD-take, getD-drop, ext-getD, getD-set-same, getD-set-other, set-out}
 use Rattle.line.specs.Message.{longest}
-use Rattle.state.specs.Layout.{generatorAt, wrongKeysAt, ctrAt, placeAt, countAt, messageAt, answerAt, answerBytesAt, sessionAt, openAt, calibrationAt, listsAt, seedAt, mtaAt, addressAt, pointerAt, pointerEntryAt, modeAt, usedAt, entrySize, entriesAt, entryAt, sampleAt}
+use Rattle.state.specs.Layout.{generatorAt, wrongKeysAt, ctrAt, placeAt, countAt, messageAt, answerAt, answerBytesAt, sessionAt, openAt, calibrationAt, listsAt, seedAt, mtaAt, addressAt, pointerAt, pointerEntryAt, phaseAt, modeAt, roundAt, lastAt, lists, allOdts, entrySize, entriesAt, sampleAt}
 use Rattle.state.specs.Bytes.{u32At, block}
-use Rattle.state.specs.State.{flagOf, generatorOf, wrongKeysOf, openOf, unlockedOf, seedOf, mtaOf, pointerOf, placeOf, messageOf, answerLength, answerKind, answerOf}
-use Rattle.state.specs.Lists.{usedOf, sizeOf, extensionOf, addressOf, storedLength}
+use Rattle.state.specs.State.{flagOf, generatorOf, wrongKeysOf, openOf, unlockedOf, seedOf, mtaOf, pointedList, pointedOdt, pointerOf, placeOf, messageOf, answerLength, answerKind, answerOf}
+use Rattle.state.specs.Pool.{phaseOf, listCount, roundOf, firstOdt, odtCount, firstEntry, entryCount, entryAt}
+use Rattle.state.specs.Lists.{sizeOf, extensionOf, addressOf, storedLength}
+use Rattle.state.proofs.Ranges.{by-lt}
+use Rattle.state.proofs.Allocated.{lists-most, odt-most, phase-same, lists-same, round-same, firstOdt-same, odtCount-same, firstEntry-same, entryCount-same}
+use Rattle.state.proofs.Pointers.{past-lists, past-odts, past-entries, at-entry}
 use Rattle.model.specs.Model.{noEntry}
 use Rattle.model.specs.View.{entryOf, odtOf}
-use Rattle.model.proofs.Bounded.{upTo-same}
-use Rattle.model.proofs.Shown.{used-most, stored-most, answer-most}
+use Rattle.model.proofs.Bounded.{either, upTo-same}
+use Rattle.model.proofs.Shown.{stored-most, answer-most}
 use Rattle.words.specs.declared.Resource.{Resource}
 use Rattle.words.specs.declared.Resource.the-variants.{Calibration, Lists}
+use Rattle.words.specs.declared.Pointer.the-variants.{Unset as NoEntry}
 use Rattle.fields.proofs.Frames.{Only, out-below, out-above}
 
 -- ---- t is as long as s and has its bytes from a up to b
@@ -72,6 +78,15 @@ same-set {a} {b} {s} {t} i v w = record { long = simp (length-set, w .long); byt
   go j p q false true e l = getD-set-other t i j v 0 (eqb-false j i e) ∙ w .byte j p q ∙ sym (getD-set-other s i j v 0 (eqb-false j i e))
 
 -- ---- the readers
+pub pointer-unset : (s : List ℕ) → getD s pointerAt 0 ≡ 0 → pointerOf s ≡ NoEntry
+unfolding pointerOf
+pointer-unset s e = simp e
+
+-- an entry has two bytes
+pub entry-by : (s t : List ℕ) (k e : ℕ) → getD t (entryAt t k e) 0 ≡ getD s (entryAt s k e) 0 → getD t (entryAt t k e + 1) 0 ≡ getD s (entryAt s k e + 1) 0 → entryOf t k e ≡ entryOf s k e
+unfolding sizeOf extensionOf addressOf
+entry-by s t k e p q = rw (p, q)
+
 module _ {s t : List ℕ} where
   u32-reads : (i : ℕ) → Same i (i + 4) s t → u32At t i ≡ u32At s i
   unfolding u32At
@@ -105,9 +120,56 @@ module _ {s t : List ℕ} where
   unfolding mtaOf
   mta-reads w = rw (w .byte mtaAt (lit≤ tt) (lit< tt), u32-reads addressAt (same-part (lit≤ tt) (lit≤ tt) w))
 
-  pub pointer-reads : Same pointerAt (modeAt 0) s t → pointerOf t ≡ pointerOf s
-  unfolding pointerOf
-  pointer-reads w = rw (w .byte pointerAt (lit≤ tt) (lit< tt), w .byte pointerEntryAt (lit≤ tt) (lit< tt))
+  -- what there is of lists, ODTs and entries: by the bytes of the allocation alone
+  module _ (w : Same phaseAt (modeAt 0) s t) where
+    pub phase-reads : phaseOf t ≡ phaseOf s
+    phase-reads = phase-same t s (w .byte phaseAt (lit≤ tt) (lit< tt))
+
+    pub listCount-reads : listCount t ≡ listCount s
+    listCount-reads = lists-same t s (w .byte phaseAt (lit≤ tt) (lit< tt))
+
+    pub firstOdt-reads : (l : ℕ) → l ≤ lists → firstOdt t l ≡ firstOdt s l
+    firstOdt-reads = firstOdt-same t s (λ j p q. w .byte j (omega arith) (omega arith))
+
+    pub odtCount-reads : (l : ℕ) → l < lists → odtCount t l ≡ odtCount s l
+    odtCount-reads = odtCount-same t s (λ j p q. w .byte j (omega arith) (omega arith))
+
+    pub firstEntry-reads : (k : ℕ) → k ≤ allOdts → firstEntry t k ≡ firstEntry s k
+    firstEntry-reads = firstEntry-same t s (λ j p q. w .byte j (omega arith) q)
+
+    pub entryCount-reads : (k : ℕ) → k < allOdts → entryCount t k ≡ entryCount s k
+    entryCount-reads = entryCount-same t s (λ j p q. w .byte j (omega arith) q)
+
+    pub round-reads : Same roundAt lastAt s t → roundOf t ≡ roundOf s
+    round-reads v = round-same t s (w .byte phaseAt (lit≤ tt) (lit< tt)) (v .byte roundAt (lit≤ tt) (lit< tt))
+
+  -- where the pointer is, and whether there is such an entry
+  module _ (w : Same pointerAt (modeAt 0) s t) where
+    pub pointer-reads : pointerOf t ≡ pointerOf s
+    pointer-reads =
+        let a : Same phaseAt (modeAt 0) s t = same-part (lit≤ tt) (lit≤ tt) w in
+        let b : ℕ = getD s pointerAt 0 in
+        let l : ℕ = pointedList s in
+        let o : ℕ = pointedOdt s in
+        let k : ℕ = firstOdt s l + o in
+        let e : ℕ = getD s pointerEntryAt 0 in
+        let tag : getD t pointerAt 0 ≡ b = w .byte pointerAt (lit≤ tt) (lit< tt) in
+        let entry : getD t pointerEntryAt 0 ≡ e = w .byte pointerEntryAt (lit≤ tt) (lit< tt) in
+        either (eqb b 0)
+        (λ z. pointer-unset t (tag ∙ eqb-true b 0 z) ∙ sym (pointer-unset s (eqb-true b 0 z)))
+        (λ z. let some : b ≢ 0 = eqb-false b 0 z in
+        by-lt l (listCount s)
+        (λ one. let few : l < lists = omega (arith, lists-most s) in
+        let one′ : l < listCount t = rw (listCount-reads a) one in
+        by-lt o (odtCount s l)
+        (λ its. let its′ : o < odtCount t l = rw (odtCount-reads a l few) its in
+        let odt : k < allOdts = omega (arith, odt-most s l) in
+        let same : entryCount t (firstOdt t l + o) ≡ entryCount s k = rw (firstOdt-reads a l (omega arith)) (entryCount-reads a k odt) in
+        by-lt e (entryCount s k)
+        (λ h. at-entry t b l o e tag some refl refl entry one′ its′ (rw same h) ∙ sym (at-entry s b l o e refl some refl refl refl one its h))
+        (λ h. past-entries t b l o e tag some refl refl entry one′ its′ (rw same h) ∙ sym (past-entries s b l o e refl some refl refl refl one its h)))
+        (λ h. past-odts t b l o e tag some refl refl one′ (rw (odtCount-reads a l few) h) ∙ sym (past-odts s b l o e refl some refl refl one h)))
+        (λ h. past-lists t b l o e tag some refl refl (rw (listCount-reads a) h) ∙ sym (past-lists s b l o e refl some refl refl h)))
 
   pub place-reads : Same placeAt messageAt s t → placeOf t ≡ placeOf s
   unfolding placeOf
@@ -131,17 +193,15 @@ module _ {s t : List ℕ} where
       rw (answerKind-reads w, answerLength-reads w)
       (same-block answerBytesAt (answerLength s) (lit≤ tt) (omega (arith, answer-most s)) (same-set answerBytesAt (answerKind s) w))
 
-  -- an entry, an ODT's entries, its store: each by its own bytes alone
-  pub entry-own : (k e : ℕ) → Same (entryAt k e) (entryAt k e + entrySize) s t → entryOf t k e ≡ entryOf s k e
-  unfolding sizeOf extensionOf addressOf
-  entry-own k e w = rw (w .byte (entryAt k e) (omega arith) (omega arith), w .byte (entryAt k e + 1) (omega arith) (omega arith))
+  -- an entry, an ODT's entries, its store: each by its own bytes alone, if what there is stays
+  module _ (a : Same phaseAt (modeAt 0) s t) where
+    pub entry-own : (k e : ℕ) → k ≤ allOdts → Same (entryAt s k e) (entryAt s k e + entrySize) s t → entryOf t k e ≡ entryOf s k e
+    entry-own k e h w =
+        let same : firstEntry t k ≡ firstEntry s k = firstEntry-reads a k h in
+        entry-by s t k e (rw same (w .byte (entryAt s k e) (omega arith) (omega arith))) (rw same (w .byte (entryAt s k e + 1) (omega arith) (omega arith)))
 
-  pub used-own : (k : ℕ) → Same (usedAt k) (usedAt (k + 1)) s t → usedOf t k ≡ usedOf s k
-  unfolding usedOf
-  used-own k w = rw (w .byte (usedAt k) (omega arith) (omega arith))
-
-  pub entries-own : (k : ℕ) → Same (usedAt k) (usedAt (k + 1)) s t → Same (entriesAt k) (entriesAt (k + 1)) s t → odtOf t k .entry ≡ odtOf s k .entry
-  entries-own k u w = rw (used-own k u) (upTo-same (usedOf s k) noEntry (λ e q. entry-own k e (same-part (omega arith) (omega (arith, used-most s k)) w)))
+    pub entries-own : (k : ℕ) → k < allOdts → Same (entriesAt (firstEntry s k)) (entriesAt (firstEntry s k + entryCount s k)) s t → odtOf t k .entry ≡ odtOf s k .entry
+    entries-own k h w = rw (entryCount-reads a k h) (upTo-same (entryCount s k) noEntry (λ e q. entry-own k e (omega arith) (same-part (omega arith) (omega arith) w)))
 
   pub stored-reads : (k : ℕ) → Same (sampleAt k) (sampleAt k + 1) s t → storedLength t k ≡ storedLength s k
   unfolding storedLength
@@ -150,5 +210,3 @@ module _ {s t : List ℕ} where
   pub store-own : (k : ℕ) → Same (sampleAt k) (sampleAt (k + 1)) s t → odtOf t k .store ≡ odtOf s k .store
   store-own k w =
       rw (stored-reads k (same-part (omega arith) (omega arith) w)) (same-block (sampleAt k + 1) (storedLength s k) (omega arith) (omega (arith, stored-most s k)) w)
-
--- ---- for instance: a received byte leaves all but the reader, an answer leaves all but itself, a seed leaves the MTA

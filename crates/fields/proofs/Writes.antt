@@ -4,7 +4,7 @@ use Prim.Native.Nat.{ℕ}
 use mathlib.Core.Path.{_≡_, refl}
 use mathlib.Core.Option.{none}
 use Rattle.model.specs.declared.Deed.{Deed}
-use Rattle.model.specs.declared.Deed.the-variants.{Refuse, RefuseSize, WrongKey, Connect, Disconnect, Status, Synch, NoSeed, GiveSeed, Unlock, SetMta, Upload, Checksum, Download, ClearList, SetPointer, ClearEntry, WriteEntry, SetMode, Stop, Start, KeepRunning, Select, StopAll, StartSelected, StopSelected, ProcessorInfo, ResolutionInfo}
+use Rattle.model.specs.declared.Deed.the-variants.{Refuse, RefuseSize, WrongKey, Connect, Disconnect, Status, Synch, NoSeed, GiveSeed, Unlock, SetMta, Upload, Checksum, Download, ClearList, SetPointer, ClearEntry, WriteEntry, SetMode, Stop, Start, KeepRunning, Select, StopAll, StartSelected, StopSelected, ProcessorInfo, ResolutionInfo, FreeLists, AllocLists, AllocOdts, AllocEntries}
 use Rattle.model.specs.Answers.{writes}
 
 module _ (P : Deed → Type 0) (nothing : (d : Deed) → writes d ≡ none → P d) (download : (from a n : ℕ) → P (Download from a n)) where
@@ -25,9 +25,9 @@ module _ (P : Deed → Type 0) (nothing : (d : Deed) → writes d ≡ none → P
   by-write (Checksum e a n) = nothing (Checksum e a n) refl
   by-write (Download from a n) = download from a n
   by-write (ClearList l) = nothing (ClearList l) refl
-  by-write (SetPointer k e) = nothing (SetPointer k e) refl
-  by-write (ClearEntry k e) = nothing (ClearEntry k e) refl
-  by-write (WriteEntry k e n ext a) = nothing (WriteEntry k e n ext a) refl
+  by-write (SetPointer l o e) = nothing (SetPointer l o e) refl
+  by-write (ClearEntry l o e) = nothing (ClearEntry l o e) refl
+  by-write (WriteEntry l o e n ext a) = nothing (WriteEntry l o e n ext a) refl
   by-write (SetMode l event) = nothing (SetMode l event) refl
   by-write (Stop l) = nothing (Stop l) refl
   by-write (Start l) = nothing (Start l) refl
@@ -38,3 +38,7 @@ module _ (P : Deed → Type 0) (nothing : (d : Deed) → writes d ≡ none → P
   by-write StopSelected = nothing StopSelected refl
   by-write ProcessorInfo = nothing ProcessorInfo refl
   by-write ResolutionInfo = nothing ResolutionInfo refl
+  by-write FreeLists = nothing FreeLists refl
+  by-write (AllocLists n) = nothing (AllocLists n) refl
+  by-write (AllocOdts l n) = nothing (AllocOdts l n) refl
+  by-write (AllocEntries l o n) = nothing (AllocEntries l o n) refl

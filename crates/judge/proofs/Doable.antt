@@ -1,20 +1,21 @@
--- What is judged can be done: what performing a deed leans on was tested. Assumes nothing.
+-- What is judged can be done: what performing a deed leans on was tested. Assumes that what is seen is of the session.
 use Prim.{tt}
 use Prim.Native.Nat.{ℕ, _+_, _≤_, _<_}
 use native.Mathlib.Omega.{arith}
+use mathlib.Core.Path.{_≡_, sym, _∙_}
 use mathlib.Core.Bool.{Bool}
 use borrow.Author.Tests.{ltb-false, leb-false}
 use lib.Dec.{eqb, ltb, leb}
 use Rattle.line.proofs.Laws.{cond-ind}
-use Rattle.state.specs.Layout.{lists, odtCount, firstOdt, entryCount, allOdts, events, entryMost, uploadMost, downloadFrom, downloadMost, shortDownloadFrom, shortDownloadMost, addressable}
+use Rattle.state.specs.Layout.{lists, allOdts, allEntries, events, entryMost, uploadMost, downloadFrom, downloadMost, shortDownloadFrom, shortDownloadMost, addressable}
 use Rattle.state.specs.Generator.{keyOf, staysShut}
 use Rattle.state.specs.Memory.{pick, insideOf}
-use Rattle.state.specs.State.{Pointed}
 use Rattle.words.specs.Command.{commandOf, fewest, needsOf}
-use Rattle.model.specs.Judge.{extensionFrom, connectDeed, seedDeed, getSeedDeed, unlockBy, setMtaDeed, uploadDeed, shortUploadDeed, checksumDeed, downloadTo, downloadDeed, shortDownloadDeed, clearDeed, pointerDeed, writeBlock, writeDeed, modeDeed, startDeed, startStopDeed, synchDeed, lockedBy, judgeThe, judgeBy, judge}
-use Rattle.judge.specs.Doable.{Doable}
+use Rattle.model.specs.Judge.{extensionFrom, connectDeed, seedDeed, getSeedDeed, unlockBy, setMtaDeed, uploadDeed, shortUploadDeed, checksumDeed, downloadTo, downloadDeed, shortDownloadDeed, clearDeed, pointerDeed, writeBlock, writeDeed, modeDeed, startDeed, startStopDeed, synchDeed, allocListsDeed, allocOdtsDeed, allocEntriesDeed, lockedBy, judgeThe, judgeBy, judge}
+use Rattle.model.specs.Model.{Session, odtsTaken, entriesTaken}
+use Rattle.judge.specs.Doable.{Entered, Doable}
 use Rattle.words.specs.declared.Command.{Command}
-use Rattle.words.specs.declared.Command.the-variants.{Unknown, Connect, Disconnect, GetStatus, Synch, GetSeed, Unlock, SetMta, Upload, ShortUpload, BuildChecksum, Download, ShortDownload, ClearDaqList, SetDaqPtr, WriteDaq, SetDaqListMode, StartStopDaqList, StartStopSynch, GetDaqProcessorInfo, GetDaqResolutionInfo}
+use Rattle.words.specs.declared.Command.the-variants.{Unknown, Connect, Disconnect, GetStatus, Synch, GetSeed, Unlock, SetMta, Upload, ShortUpload, BuildChecksum, Download, ShortDownload, ClearDaqList, SetDaqPtr, WriteDaq, SetDaqListMode, StartStopDaqList, StartStopSynch, GetDaqProcessorInfo, GetDaqResolutionInfo, FreeDaq, AllocDaq, AllocOdt, AllocOdtEntry}
 use Rattle.words.specs.declared.Resource.{Resource}
 use Rattle.words.specs.declared.Resource.the-variants.{Calibration, Lists}
 use Rattle.words.specs.declared.Extension.{Extension}
@@ -28,10 +29,26 @@ use Rattle.words.specs.declared.Pointer.the-variants.{Unset as NoEntry, At as E
 use Rattle.model.specs.declared.Deed.{Deed}
 use Rattle.model.specs.Seen.{Packet, Seen}
 
-module _ (n nc nm : ℕ) where
+-- a pointer at an entry that there is
+abbrev pub Pointing : Pointer → Session → Type 0
+Pointing NoEntry c = Unit
+Pointing (Entry l o e) c = Entered c l o e
+
+-- what is seen of session c for packet p; a list that has ODTs is there
+pub record Sees (c : Session) (p : Packet) (v : Seen) : Type 0 where
+  pub freed : v .freed ≡ c .freed
+  pub present : v .present ≡ c .lists
+  pub odtsTaken : v .odtsTaken ≡ odtsTaken c
+  pub entriesTaken : v .entriesTaken ≡ entriesTaken c
+  pub odts : v .odts ≡ c .list (p .w2) .odts
+  pub entries : v .entries ≡ c .list (p .w2) .odt (p .b4) .entries
+  pub there : 0 < c .list (p .w2) .odts → p .w2 < c .lists
+  pub pointer : Pointing (v .pointer) c
+
+module _ (c : Session) (n nc nm : ℕ) where
   -- such a deed can be done
   abbrev Can : Deed → Type 0
-  Can d = Doable d n nc nm
+  Can d = Doable d c n nc nm
 
   connect-doable : (mode : ℕ) → Can (connectDeed mode)
   unfolding connectDeed
@@ -108,60 +125,61 @@ module _ (n nc nm : ℕ) where
       cond-ind Can (ltb n (m + shortDownloadFrom)) (λ _. tt) (λ there.
       download-to-doable shortDownloadFrom (extensionFrom ext) a m (omega (arith, ltb-false shortDownloadMost m few)) (ltb-false n (m + shortDownloadFrom) there)))))
 
-  clear-doable : (runs : Bool) (l : ℕ) → Can (clearDeed runs l)
+  clear-doable : (present : ℕ) → present ≡ c .lists → (runs : Bool) (l : ℕ) → Can (clearDeed present runs l)
   unfolding clearDeed
-  clear-doable runs l =
-      cond-ind Can (leb lists l) (λ _. tt) (λ one.
-      cond-ind Can runs (λ _. tt) (λ _. leb-false lists l one))
+  clear-doable present all runs l =
+      cond-ind Can (leb present l) (λ _. tt) (λ one.
+      cond-ind Can runs (λ _. tt) (λ _. omega (arith, all, leb-false present l one)))
 
-  pointer-doable : (l odt e : ℕ) → Can (pointerDeed l odt e)
+  pointer-doable : (present odts entries l o e : ℕ) → present ≡ c .lists → odts ≡ c .list l .odts → entries ≡ c .list l .odt o .entries → Can (pointerDeed present odts entries l o e)
   unfolding pointerDeed
-  pointer-doable l odt e =
-      cond-ind Can (leb lists l) (λ _. tt) (λ list.
-      cond-ind Can (leb (odtCount l) odt) (λ _. tt) (λ in-list.
-      cond-ind Can (leb (entryCount (firstOdt l + odt)) e) (λ _. tt) (λ entry.
-      (omega (arith, leb-false lists l list, leb-false (odtCount l) odt in-list), leb-false (entryCount (firstOdt l + odt)) e entry))))
+  pointer-doable present odts entries l o e all its each =
+      cond-ind Can (leb present l) (λ _. tt) (λ list.
+      cond-ind Can (leb odts o) (λ _. tt) (λ odt.
+      cond-ind Can (leb entries e) (λ _. tt) (λ entry.
+      (omega (arith, all, leb-false present l list), omega (arith, its, leb-false odts o odt), omega (arith, each, leb-false entries e entry)))))
 
-  write-block-doable : (k e m : ℕ) (ext : Extension) (a len : ℕ) → k < allOdts → e < entryCount k → Can (writeBlock k e m ext a len)
+  write-block-doable : (l o e m : ℕ) (ext : Extension) (a len : ℕ) → Entered c l o e → Can (writeBlock l o e m ext a len)
   unfolding writeBlock
-  write-block-doable k e m ext a len odt entry =
-      cond-ind Can (eqb m 0) (λ _. (odt, entry)) (λ _.
-      cond-ind Can (insideOf a m len) (λ _. (odt, entry)) (λ _. tt))
+  write-block-doable l o e m ext a len there =
+      cond-ind Can (eqb m 0) (λ _. there) (λ _.
+      cond-ind Can (insideOf a m len) (λ _. there) (λ _. tt))
 
-  write-doable : (at : Pointer) → Pointed at → (runs : Bool) (bit m ext a : ℕ) → Can (writeDeed at runs bit m ext a nc nm)
+  write-doable : (at : Pointer) → Pointing at c → (runs : Bool) (bit m ext a : ℕ) → Can (writeDeed at runs bit m ext a nc nm)
   unfolding writeDeed
   write-doable NoEntry _ runs bit m ext a = tt
-  write-doable (Entry k e) there runs bit m ext a =
+  write-doable (Entry l o e) there runs bit m ext a =
       cond-ind Can (eqb bit 0xFF) (λ _.
       cond-ind Can (ltb entryMost m) (λ _. tt) (λ _.
       cond-ind Can (ltb 1 ext) (λ _. tt) (λ _.
       cond-ind Can runs (λ _. tt) (λ _.
-      write-block-doable k e m (extensionFrom ext) a (pick (extensionFrom ext) nc nm) (there .0) (there .1))))) (λ _. tt)
+      write-block-doable l o e m (extensionFrom ext) a (pick (extensionFrom ext) nc nm) there)))) (λ _. tt)
 
-  mode-doable : (runs : Bool) (mode l event prescaler priority : ℕ) → Can (modeDeed runs mode l event prescaler priority)
+  mode-doable : (present : ℕ) → present ≡ c .lists → (runs : Bool) (mode l event prescaler priority : ℕ) → Can (modeDeed present runs mode l event prescaler priority)
   unfolding modeDeed
-  mode-doable runs mode l event prescaler priority =
+  mode-doable present all runs mode l event prescaler priority =
       cond-ind Can (eqb mode 0x10) (λ _.
-      cond-ind Can (leb lists l) (λ _. tt) (λ list.
+      cond-ind Can (leb present l) (λ _. tt) (λ list.
       cond-ind Can (leb events event) (λ _. tt) (λ few.
       cond-ind Can (eqb prescaler 1) (λ _.
       cond-ind Can (eqb priority 0) (λ _.
       cond-ind Can runs (λ _. tt) (λ _.
-      (leb-false lists l list, leb-false events event few))) (λ _. tt)) (λ _. tt)))) (λ _. tt)
+      (omega (arith, all, leb-false present l list), leb-false events event few))) (λ _. tt)) (λ _. tt)))) (λ _. tt)
 
-  start-doable : (runs fits : Bool) (l : ℕ) → l < lists → Can (startDeed runs fits l)
+  start-doable : (runs fits : Bool) (l : ℕ) → l < c .lists → Can (startDeed runs fits l)
   unfolding startDeed
   start-doable runs fits l list =
       cond-ind Can runs (λ _. list) (λ _.
       cond-ind Can fits (λ _. list) (λ _. tt))
 
-  start-stop-doable : (runs fits : Bool) (mode l : ℕ) → Can (startStopDeed runs fits mode l)
+  start-stop-doable : (present : ℕ) → present ≡ c .lists → (runs fits : Bool) (mode l : ℕ) → Can (startStopDeed present runs fits mode l)
   unfolding startStopDeed
-  start-stop-doable runs fits mode l =
+  start-stop-doable present all runs fits mode l =
       cond-ind Can (ltb 2 mode) (λ _. tt) (λ _.
-      cond-ind Can (leb lists l) (λ _. tt) (λ list.
-      cond-ind Can (eqb mode 0) (λ _. leb-false lists l list) (λ _.
-      cond-ind Can (eqb mode 1) (λ _. start-doable runs fits l (leb-false lists l list)) (λ _. leb-false lists l list))))
+      cond-ind Can (leb present l) (λ _. tt) (λ list.
+      let there : l < c .lists = omega (arith, all, leb-false present l list) in
+      cond-ind Can (eqb mode 0) (λ _. there) (λ _.
+      cond-ind Can (eqb mode 1) (λ _. start-doable runs fits l there) (λ _. there))))
 
   synch-doable : (ready : Bool) (mode : ℕ) → Can (synchDeed ready mode)
   unfolding synchDeed
@@ -171,36 +189,77 @@ module _ (n nc nm : ℕ) where
       cond-ind Can (eqb mode 1) (λ _.
       cond-ind Can ready (λ _. tt) (λ _. tt)) (λ _. tt)))
 
-the-doable : (c : Command) (p : Packet) (v : Seen) → Pointed (v .pointer) → (nc nm : ℕ) → Doable (judgeThe c p v nc nm) (p .n) nc nm
-unfolding judgeThe
-the-doable Unknown p v at nc nm = tt
-the-doable Connect p v at nc nm = connect-doable (p .n) nc nm (p .b1)
-the-doable Disconnect p v at nc nm = tt
-the-doable GetStatus p v at nc nm = tt
-the-doable Synch p v at nc nm = tt
-the-doable GetSeed p v at nc nm = get-seed-doable (p .n) nc nm (v .wrongKeys) (v .calibration) (v .lists) (p .b1) (p .b2)
-the-doable Unlock p v at nc nm = unlock-doable (p .n) nc nm (v .seed) (v .generator) (p .b1) (p .n) (p .d2)
-the-doable SetMta p v at nc nm = set-mta-doable (p .n) nc nm (p .b3) (p .d4)
-the-doable Upload p v at nc nm = upload-doable (p .n) nc nm (v .mta) (p .b1)
-the-doable ShortUpload p v at nc nm = short-upload-doable (p .n) nc nm (p .b1) (p .b3) (p .d4)
-the-doable BuildChecksum p v at nc nm = checksum-doable (p .n) nc nm (v .mta) (p .d4)
-the-doable Download p v at nc nm = download-doable (p .n) nc nm (v .mta) (p .b1)
-the-doable ShortDownload p v at nc nm = short-download-doable (p .n) nc nm (p .b1) (p .b3) (p .d4)
-the-doable ClearDaqList p v at nc nm = clear-doable (p .n) nc nm (v .runs) (p .w2)
-the-doable SetDaqPtr p v at nc nm = pointer-doable (p .n) nc nm (p .w2) (p .b4) (p .b5)
-the-doable WriteDaq p v at nc nm = write-doable (p .n) nc nm (v .pointer) at (v .pointed) (p .b1) (p .b2) (p .b3) (p .d4)
-the-doable SetDaqListMode p v at nc nm = mode-doable (p .n) nc nm (v .runs) (p .b1) (p .w2) (p .w4) (p .b6) (p .b7)
-the-doable StartStopDaqList p v at nc nm = start-stop-doable (p .n) nc nm (v .runs) (v .fits) (p .b1) (p .w2)
-the-doable StartStopSynch p v at nc nm = synch-doable (p .n) nc nm (v .ready) (p .b1)
-the-doable GetDaqProcessorInfo p v at nc nm = tt
-the-doable GetDaqResolutionInfo p v at nc nm = tt
+  alloc-lists-doable : (freed : Bool) (present m : ℕ) → freed ≡ c .freed → present ≡ c .lists → Can (allocListsDeed freed present m)
+  unfolding allocListsDeed
+  alloc-lists-doable freed present m free all =
+      cond-ind Can freed (λ on.
+      cond-ind Can (ltb 0 present) (λ _. tt) (λ none.
+      cond-ind Can (eqb m 0) (λ _. tt) (λ _.
+      cond-ind Can (ltb lists m) (λ _. tt) (λ few.
+      (sym free ∙ on, omega (arith, all, ltb-false 0 present none), ltb-false lists m few))))) (λ _. tt)
 
-by-doable : (c : Command) (p : Packet) (v : Seen) → Pointed (v .pointer) → (nc nm : ℕ) → Doable (judgeBy c p v nc nm) (p .n) nc nm
-unfolding judgeBy
-by-doable c p v at nc nm =
-    cond-ind (Can (p .n) nc nm) (ltb (p .n) (fewest c)) (λ _. tt) (λ _.
-    cond-ind (Can (p .n) nc nm) (lockedBy (needsOf c) v) (λ _. tt) (λ _. the-doable c p v at nc nm))
+module _ (c : Session) (p : Packet) (v : Seen) (s : Sees c p v) (nc nm : ℕ) where
+  abbrev Allowed : Deed → Type 0
+  Allowed d = Doable d c (p .n) nc nm
 
-pub judge-doable : (p : Packet) (v : Seen) → Pointed (v .pointer) → (nc nm : ℕ) → Doable (judge p v nc nm) (p .n) nc nm
-unfolding judge
-judge-doable p v at nc nm = by-doable (commandOf (p .b0)) p v at nc nm
+  alloc-odts-doable : (m : ℕ) → Allowed (allocOdtsDeed (v .present) (v .odts) (v .odtsTaken) (v .entriesTaken) (v .runs) (p .w2) m)
+  unfolding allocOdtsDeed
+  alloc-odts-doable m =
+      cond-ind Allowed (eqb (v .present) 0) (λ _. tt) (λ _.
+      cond-ind Allowed (ltb 0 (v .entriesTaken)) (λ _. tt) (λ empty.
+      cond-ind Allowed (ltb 0 (v .odts)) (λ _. tt) (λ none.
+      cond-ind Allowed (leb (v .present) (p .w2)) (λ _. tt) (λ list.
+      cond-ind Allowed (eqb m 0) (λ _. tt) (λ _.
+      cond-ind Allowed (v .runs) (λ _. tt) (λ _.
+      cond-ind Allowed (ltb allOdts (v .odtsTaken + m)) (λ _. tt) (λ few.
+      (omega (arith, s .present, leb-false (v .present) (p .w2) list), omega (arith, s .odts, ltb-false 0 (v .odts) none), omega (arith, s .entriesTaken, ltb-false 0 (v .entriesTaken) empty), omega (arith, s .odtsTaken, ltb-false allOdts (v .odtsTaken + m) few)))))))))
+
+  alloc-entries-doable : (m : ℕ) → Allowed (allocEntriesDeed (v .odts) (v .entries) (v .odtsTaken) (v .entriesTaken) (v .runs) (p .w2) (p .b4) m)
+  unfolding allocEntriesDeed
+  alloc-entries-doable m =
+      cond-ind Allowed (eqb (v .odtsTaken) 0) (λ _. tt) (λ _.
+      cond-ind Allowed (ltb 0 (v .entries)) (λ _. tt) (λ none.
+      cond-ind Allowed (leb (v .odts) (p .b4)) (λ _. tt) (λ odt.
+      cond-ind Allowed (eqb m 0) (λ _. tt) (λ _.
+      cond-ind Allowed (v .runs) (λ _. tt) (λ _.
+      cond-ind Allowed (ltb allEntries (v .entriesTaken + m)) (λ _. tt) (λ few.
+      let its : p .b4 < c .list (p .w2) .odts = omega (arith, s .odts, leb-false (v .odts) (p .b4) odt) in
+      (s .there (omega (arith, its)), its, omega (arith, s .entries, ltb-false 0 (v .entries) none), omega (arith, s .entriesTaken, ltb-false allEntries (v .entriesTaken + m) few))))))))
+
+  the-doable : (a : Command) → Allowed (judgeThe a p v nc nm)
+  unfolding judgeThe
+  the-doable Unknown = tt
+  the-doable Connect = connect-doable c (p .n) nc nm (p .b1)
+  the-doable Disconnect = tt
+  the-doable GetStatus = tt
+  the-doable Synch = tt
+  the-doable GetSeed = get-seed-doable c (p .n) nc nm (v .wrongKeys) (v .calibration) (v .lists) (p .b1) (p .b2)
+  the-doable Unlock = unlock-doable c (p .n) nc nm (v .seed) (v .generator) (p .b1) (p .n) (p .d2)
+  the-doable SetMta = set-mta-doable c (p .n) nc nm (p .b3) (p .d4)
+  the-doable Upload = upload-doable c (p .n) nc nm (v .mta) (p .b1)
+  the-doable ShortUpload = short-upload-doable c (p .n) nc nm (p .b1) (p .b3) (p .d4)
+  the-doable BuildChecksum = checksum-doable c (p .n) nc nm (v .mta) (p .d4)
+  the-doable Download = download-doable c (p .n) nc nm (v .mta) (p .b1)
+  the-doable ShortDownload = short-download-doable c (p .n) nc nm (p .b1) (p .b3) (p .d4)
+  the-doable ClearDaqList = clear-doable c (p .n) nc nm (v .present) (s .present) (v .runs) (p .w2)
+  the-doable SetDaqPtr = pointer-doable c (p .n) nc nm (v .present) (v .odts) (v .entries) (p .w2) (p .b4) (p .b5) (s .present) (s .odts) (s .entries)
+  the-doable WriteDaq = write-doable c (p .n) nc nm (v .pointer) (s .pointer) (v .pointed) (p .b1) (p .b2) (p .b3) (p .d4)
+  the-doable SetDaqListMode = mode-doable c (p .n) nc nm (v .present) (s .present) (v .runs) (p .b1) (p .w2) (p .w4) (p .b6) (p .b7)
+  the-doable StartStopDaqList = start-stop-doable c (p .n) nc nm (v .present) (s .present) (v .runs) (v .fits) (p .b1) (p .w2)
+  the-doable StartStopSynch = synch-doable c (p .n) nc nm (v .ready) (p .b1)
+  the-doable GetDaqProcessorInfo = tt
+  the-doable GetDaqResolutionInfo = tt
+  the-doable FreeDaq = tt
+  the-doable AllocDaq = alloc-lists-doable c (p .n) nc nm (v .freed) (v .present) (p .w2) (s .freed) (s .present)
+  the-doable AllocOdt = alloc-odts-doable (p .b4)
+  the-doable AllocOdtEntry = alloc-entries-doable (p .b5)
+
+  by-doable : (a : Command) → Allowed (judgeBy a p v nc nm)
+  unfolding judgeBy
+  by-doable a =
+      cond-ind Allowed (ltb (p .n) (fewest a)) (λ _. tt) (λ _.
+      cond-ind Allowed (lockedBy (needsOf a) v) (λ _. tt) (λ _. the-doable a))
+
+  pub judge-doable : Allowed (judge p v nc nm)
+  unfolding judge
+  judge-doable = by-doable (commandOf (p .b0))

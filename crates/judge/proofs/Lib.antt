@@ -1,3 +1,4 @@
 -- Laws that the functions' proofs cite.
 pub mod Doable
 pub mod Looking
+pub mod Entered

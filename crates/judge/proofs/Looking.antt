@@ -1,20 +1,19 @@
--- A verdict rests on no byte behind a packet's end, and on nothing of a list that there is not. Assumes nothing.
+-- A verdict rests on no byte behind a packet's end, and on nothing of a list that its command does not name. Assumes nothing.
 use mathlib.Core.Path.{_≡_, refl, ap, _∙_}
 use mathlib.Core.Bool.{Bool, true, false, cond}
-use Prim.Native.Nat.{ℕ, _≤_, _<_}
+use Prim.Native.Nat.{ℕ, _≤_}
 use native.Mathlib.Omega.{arith}
-use borrow.Author.Tests.{ltb-false, leb-false}
-use lib.Dec.{eqb, ltb, leb}
-use Rattle.state.specs.Layout.{lists}
+use borrow.Author.Tests.{ltb-false, le-leb}
+use lib.Dec.{eqb, ltb}
 use Rattle.words.specs.Command.{fewest, needsOf}
 use Rattle.words.specs.declared.Command.{Command}
-use Rattle.words.specs.declared.Command.the-variants.{Unknown, Connect, Disconnect, GetStatus, Synch, GetSeed, Unlock, SetMta, Upload, ShortUpload, BuildChecksum, Download, ShortDownload, ClearDaqList, SetDaqPtr, WriteDaq, SetDaqListMode, StartStopDaqList, StartStopSynch, GetDaqProcessorInfo, GetDaqResolutionInfo}
+use Rattle.words.specs.declared.Command.the-variants.{Unknown, Connect, Disconnect, GetStatus, Synch, GetSeed, Unlock, SetMta, Upload, ShortUpload, BuildChecksum, Download, ShortDownload, ClearDaqList, SetDaqPtr, WriteDaq, SetDaqListMode, StartStopDaqList, StartStopSynch, GetDaqProcessorInfo, GetDaqResolutionInfo, FreeDaq, AllocDaq, AllocOdt, AllocOdtEntry}
 use Rattle.words.specs.declared.Needs.{Needs}
 use Rattle.words.specs.declared.Needs.the-variants as needs
 use Rattle.words.specs.declared.Resource.the-variants.{Calibration, Lists}
 use Rattle.words.specs.declared.Seed.{Seed}
 use Rattle.words.specs.declared.Seed.the-variants.{None, For}
-use Rattle.model.specs.Judge.{unlockBy, clearDeed, modeDeed, startStopDeed, synchDeed, lockedBy, judgeThe, judgeBy}
+use Rattle.model.specs.Judge.{unlockBy, startStopDeed, synchDeed, allocEntriesDeed, lockedBy, judgeThe, judgeBy}
 use Rattle.model.specs.Seen.{Packet, Seen}
 use Rattle.words.specs.declared.Reason.the-variants.{TooShort, Locked}
 use Rattle.model.specs.declared.Deed.{Deed}
@@ -70,6 +69,10 @@ module _ (v : Seen) (nc nm : ℕ) where
   the-alike StartStopSynch p q s f = rw (s .byte1 f)
   the-alike GetDaqProcessorInfo p q s f = refl
   the-alike GetDaqResolutionInfo p q s f = refl
+  the-alike FreeDaq p q s f = refl
+  the-alike AllocDaq p q s f = rw (s .word2 f)
+  the-alike AllocOdt p q s f = rw (s .word2 (omega arith), s .byte4 f)
+  the-alike AllocOdtEntry p q s f = rw (s .word2 (omega arith), s .byte4 (omega arith), s .byte5 f)
 
   -- a verdict by the packet's length, and by its own checks
   unfoldable by-length : Command → ℕ → Deed → Deed
@@ -83,7 +86,7 @@ module _ (v : Seen) (nc nm : ℕ) where
       by true e = rw e
       by false e = ap (by-length c (q .n)) (the-alike c p q s (ltb-false (q .n) (fewest c) e))
 
--- ---- what is seen: of the lists no more than a list that there is
+-- ---- what is seen: of one list and one ODT no more than of those that the packet names
 pub record Seeing (v w : Seen) : Type 0 where
   pub wrongKeys : v .wrongKeys ≡ w .wrongKeys
   pub calibration : v .calibration ≡ w .calibration
@@ -92,72 +95,68 @@ pub record Seeing (v w : Seen) : Type 0 where
   pub generator : v .generator ≡ w .generator
   pub mta : v .mta ≡ w .mta
   pub pointer : v .pointer ≡ w .pointer
+  pub freed : v .freed ≡ w .freed
+  pub present : v .present ≡ w .present
+  pub odtsTaken : v .odtsTaken ≡ w .odtsTaken
+  pub entriesTaken : v .entriesTaken ≡ w .entriesTaken
   pub pointed : v .pointed ≡ w .pointed
   pub ready : v .ready ≡ w .ready
 
-clear-looked : (runs runs′ : Bool) (l : ℕ) → (l < lists → runs ≡ runs′) → clearDeed runs l ≡ clearDeed runs′ l
-unfolding clearDeed
-clear-looked runs runs′ l h = by (leb lists l) refl
-  where
-    by : (none : Bool) → leb lists l ≡ none → clearDeed runs l ≡ clearDeed runs′ l
-    by true e = rw e
-    by false e = rw (h (leb-false lists l e))
-
-mode-looked : (runs runs′ : Bool) (mode l event prescaler priority : ℕ) → (l < lists → runs ≡ runs′) → modeDeed runs mode l event prescaler priority ≡ modeDeed runs′ mode l event prescaler priority
-unfolding modeDeed
-mode-looked runs runs′ mode l event prescaler priority h = by (leb lists l) refl
-  where
-    by : (none : Bool) → leb lists l ≡ none → modeDeed runs mode l event prescaler priority ≡ modeDeed runs′ mode l event prescaler priority
-    by true e = rw e
-    by false e = rw (h (leb-false lists l e))
-
-start-looked : (runs runs′ fits fits′ : Bool) (mode l : ℕ) → (l < lists → (runs ≡ runs′) × (fits ≡ fits′)) → startStopDeed runs fits mode l ≡ startStopDeed runs′ fits′ mode l
-unfolding startStopDeed
-start-looked runs runs′ fits fits′ mode l h = by (leb lists l) refl
-  where
-    by : (none : Bool) → leb lists l ≡ none → startStopDeed runs fits mode l ≡ startStopDeed runs′ fits′ mode l
-    by true e = rw e
-    by false e = rw (h (leb-false lists l e) .0, h (leb-false lists l e) .1)
+-- of the list
+pub record Naming (v w : Seen) : Type 0 where
+  pub odts : v .odts ≡ w .odts
+  pub runs : v .runs ≡ w .runs
+  pub fits : v .fits ≡ w .fits
 
 -- a start alone looks at the lists
-pub start-asks : (runs runs′ fits fits′ : Bool) (mode l : ℕ) → eqb mode 1 ≡ false → startStopDeed runs fits mode l ≡ startStopDeed runs′ fits′ mode l
+pub start-asks : (present : ℕ) (runs runs′ fits fits′ : Bool) (mode l : ℕ) → eqb mode 1 ≡ false → startStopDeed present runs fits mode l ≡ startStopDeed present runs′ fits′ mode l
 unfolding startStopDeed
-start-asks runs runs′ fits fits′ mode l e = rw e
+start-asks present runs runs′ fits fits′ mode l e = rw e
 
 pub synch-asks : (ready ready′ : Bool) (mode : ℕ) → eqb mode 1 ≡ false → synchDeed ready mode ≡ synchDeed ready′ mode
 unfolding synchDeed
 synch-asks ready ready′ mode e = rw e
 
+-- of a list without ODTs nothing more is asked, not even its number
+pub entries-ask : (all taken taken′ : ℕ) (runs runs′ : Bool) (l l′ o n : ℕ) → allocEntriesDeed 0 0 all taken runs l o n ≡ allocEntriesDeed 0 0 all taken′ runs′ l′ o n
+unfolding allocEntriesDeed
+entries-ask all taken taken′ runs runs′ l l′ o n = rw (le-leb 0 o (omega arith))
+
 module _ (p : Packet) (v w : Seen) (s : Seeing v w) (nc nm : ℕ) where
-  the-looked : (c : Command) → (4 ≤ fewest c → p .w2 < lists → (v .runs ≡ w .runs) × (v .fits ≡ w .fits)) → judgeThe c p v nc nm ≡ judgeThe c p w nc nm
+  -- the list lies in a packet's bytes 2 and 3, the ODT in byte 4
+  the-looked : (c : Command) → (4 ≤ fewest c → Naming v w) → (5 ≤ fewest c → v .entries ≡ w .entries) → judgeThe c p v nc nm ≡ judgeThe c p w nc nm
   unfolding judgeThe
-  the-looked Unknown h = refl
-  the-looked Connect h = refl
-  the-looked Disconnect h = refl
-  the-looked GetStatus h = refl
-  the-looked Synch h = refl
-  the-looked GetSeed h = rw (s .wrongKeys, s .calibration, s .lists)
-  the-looked Unlock h = rw (s .seed, s .generator)
-  the-looked SetMta h = refl
-  the-looked Upload h = rw (s .mta)
-  the-looked ShortUpload h = refl
-  the-looked BuildChecksum h = rw (s .mta)
-  the-looked Download h = rw (s .mta)
-  the-looked ShortDownload h = refl
-  the-looked ClearDaqList h = clear-looked (v .runs) (w .runs) (p .w2) (λ there. h (omega arith) there .0)
-  the-looked SetDaqPtr h = refl
-  the-looked WriteDaq h = rw (s .pointer, s .pointed)
-  the-looked SetDaqListMode h = mode-looked (v .runs) (w .runs) (p .b1) (p .w2) (p .w4) (p .b6) (p .b7) (λ there. h (omega arith) there .0)
-  the-looked StartStopDaqList h = start-looked (v .runs) (w .runs) (v .fits) (w .fits) (p .b1) (p .w2) (h (omega arith))
-  the-looked StartStopSynch h = rw (s .ready)
-  the-looked GetDaqProcessorInfo h = refl
-  the-looked GetDaqResolutionInfo h = refl
+  the-looked Unknown h o = refl
+  the-looked Connect h o = refl
+  the-looked Disconnect h o = refl
+  the-looked GetStatus h o = refl
+  the-looked Synch h o = refl
+  the-looked GetSeed h o = rw (s .wrongKeys, s .calibration, s .lists)
+  the-looked Unlock h o = rw (s .seed, s .generator)
+  the-looked SetMta h o = refl
+  the-looked Upload h o = rw (s .mta)
+  the-looked ShortUpload h o = refl
+  the-looked BuildChecksum h o = rw (s .mta)
+  the-looked Download h o = rw (s .mta)
+  the-looked ShortDownload h o = refl
+  the-looked ClearDaqList h o = rw (s .present, h (omega arith) .runs)
+  the-looked SetDaqPtr h o = rw (s .present, h (omega arith) .odts, o (omega arith))
+  the-looked WriteDaq h o = rw (s .pointer, s .pointed)
+  the-looked SetDaqListMode h o = rw (s .present, h (omega arith) .runs)
+  the-looked StartStopDaqList h o = rw (s .present, h (omega arith) .runs, h (omega arith) .fits)
+  the-looked StartStopSynch h o = rw (s .ready)
+  the-looked GetDaqProcessorInfo h o = refl
+  the-looked GetDaqResolutionInfo h o = refl
+  the-looked FreeDaq h o = refl
+  the-looked AllocDaq h o = rw (s .freed, s .present)
+  the-looked AllocOdt h o = rw (s .present, h (omega arith) .odts, s .odtsTaken, s .entriesTaken, h (omega arith) .runs)
+  the-looked AllocOdtEntry h o = rw (h (omega arith) .odts, o (omega arith), s .odtsTaken, s .entriesTaken, h (omega arith) .runs)
 
   locked-seen : (n : Needs) → lockedBy n v ≡ lockedBy n w
   locked-seen needs.Nothing = refl
   locked-seen (needs.Unlocked Calibration) = rw (s .calibration)
   locked-seen (needs.Unlocked Lists) = rw (s .lists)
 
-  pub judge-looked : (c : Command) → (4 ≤ fewest c → p .w2 < lists → (v .runs ≡ w .runs) × (v .fits ≡ w .fits)) → judgeBy c p v nc nm ≡ judgeBy c p w nc nm
+  pub judge-looked : (c : Command) → (4 ≤ fewest c → Naming v w) → (5 ≤ fewest c → v .entries ≡ w .entries) → judgeBy c p v nc nm ≡ judgeBy c p w nc nm
   unfolding judgeBy
-  judge-looked c h = rw (locked-seen (needsOf c), the-looked c h)
+  judge-looked c h o = rw (locked-seen (needsOf c), the-looked c h o)

@@ -1,6 +1,6 @@
 // A command's own checks, in the paper's order: the first that applies answers. Each takes no more than it looks at.
 ghost use mathlib.Core.Path.{_≡_};
-ghost use Rattle.model.specs.Judge.{extensionFrom, connectDeed, seedDeed, getSeedDeed, unlockBy, setMtaDeed, uploadDeed, shortUploadDeed, checksumDeed, downloadTo, downloadDeed, shortDownloadDeed, clearDeed, pointerDeed, writeBlock, writeDeed, modeDeed, startDeed, startStopDeed, synchDeed};
+ghost use Rattle.model.specs.Judge.{extensionFrom, connectDeed, seedDeed, getSeedDeed, unlockBy, setMtaDeed, uploadDeed, shortUploadDeed, checksumDeed, downloadTo, downloadDeed, shortDownloadDeed, clearDeed, pointerDeed, writeBlock, writeDeed, modeDeed, startDeed, startStopDeed, synchDeed, allocListsDeed, allocOdtsDeed, allocEntriesDeed};
 use model::Deed;
 use state::layout;
 use state::memory::inside;
@@ -217,10 +217,10 @@ pub fn short_download(n: u8, extension: u8, address: u32, len: u8, nc: usize) ->
     )
 }
 
-pub fn clear_list(runs: bool, l: u16) -> Deed
-    ensures { λ r. ⌜ r ≡ clearDeed runs l ⌝ }
+pub fn clear_list(present: u8, runs: bool, l: u16) -> Deed
+    ensures { λ r. ⌜ r ≡ clearDeed present runs l ⌝ }
 {
-    if layout::LISTS_U16 <= l {
+    if present as u16 <= l {
         return Deed::Refuse(Reason::OutOfRange);
     }
     if runs {
@@ -229,30 +229,30 @@ pub fn clear_list(runs: bool, l: u16) -> Deed
     Deed::ClearList(l as u8)
 }
 
-pub fn set_pointer(l: u16, odt: u8, entry: u8) -> Deed
-    ensures { λ r. ⌜ r ≡ pointerDeed l odt entry ⌝ }
+pub fn set_pointer(present: u8, odts: u16, entries: u16, l: u16, odt: u8, entry: u8) -> Deed
+    ensures { λ r. ⌜ r ≡ pointerDeed present odts entries l odt entry ⌝ }
 {
-    if layout::LISTS_U16 <= l {
+    if present as u16 <= l {
         return Deed::Refuse(Reason::OutOfRange);
     }
-    if layout::ODTS <= odt {
+    if odts <= odt as u16 {
         return Deed::Refuse(Reason::OutOfRange);
     }
-    if layout::ENTRIES <= entry {
+    if entries <= entry as u16 {
         return Deed::Refuse(Reason::OutOfRange);
     }
-    Deed::SetPointer(layout::ODTS * l as u8 + odt, entry)
+    Deed::SetPointer(l as u8, odt, entry)
 }
 
 // A block of size 0 is always inside.
-fn write_block(k: u8, e: u8, n: u8, extension: Extension, address: u32, len: usize) -> Deed
-    ensures { λ r. ⌜ r ≡ writeBlock k e n extension address len ⌝ }
+fn write_block(l: u8, odt: u8, e: u8, n: u8, extension: Extension, address: u32, len: usize) -> Deed
+    ensures { λ r. ⌜ r ≡ writeBlock l odt e n extension address len ⌝ }
 {
     if n == 0 {
-        return Deed::ClearEntry(k, e);
+        return Deed::ClearEntry(l, odt, e);
     }
     if inside(address, n as u32, len) {
-        Deed::WriteEntry(k, e, n, extension, address)
+        Deed::WriteEntry(l, odt, e, n, extension, address)
     } else {
         Deed::Refuse(Reason::NotInside)
     }
@@ -272,7 +272,7 @@ pub fn write_entry(
 {
     match pointer {
         Pointer::Unset => Deed::Refuse(Reason::Sequence),
-        Pointer::At { odt, entry } => {
+        Pointer::At { list, odt, entry } => {
             if bit != 0xFF {
                 return Deed::Refuse(Reason::OutOfRange);
             }
@@ -286,18 +286,26 @@ pub fn write_entry(
                 return Deed::Refuse(Reason::ListRuns);
             }
             let from = extension_from(extension);
-            write_block(odt, entry, n, from, address, length_of(from, nc, nm))
+            write_block(list, odt, entry, n, from, address, length_of(from, nc, nm))
         }
     }
 }
 
-pub fn set_mode(runs: bool, mode: u8, l: u16, event: u16, prescaler: u8, priority: u8) -> Deed
-    ensures { λ r. ⌜ r ≡ modeDeed runs mode l event prescaler priority ⌝ }
+pub fn set_mode(
+    present: u8,
+    runs: bool,
+    mode: u8,
+    l: u16,
+    event: u16,
+    prescaler: u8,
+    priority: u8,
+) -> Deed
+    ensures { λ r. ⌜ r ≡ modeDeed present runs mode l event prescaler priority ⌝ }
 {
     if mode != 0x10 {
         return Deed::Refuse(Reason::OutOfRange);
     }
-    if layout::LISTS_U16 <= l {
+    if present as u16 <= l {
         return Deed::Refuse(Reason::OutOfRange);
     }
     if layout::EVENTS_U16 <= event {
@@ -327,13 +335,13 @@ fn start(runs: bool, fit: bool, l: u8) -> Deed
     Deed::Refuse(Reason::CannotStart)
 }
 
-pub fn start_stop(runs: bool, fit: bool, mode: u8, l: u16) -> Deed
-    ensures { λ r. ⌜ r ≡ startStopDeed runs fit mode l ⌝ }
+pub fn start_stop(present: u8, runs: bool, fit: bool, mode: u8, l: u16) -> Deed
+    ensures { λ r. ⌜ r ≡ startStopDeed present runs fit mode l ⌝ }
 {
     if 2 < mode {
         return Deed::Refuse(Reason::OutOfRange);
     }
-    if layout::LISTS_U16 <= l {
+    if present as u16 <= l {
         return Deed::Refuse(Reason::OutOfRange);
     }
     if mode == 0 {
@@ -361,4 +369,93 @@ pub fn start_stop_synch(ready: bool, mode: u8) -> Deed
         return Deed::Refuse(Reason::CannotStart);
     }
     Deed::StopSelected
+}
+
+// First FREE_DAQ, and once.
+pub fn alloc_lists(freed: bool, present: u8, n: u16) -> Deed
+    ensures { λ r. ⌜ r ≡ allocListsDeed freed present n ⌝ }
+{
+    if !freed {
+        return Deed::Refuse(Reason::Sequence);
+    }
+    if 0 < present {
+        return Deed::Refuse(Reason::Sequence);
+    }
+    if n == 0 {
+        return Deed::Refuse(Reason::OutOfRange);
+    }
+    if layout::LISTS_U16 < n {
+        return Deed::Refuse(Reason::PoolFull);
+    }
+    Deed::AllocLists(n as u8)
+}
+
+// First ALLOC_DAQ, no ALLOC_ODT_ENTRY yet, and once for a list.
+pub fn alloc_odts(
+    present: u8,
+    odts: u16,
+    taken: u16,
+    entries: u16,
+    runs: bool,
+    l: u16,
+    n: u8,
+) -> Deed
+    ensures { λ r. ⌜ r ≡ allocOdtsDeed present odts taken entries runs l n ⌝ }
+{
+    if present == 0 {
+        return Deed::Refuse(Reason::Sequence);
+    }
+    if 0 < entries {
+        return Deed::Refuse(Reason::Sequence);
+    }
+    if 0 < odts {
+        return Deed::Refuse(Reason::Sequence);
+    }
+    if present as u16 <= l {
+        return Deed::Refuse(Reason::OutOfRange);
+    }
+    if n == 0 {
+        return Deed::Refuse(Reason::OutOfRange);
+    }
+    if runs {
+        return Deed::Refuse(Reason::ListRuns);
+    }
+    if (layout::ALL_ODTS as u32) < taken as u32 + n as u32 {
+        return Deed::Refuse(Reason::PoolFull);
+    }
+    Deed::AllocOdts(l as u8, n)
+}
+
+// First ALLOC_ODT, and once for an ODT. A list that there is not has no ODTs.
+pub fn alloc_entries(
+    odts: u16,
+    entries: u16,
+    all: u16,
+    taken: u16,
+    runs: bool,
+    l: u8,
+    odt: u8,
+    n: u8,
+) -> Deed
+    ensures { λ r. ⌜ r ≡ allocEntriesDeed odts entries all taken runs l odt n ⌝ }
+{
+    if all == 0 {
+        return Deed::Refuse(Reason::Sequence);
+    }
+    if 0 < entries {
+        return Deed::Refuse(Reason::Sequence);
+    }
+    if odts <= odt as u16 {
+        return Deed::Refuse(Reason::OutOfRange);
+    }
+    if n == 0 {
+        return Deed::Refuse(Reason::OutOfRange);
+    }
+    if runs {
+        return Deed::Refuse(Reason::ListRuns);
+    }
+    if (layout::ALL_ENTRIES as u32) < taken as u32 + n as u32 {
+        return Deed::Refuse(Reason::PoolFull);
+    }
+    Deed::AllocEntries(l, odt, n)
 }

@@ -30,12 +30,12 @@ all-next c k e = rw e
 pub all-stays : (c : Session) (l n : ℕ) → l ≤ n → allStartable c l ≡ false → allStartable c n ≡ false
 all-stays c = stays (allStartable c) false (all-next c)
 
-fit-next : (l : ℕ) (x : DaqList) (n : ℕ) → eachFits l x n ≡ false → eachFits l x (suc n) ≡ false
+fit-next : (x : DaqList) (n : ℕ) → eachFits x n ≡ false → eachFits x (suc n) ≡ false
 unfolding eachFits
-fit-next l x n e = rw e
+fit-next x n e = rw e
 
-pub fit-stays : (l : ℕ) (x : DaqList) (j n : ℕ) → j ≤ n → eachFits l x j ≡ false → eachFits l x n ≡ false
-fit-stays l x = stays (eachFits l x) false (fit-next l x)
+pub fit-stays : (x : DaqList) (j n : ℕ) → j ≤ n → eachFits x j ≡ false → eachFits x n ≡ false
+fit-stays x = stays (eachFits x) false (fit-next x)
 
 some-next : (x : DaqList) (n : ℕ) → somePacket x n ≡ true → somePacket x (suc n) ≡ true
 unfolding somePacket

@@ -4,16 +4,19 @@ use mathlib.Core.List.{List, [], _∷_, _++_}
 use Prim.Native.Nat.{ℕ, zero, suc, _+_, _-_, _≤_, _<_}
 use native.Mathlib.Nat.{add-zero, add-suc}
 use native.Mathlib.Omega.{arith}
+use lib.Dec.{lit<}
 use lib.ListN.{getD, set}
 use lib.Seq.{sets, getD-set-other}
-use Rattle.state.specs.Layout.{usedAt, entryAt, sampleAt, entries, allOdts}
-use Rattle.state.specs.Lists.{usedOf, sizeOf, extensionOf, addressOf}
+use Rattle.state.specs.Layout.{lists, allOdts, phaseAt, entrySize, sampleAt}
+use Rattle.state.specs.Pool.{listCount, firstOdt, odtCount, firstEntry, entryCount, entryAt}
+use Rattle.state.proofs.Allocated.{entry-most, lists-same, firstOdt-same, odtCount-same, firstEntry-same, entryCount-same}
+use Rattle.state.specs.Lists.{sizeOf, extensionOf, addressOf}
 use Rattle.model.specs.Model.{Entry, noEntry, Odt, sizesOf}
-use Rattle.model.specs.Calls.{blockIn, blocksIn, contentsIn}
+use Rattle.model.specs.Calls.{blockIn, blocksIn, leadOf, contentsIn}
 use Rattle.model.specs.View.{entryOf, odtOf}
 use Rattle.model.proofs.Bounded.{upTo-same}
-use Rattle.model.proofs.Fits.{sizes-same}
-use Rattle.model.proofs.Shown.{used-most, sizes-next}
+use Rattle.model.proofs.Fits.{bytes-same}
+use Rattle.model.proofs.Shown.{sizes-next}
 use Rattle.lists.specs.Lists.{odtBytes}
 use Rattle.lists.specs.Event.{contentsOf}
 
@@ -31,41 +34,51 @@ unfolding blocksIn
 blocks-same cal meas y z e zero = refl
 blocks-same cal meas y z e (suc n) = ap₂ _++_ (blocks-same cal meas y z e n) (ap (λ (f : ℕ → Entry). blockIn (f n) cal meas) e)
 
+-- so are the lists that there are
+module _ (t s : List ℕ) (same : Alike t s) where
+  pub lists-alike : listCount t ≡ listCount s
+  lists-alike = lists-same t s (same phaseAt (lit< tt))
+
+  pub first-alike : (l : ℕ) → l ≤ lists → firstOdt t l ≡ firstOdt s l
+  first-alike = firstOdt-same t s (λ j p q. same j (omega arith))
+
+  pub odts-alike : (l : ℕ) → l < lists → odtCount t l ≡ odtCount s l
+  odts-alike = odtCount-same t s (λ j p q. same j (omega arith))
+
+  pub start-alike : (k : ℕ) → k ≤ allOdts → firstEntry t k ≡ firstEntry s k
+  start-alike = firstEntry-same t s (λ j p q. same j (omega arith))
+
+  pub counts-alike : (k : ℕ) → k < allOdts → entryCount t k ≡ entryCount s k
+  counts-alike = entryCount-same t s (λ j p q. same j (omega arith))
+
 module _ (t s : List ℕ) (same : Alike t s) (k : ℕ) (odt : k < allOdts) where
-  pub used-alike : usedOf t k ≡ usedOf s k
-  unfolding usedOf
-  used-alike = rw (same (usedAt k) (omega arith))
+  entry-byte : (e b : ℕ) → e < entryCount s k → b < entrySize → getD t (entryAt t k e + b) 0 ≡ getD s (entryAt s k e + b) 0
+  entry-byte e b h q = rw (start-alike t s same k (omega arith)) (same (entryAt s k e + b) (omega (arith, entry-most s k)))
 
-  pub size-alike : (e : ℕ) → e < entries → sizeOf t k e ≡ sizeOf s k e
-  unfolding sizeOf
-  size-alike e h = rw (same (entryAt k e) (omega arith))
+  head-byte : (e : ℕ) → e < entryCount s k → getD t (entryAt t k e) 0 ≡ getD s (entryAt s k e) 0
+  head-byte e h = rw (start-alike t s same k (omega arith)) (same (entryAt s k e) (omega (arith, entry-most s k)))
 
-  extension-alike : (e : ℕ) → e < entries → extensionOf t k e ≡ extensionOf s k e
-  unfolding extensionOf
-  extension-alike e h = rw (same (entryAt k e) (omega arith))
+  entry-alike : (e : ℕ) → e < entryCount s k → entryOf t k e ≡ entryOf s k e
+  unfolding sizeOf extensionOf addressOf
+  entry-alike e h = rw (head-byte e h, entry-byte e 1 h (lit< tt))
 
-  address-alike : (e : ℕ) → e < entries → addressOf t k e ≡ addressOf s k e
-  unfolding addressOf
-  address-alike e h = rw (same (entryAt k e) (omega arith), same (entryAt k e + 1) (omega arith))
-
-  entry-alike : (e : ℕ) → e < entries → entryOf t k e ≡ entryOf s k e
-  entry-alike e h = λ i. record { size = size-alike e h i; extension = extension-alike e h i; address = address-alike e h i }
-
-  pub block-alike : (cal meas : List ℕ) (e : ℕ) → e < entries → blockIn (entryOf t k e) cal meas ≡ blockIn (entryOf s k e) cal meas
+  pub block-alike : (cal meas : List ℕ) (e : ℕ) → e < entryCount s k → blockIn (entryOf t k e) cal meas ≡ blockIn (entryOf s k e) cal meas
   block-alike cal meas e h = ap (λ (x : Entry). blockIn x cal meas) (entry-alike e h)
 
   entries-alike : odtOf t k .entry ≡ odtOf s k .entry
-  entries-alike = rw used-alike (upTo-same (usedOf s k) noEntry (λ e h. entry-alike e (omega (arith, used-most s k))))
+  entries-alike = rw (counts-alike t s same k odt) (upTo-same (entryCount s k) noEntry (λ e h. entry-alike e h))
 
   pub blocks-alike : (cal meas : List ℕ) (n : ℕ) → blocksIn (odtOf t k) cal meas n ≡ blocksIn (odtOf s k) cal meas n
   blocks-alike cal meas n = blocks-same cal meas (odtOf t k) (odtOf s k) entries-alike n
 
   pub bytes-alike : odtBytes t k ≡ odtBytes s k
-  bytes-alike = sizes-same (odtOf t k) (odtOf s k) entries-alike entries
+  bytes-alike = bytes-same (odtOf t k) (odtOf s k) (counts-alike t s same k odt) entries-alike
 
-  pub contents-alike : (clock : ℕ) (cal meas : List ℕ) → contentsOf t k clock cal meas ≡ contentsOf s k clock cal meas
-  unfolding contentsIn
-  contents-alike clock cal meas = rw (blocks-alike cal meas entries)
+pub contents-alike : (t s : List ℕ) → Alike t s → (k o clock : ℕ) (cal meas : List ℕ) → k + o < allOdts → contentsOf t k o clock cal meas ≡ contentsOf s k o clock cal meas
+unfolding contentsIn
+contents-alike t s same k o clock cal meas odt =
+    ap (λ (n : ℕ). leadOf o clock ++ blocksIn (odtOf t (k + o)) cal meas n) (counts-alike t s same (k + o) odt)
+    ∙ ap (λ (bs : List ℕ). leadOf o clock ++ bs) (blocks-alike t s same (k + o) odt cal meas (entryCount s (k + o)))
 
 grows : (y : Odt) (i d : ℕ) → sizesOf y i ≤ sizesOf y (i + d)
 unfolding sizesOf
@@ -73,7 +86,7 @@ grows y i zero = rw add-zero (omega arith)
 grows y i (suc d) = rw add-suc (omega (arith, grows y i d))
 
 -- what entries before the last take is not more than all
-pub first-most : (s : List ℕ) (k e : ℕ) → e < usedOf s k → sizesOf (odtOf s k) e + sizeOf s k e ≤ odtBytes s k
+pub first-most : (s : List ℕ) (k e : ℕ) → e < entryCount s k → sizesOf (odtOf s k) e + sizeOf s k e ≤ odtBytes s k
 first-most s k e h =
-    let rest : suc e + (entries - suc e) ≡ entries = omega (arith, used-most s k) in
-    subst (λ (n : ℕ). sizesOf (odtOf s k) e + sizeOf s k e ≤ sizesOf (odtOf s k) n) rest (rw (← sizes-next s k e h) (grows (odtOf s k) (suc e) (entries - suc e)))
+    let rest : suc e + (entryCount s k - suc e) ≡ entryCount s k = omega arith in
+    subst (λ (n : ℕ). sizesOf (odtOf s k) e + sizeOf s k e ≤ sizesOf (odtOf s k) n) rest (rw (← sizes-next s k e h) (grows (odtOf s k) (suc e) (entryCount s k - suc e)))

@@ -6,19 +6,22 @@ use Prim.Native.Nat.{ℕ, zero, suc, _+_, _-_, _≤_, _<_, _%_, _/_}
 use native.Mathlib.Nat.{add-zero, add-suc, suc-add}
 use native.Mathlib.Numerals.{add-one}
 use native.Mathlib.Omega.{arith}
-use lib.ListN.{length, set, length-append}
+use lib.Dec.{lit<}
+use lib.ListN.{length, getD, set, length-append}
 use lib.Seq.{sets, set-comm}
 use Rattle.line.proofs.Laws.{sets-append}
-use Rattle.state.specs.Layout.{entries, isFirst, odtMost, sampleAt, allOdts, clockSize, storedMost}
-use Rattle.state.specs.Memory.{byteOf, bytesOf}
-use Rattle.state.specs.Lists.{usedOf, sizeOf}
+use Rattle.state.specs.Layout.{isFirst, odtMost, entrySize, sampleAt, allOdts, clockSize, storedMost}
+use Rattle.state.specs.Memory.{pick, byteOf, bytesOf}
+use Rattle.state.specs.Pool.{entryCount, entryAt}
+use Rattle.state.specs.Lists.{sizeAt, extensionAt, addressIn, sizeOf, extensionOf, addressOf}
 use Rattle.lists.specs.Lists.{odtBytes}
 use Rattle.lists.specs.Event.{contentsOf, stored, capturedOdts}
 use Rattle.model.specs.Model.{sizesOf}
 use Rattle.model.specs.Calls.{blockIn, blocksIn, leadOf, contentsIn}
 use Rattle.model.specs.View.{entryOf, odtOf}
-use Rattle.model.proofs.Shown.{used-most, sizes-used, blocks-used, sizes-next, blocks-next}
-use Rattle.lists.proofs.Entries.{Alike, sets-alike, block-alike, blocks-alike, bytes-alike}
+use Rattle.model.proofs.Shown.{sizes-next, blocks-next}
+use Rattle.state.proofs.Allocated.{entry-most}
+use Rattle.lists.proofs.Entries.{Alike, sets-alike, blocks-alike, bytes-alike}
 
 pub bytes-next : (mem : List ℕ) (a n : ℕ) → bytesOf mem a (suc n) ≡ bytesOf mem a n ++ byteOf mem (a + n) ∷ []
 unfolding bytesOf
@@ -35,7 +38,7 @@ pub pair-sets : (s : List ℕ) (i a b : ℕ) → set (set s i a) (i + 1) b ≡ s
 pair-sets s i a b = simp add-one
 
 -- a byte stored before others
-under : (xs l : List ℕ) (i j a : ℕ) → j < i → set (sets l i xs) j a ≡ sets (set l j a) i xs
+pub under : (xs l : List ℕ) (i j a : ℕ) → j < i → set (sets l i xs) j a ≡ sets (set l j a) i xs
 under [] l i j a h = refl
 under (x ∷ xs) l i j a h = under xs (set l i x) (suc i) j a (omega arith) ∙ ap (λ (m : List ℕ). sets m (suc i) xs) (set-comm l i j x a (λ e. omega arith))
 
@@ -43,7 +46,7 @@ module _ (s : List ℕ) (k : ℕ) (cal meas : List ℕ) where
   abbrev gathered : ℕ → List ℕ
   gathered n = blocksIn (odtOf s k) cal meas n
 
-  pub gathered-length : (n : ℕ) → n < usedOf s k → length (gathered (suc n)) ≡ length (gathered n) + sizeOf s k n
+  pub gathered-length : (n : ℕ) → n < entryCount s k → length (gathered (suc n)) ≡ length (gathered n) + sizeOf s k n
   gathered-length n h =
       ap length (blocks-next s k cal meas n h) ∙ length-append (gathered n) (blockIn (entryOf s k n) cal meas)
       ∙ ap (λ (m : ℕ). length (gathered n) + m) (bytes-length _ _ _)
@@ -52,46 +55,64 @@ module _ (s : List ℕ) (k : ℕ) (cal meas : List ℕ) where
   unfolding blocksIn sizesOf
   gathered-none = refl
 
-  pub gathered-first : (n : ℕ) → n ≤ usedOf s k → length (gathered n) ≡ sizesOf (odtOf s k) n
+  pub gathered-first : (n : ℕ) → n ≤ entryCount s k → length (gathered n) ≡ sizesOf (odtOf s k) n
   gathered-first zero h = gathered-none
   gathered-first (suc n) h = gathered-length n (omega arith) ∙ ap (λ (m : ℕ). m + sizeOf s k n) (gathered-first n (omega arith)) ∙ sym (sizes-next s k n (omega arith))
 
-  pub gathered-odt : length (gathered entries) ≡ odtBytes s k
-  gathered-odt = ap length (sym (blocks-used s k cal meas)) ∙ gathered-first (usedOf s k) (omega arith) ∙ sizes-used s k
+  pub gathered-odt : length (gathered (entryCount s k)) ≡ odtBytes s k
+  gathered-odt = gathered-first (entryCount s k) (omega arith)
 
   -- entries are read as they were, with bytes stored past them already
   module _ (odt : k < allOdts) (at : ℕ) (past : sampleAt 0 ≤ at) where
-    pub gathered-next : (n : ℕ) → n < usedOf s k → sets (sets s at (gathered n)) (at + length (gathered n)) (blockIn (entryOf (sets s at (gathered n)) k n) cal meas) ≡ sets s at (gathered (suc n))
-    gathered-next n h =
-        let same : Alike (sets s at (gathered n)) s = sets-alike (gathered n) s at past in
-        ap (λ (bs : List ℕ). sets (sets s at (gathered n)) (at + length (gathered n)) bs) (block-alike (sets s at (gathered n)) s same k odt cal meas n (omega (arith, used-most s k)))
-        ∙ sets-append (gathered n) (blockIn (entryOf s k n) cal meas) s at ∙ ap (λ (bs : List ℕ). sets s at bs) (sym (blocks-next s k cal meas n h))
+    -- by where the entry lies
+    module _ (n : ℕ) (h : n < entryCount s k) (i : ℕ) (e : i ≡ entryAt s k n) where
+      abbrev so-far : List ℕ
+      so-far = sets s at (gathered n)
 
-    pub gathered-after : (xs : List ℕ) → sets (sets s at xs) (at + length xs) (blocksIn (odtOf (sets s at xs) k) cal meas entries) ≡ sets s at (xs ++ gathered entries)
+      byte-there : (b : ℕ) → b < entrySize → getD so-far (i + b) 0 ≡ getD s (entryAt s k n + b) 0
+      byte-there b q = rw e (sets-alike (gathered n) s at past (entryAt s k n + b) (omega (arith, entry-most s k)))
+
+      head-there : getD so-far i 0 ≡ getD s (entryAt s k n) 0
+      head-there = rw e (sets-alike (gathered n) s at past (entryAt s k n) (omega (arith, entry-most s k)))
+
+      pub size-there : sizeAt so-far i ≡ sizeOf s k n
+      unfolding sizeOf
+      size-there = rw head-there
+
+      pub block-there : bytesOf (pick (extensionAt so-far i) cal meas) (addressIn so-far i) (sizeAt so-far i) ≡ blockIn (entryOf s k n) cal meas
+      unfolding sizeOf extensionOf addressOf
+      block-there = rw (head-there, byte-there 1 (lit< tt))
+
+      pub gathered-step : sets so-far (at + length (gathered n)) (bytesOf (pick (extensionAt so-far i) cal meas) (addressIn so-far i) (sizeAt so-far i)) ≡ sets s at (gathered (suc n))
+      gathered-step =
+          ap (sets so-far (at + length (gathered n))) block-there ∙ sets-append (gathered n) (blockIn (entryOf s k n) cal meas) s at
+          ∙ ap (λ (bs : List ℕ). sets s at bs) (sym (blocks-next s k cal meas n h))
+
+    pub gathered-after : (xs : List ℕ) → sets (sets s at xs) (at + length xs) (blocksIn (odtOf (sets s at xs) k) cal meas (entryCount s k)) ≡ sets s at (xs ++ gathered (entryCount s k))
     gathered-after xs =
-        ap (λ (bs : List ℕ). sets (sets s at xs) (at + length xs) bs) (blocks-alike (sets s at xs) s (sets-alike xs s at past) k odt cal meas entries)
-        ∙ sets-append xs (gathered entries) s at
+        ap (λ (bs : List ℕ). sets (sets s at xs) (at + length xs) bs) (blocks-alike (sets s at xs) s (sets-alike xs s at past) k odt cal meas (entryCount s k))
+        ∙ sets-append xs (gathered (entryCount s k)) s at
 
 -- an ODT's packet: its bytes, and then its length before them
-pub lead-most : (k clock : ℕ) → length (leadOf k clock) + odtMost k ≤ storedMost
-lead-most k clock = by (isFirst k) where
+pub lead-most : (o clock : ℕ) → length (leadOf o clock) + odtMost o ≤ storedMost
+lead-most o clock = by (isFirst o) where
   by : (first : Bool) → length (cond first (clock % 256 ∷ clock / 256 % 256 ∷ []) []) + cond first (storedMost - clockSize) storedMost ≤ storedMost
   by true = omega arith
   by false = omega arith
 
-module _ (s : List ℕ) (k clock : ℕ) (cal meas : List ℕ) (odt : k < allOdts) (at : ℕ) (place : at ≡ sampleAt k) where
+module _ (s : List ℕ) (k o clock : ℕ) (cal meas : List ℕ) (odt : k + o < allOdts) (at : ℕ) (place : at ≡ sampleAt (k + o)) where
   -- which changes no entry
-  pub lead-bytes : (t : List ℕ) → t ≡ sets s (at + 1) (leadOf k clock) → odtBytes t k ≡ odtBytes s k
-  lead-bytes t e = rw e (bytes-alike (sets s (at + 1) (leadOf k clock)) s (sets-alike (leadOf k clock) s (at + 1) (omega arith)) k odt)
+  pub lead-bytes : (t : List ℕ) → t ≡ sets s (at + 1) (leadOf o clock) → odtBytes t (k + o) ≡ odtBytes s (k + o)
+  lead-bytes t e = rw e (bytes-alike (sets s (at + 1) (leadOf o clock)) s (sets-alike (leadOf o clock) s (at + 1) (omega arith)) (k + o) odt)
 
-  pub stored-whole : (n : ℕ) → n ≡ length (leadOf k clock) + odtBytes s k
-      → set (sets (sets s (at + 1) (leadOf k clock)) (at + 1 + length (leadOf k clock)) (blocksIn (odtOf (sets s (at + 1) (leadOf k clock)) k) cal meas entries)) at n
-      ≡ stored s k (contentsOf s k clock cal meas)
+  pub stored-whole : (n : ℕ) → n ≡ length (leadOf o clock) + odtBytes s (k + o)
+      → set (sets (sets s (at + 1) (leadOf o clock)) (at + 1 + length (leadOf o clock)) (blocksIn (odtOf (sets s (at + 1) (leadOf o clock)) (k + o)) cal meas (entryCount s (k + o)))) at n
+      ≡ stored s (k + o) (contentsOf s k o clock cal meas)
   unfolding stored contentsIn
   stored-whole n e =
-      let bs : List ℕ = leadOf k clock ++ blocksIn (odtOf s k) cal meas entries in
-      let m : length bs ≡ n = length-append (leadOf k clock) (blocksIn (odtOf s k) cal meas entries) ∙ ap (λ (j : ℕ). length (leadOf k clock) + j) (gathered-odt s k cal meas) ∙ sym e in
-      ap (λ (t : List ℕ). set t at n) (gathered-after s k cal meas odt (at + 1) (omega arith) (leadOf k clock))
+      let bs : List ℕ = leadOf o clock ++ blocksIn (odtOf s (k + o)) cal meas (entryCount s (k + o)) in
+      let m : length bs ≡ n = length-append (leadOf o clock) (blocksIn (odtOf s (k + o)) cal meas (entryCount s (k + o))) ∙ ap (λ (j : ℕ). length (leadOf o clock) + j) (gathered-odt s (k + o) cal meas) ∙ sym e in
+      ap (λ (t : List ℕ). set t at n) (gathered-after s (k + o) cal meas odt (at + 1) (omega arith) (leadOf o clock))
       ∙ under bs s (at + 1) at n (omega arith)
       ∙ rw (add-one, m, place)
 
@@ -100,7 +121,7 @@ pub captured-alike : (s : List ℕ) (k clock : ℕ) (cal meas : List ℕ) (n : �
 unfolding capturedOdts stored
 captured-alike s k clock cal meas zero j b = refl
 captured-alike s k clock cal meas (suc n) j b =
-    sets-alike (length (contentsOf s (k + n) clock cal meas) ∷ contentsOf s (k + n) clock cal meas) (capturedOdts s k clock cal meas n) (sampleAt (k + n)) (omega arith) j b
+    sets-alike (length (contentsOf s k n clock cal meas) ∷ contentsOf s k n clock cal meas) (capturedOdts s k clock cal meas n) (sampleAt (k + n)) (omega arith) j b
     ∙ captured-alike s k clock cal meas n j b
 
 -- a packet's bytes are no more than one holds, if its ODT has not too many
@@ -109,6 +130,14 @@ contents-by : (first : Bool) (clock n : ℕ) (bs : List ℕ) → length bs ≡ n
 contents-by true clock n bs e h = omega (arith, e, h)
 contents-by false clock n bs e h = omega (arith, e, h)
 
-pub contents-most : (s : List ℕ) (k clock : ℕ) (cal meas : List ℕ) → odtBytes s k ≤ odtMost k → length (contentsOf s k clock cal meas) ≤ storedMost
+pub contents-most : (s : List ℕ) (k o clock : ℕ) (cal meas : List ℕ) → odtBytes s (k + o) ≤ odtMost o → length (contentsOf s k o clock cal meas) ≤ storedMost
 unfolding contentsIn
-contents-most s k clock cal meas h = contents-by (isFirst k) clock (odtBytes s k) (blocksIn (odtOf s k) cal meas entries) (gathered-odt s k cal meas) h
+contents-most s k o clock cal meas h =
+    contents-by (isFirst o) clock (odtBytes s (k + o)) (blocksIn (odtOf s (k + o)) cal meas (entryCount s (k + o))) (gathered-odt s (k + o) cal meas) h
+
+-- an ODT's most is no more than a packet holds
+pub most-stored : (o : ℕ) → odtMost o ≤ storedMost
+most-stored o = by (isFirst o) where
+  by : (first : Bool) → cond first (storedMost - clockSize) storedMost ≤ storedMost
+  by true = omega arith
+  by false = omega arith

@@ -5,6 +5,8 @@ pub mod Fitting
 pub mod Entries
 pub mod Gathered
 pub mod Tallied
+pub mod Moving
+pub mod Steady
 pub mod Round
 pub mod Sending
 pub mod Sizes

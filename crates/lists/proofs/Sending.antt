@@ -1,4 +1,4 @@
--- What a slot sends: the packet that it lends to the line, and that its ODT is one of the eight. Assumes nothing.
+-- What a slot sends: the packet that it lends to the line, and that it is of an ODT that there is. Assumes nothing.
 use mathlib.Core.Path.{_≡_}
 use mathlib.Core.List.{List, _∷_}
 use Prim.Native.Nat.{ℕ, zero, suc, _+_, _≤_, _<_}
@@ -7,10 +7,12 @@ use native.Mathlib.Omega.{arith}
 use lib.ListN.{length, set, take, drop, length-set}
 use lib.Seq.{drop-cons, getD-set-same, drop-set-lt}
 use Rattle.line.proofs.Laws.{cond-ind}
-use Rattle.state.specs.Layout.{lists, firstOdt, odtCount, allOdts}
+use Rattle.state.specs.Pool.{listCount, odtCount}
 use Rattle.state.specs.Bytes.{block}
-use Rattle.model.specs.Model.{DaqList, Session, Slave, runsIn, hasPacket}
+use Rattle.model.specs.Model.{DaqList, runsIn, hasPacket}
 use Rattle.model.specs.Calls.{firstPacket, packetIn, turnIn}
+use Rattle.model.specs.View.{sessionOf, viewOf}
+use Rattle.model.proofs.Shown.{odts-at}
 use Rattle.model.specs.declared.Turn.{Turn}
 use Rattle.model.specs.declared.Turn.the-variants.{Nobody, Answer, Packet}
 use Rattle.lists.proofs.Round.{turn-holds}
@@ -21,20 +23,22 @@ numbered s at k n h =
     let i : at < length (set s at k) = rw length-set h in
     rw (drop-cons (set s at k) at 0 i, getD-set-same s at k 0 h, drop-set-lt (suc at) s at k (omega arith), add-one)
 
--- a packet's ODT is one of the eight
-abbrev pub Within : Turn → Type 0
-Within Nobody = Unit
-Within Answer = Unit
-Within (Packet k) = k < allOdts
+-- a packet is of an ODT that there is
+abbrev pub Within : List ℕ → Turn → Type 0
+Within s Nobody = Unit
+Within s Answer = Unit
+Within s (Packet l o) = (l < listCount s) × (o < odtCount s l)
 
-first-within : (l : ℕ) (x : DaqList) (o n : ℕ) → firstOdt l + o + n ≤ allOdts → Within (firstPacket l x o n)
+first-within : (s : List ℕ) (l : ℕ) (x : DaqList) (o n : ℕ) → l < listCount s → o + n ≤ odtCount s l → Within s (firstPacket l x o n)
 unfolding firstPacket
-first-within l x o zero h = tt
-first-within l x o (suc n) h = cond-ind Within (hasPacket (x .odt o)) (λ _. omega arith) (λ _. first-within l x (o + 1) n (omega arith))
+first-within s l x o zero p h = tt
+first-within s l x o (suc n) p h = cond-ind (Within s) (hasPacket (x .odt o)) (λ _. (p, omega arith)) (λ _. first-within s l x (o + 1) n p (omega arith))
 
-packet-within : (c : Session) (l : ℕ) → l < lists → Within (packetIn c l)
+packet-within : (s : List ℕ) (l : ℕ) → l < listCount s → Within s (packetIn (sessionOf s) l)
 unfolding packetIn
-packet-within c l h = cond-ind Within (runsIn c l) (λ _. first-within l (c .list l) 0 (odtCount l) (omega arith)) (λ _. tt)
+packet-within s l h =
+    cond-ind (Within s) (runsIn (sessionOf s) l) (λ _. first-within s l (sessionOf s .list l) 0 (sessionOf s .list l .odts) h (rw (odts-at s l h) (omega arith))) (λ _. tt)
 
-pub turn-within : (v : Slave) → Within (turnIn v)
-turn-within v = turn-holds Within v tt (packet-within (v .session)) (λ _. tt)
+pub turn-within : (s : List ℕ) → Within s (turnIn (viewOf s))
+unfolding viewOf sessionOf
+turn-within s = turn-holds (Within s) (viewOf s) tt (λ l h. packet-within s l h) (λ _. tt)

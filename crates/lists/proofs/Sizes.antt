@@ -25,7 +25,7 @@ sent-small : (t : Turn) (s out : List ℕ) → Small (sentBy t s out .slotted)
 unfolding sentBy
 sent-small Nobody s out = tt
 sent-small Answer s out = write-small (answerOf s) (ctrOf s) out
-sent-small (Packet k) s out = write-small (packetOf s k) (ctrOf s) out
+sent-small (Packet l o) s out = write-small (packetOf s l o) (ctrOf s) out
 
 pub slot-small : (s out : List ℕ) → Small (slotOf s out .slotted)
 unfolding slotOf

@@ -1,8 +1,12 @@
 -- One list more at an event. Assumes nothing.
-use mathlib.Core.Path.{_≡_, _∙_}
+use mathlib.Core.Path.{_≡_, refl, _∙_}
 use mathlib.Core.List.{List}
-use Prim.Native.Nat.{ℕ, suc, _+_}
+use Prim.Native.Nat.{ℕ, zero, suc, _+_}
+use Rattle.state.specs.Pool.{firstOdt, odtCount}
 use Rattle.model.specs.declared.Sampling.{Sampling}
+use Rattle.model.specs.declared.Sampling.the-variants.{Idle, Sampled, Missed}
+use Rattle.lists.proofs.Entries.{Alike}
+use Rattle.lists.proofs.Gathered.{captured-alike}
 use Rattle.lists.specs.Event.{samplingOf, sampledState, sampledBy, missedBy, tally, Counts}
 
 pub counts-next : (s₀ : List ℕ) (event clock : ℕ) (cal meas : List ℕ) (l : ℕ) {s t : List ℕ} {n m : ℕ} {c : Sampling}
@@ -14,3 +18,17 @@ counts-next s₀ event clock cal meas l r e f = record {
   sampled = rw (r .sampled, e, r .state);
   missed = rw (r .missed, e, r .state);
 }
+
+-- an event changes packets alone
+sampled-alike : (c : Sampling) (s : List ℕ) (l clock : ℕ) (cal meas : List ℕ) → Alike (sampledState c s l clock cal meas) s
+unfolding sampledState
+sampled-alike Idle s l clock cal meas j b = refl
+sampled-alike Sampled s l clock cal meas j b = captured-alike s (firstOdt s l) clock cal meas (odtCount s l) j b
+sampled-alike Missed s l clock cal meas j b = refl
+
+pub tally-alike : (s : List ℕ) (event clock : ℕ) (cal meas : List ℕ) (n : ℕ) → Alike (tally s event clock cal meas n .state) s
+unfolding tally
+tally-alike s event clock cal meas zero j b = refl
+tally-alike s event clock cal meas (suc n) j b =
+    let t : List ℕ = tally s event clock cal meas n .state in
+    sampled-alike (samplingOf t n event) t n clock cal meas j b ∙ tally-alike s event clock cal meas n j b

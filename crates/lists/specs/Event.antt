@@ -6,7 +6,8 @@ use mathlib.Core.List.{List, _∷_}
 use lib.Dec.{leb}
 use lib.ListN.{length}
 use lib.Seq.{sets}
-use Rattle.state.specs.Layout.{lists, events, sampleAt, firstOdt, odtCount}
+use Rattle.state.specs.Layout.{events, sampleAt}
+use Rattle.state.specs.Pool.{listCount, firstOdt, odtCount}
 use Rattle.state.specs.State.{consistent}
 use Rattle.model.specs.Calls.{samplingIn, contentsIn}
 use Rattle.model.specs.Whole.{isSampled, isMissed}
@@ -20,21 +21,21 @@ use Rattle.words.specs.declared.Evented.the-variants.{Done, BadEvent, NoState}
 abbrev pub samplingOf : List ℕ → ℕ → ℕ → Sampling
 samplingOf s l event = samplingIn (sessionOf s) l event
 
--- the packet of ODT k, without its number, as the memories are now
-abbrev pub contentsOf : List ℕ → ℕ → ℕ → List ℕ → List ℕ → List ℕ
-contentsOf s k clock cal meas = contentsIn k clock cal meas (odtOf s k)
+-- the packet of the list's ODT o, without its number, as the memories are now; its first ODT is k
+abbrev pub contentsOf : List ℕ → ℕ → ℕ → ℕ → List ℕ → List ℕ → List ℕ
+contentsOf s k o clock cal meas = contentsIn o clock cal meas (odtOf s (k + o))
 
 -- it is stored after its length
 unfoldable pub stored : List ℕ → ℕ → List ℕ → List ℕ
 stored s k bs = sets s (sampleAt k) (length bs ∷ bs)
 
--- of the n ODTs from k on, each is captured whole
+-- of the list's n ODTs, of which k is the first, each is captured whole
 unfoldable pub capturedOdts : List ℕ → ℕ → ℕ → List ℕ → List ℕ → ℕ → List ℕ
 capturedOdts s k clock cal meas zero = s
-capturedOdts s k clock cal meas (suc n) = stored (capturedOdts s k clock cal meas n) (k + n) (contentsOf s (k + n) clock cal meas)
+capturedOdts s k clock cal meas (suc n) = stored (capturedOdts s k clock cal meas n) (k + n) (contentsOf s k n clock cal meas)
 
 abbrev pub captured : List ℕ → ℕ → ℕ → List ℕ → List ℕ → List ℕ
-captured s l clock cal meas = capturedOdts s (firstOdt l) clock cal meas (odtCount l)
+captured s l clock cal meas = capturedOdts s (firstOdt s l) clock cal meas (odtCount s l)
 
 -- the state, and how many lists sampled and missed
 pub record Tally : Type 0 where
@@ -81,7 +82,7 @@ unfoldable pub eventOf : List ℕ → List ℕ → List ℕ → ℕ → ℕ → 
 eventOf s cal meas event clock =
     cond (consistent s)
     (cond (leb events event) (record { evented = BadEvent; state = s })
-    (happened (tally s event clock cal meas lists)))
+    (happened (tally s event clock cal meas (listCount s))))
     (record { evented = NoState; state = s })
 
 -- a function that answers e and leaves s does what h says

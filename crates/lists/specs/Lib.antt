@@ -1,4 +1,5 @@
--- The lists, an event and a slot. `Lists`: how the lists read and change. `Event`, `Slot`: the two calls that are about them.
+-- The lists, an event and a slot. `Lists`: how the lists read and change. `Alloc`: how they are freed and allocated. `Event`, `Slot`: the two calls that are about them.
 pub mod Lists
+pub mod Alloc
 pub mod Event
 pub mod Slot

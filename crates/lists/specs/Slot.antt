@@ -9,7 +9,8 @@ use Rattle.line.specs.Message.{room}
 use Rattle.line.specs.Writer.{Sent, writeOf}
 use Rattle.line.specs.declared.Written.{Written}
 use Rattle.line.specs.declared.Written.the-variants.{Frame, BadLength, NoRoom}
-use Rattle.state.specs.Layout.{ctrAt, servedAt, lastAt, sampleAt, answerAt, answerBytesAt, listOf}
+use Rattle.state.specs.Layout.{ctrAt, roundAt, lastAt, sampleAt, answerAt, answerBytesAt}
+use Rattle.state.specs.Pool.{firstOdt}
 use Rattle.state.specs.State.{consistent, ctrOf, answerKind, answerOf}
 use Rattle.model.specs.Calls.{turnIn, packetFrom}
 use Rattle.model.specs.View.{sessionOf, viewOf}
@@ -22,9 +23,9 @@ use Rattle.words.specs.declared.Slotted.the-variants.{Idle, Sent as Slotted·Se
 abbrev pub turnOf : List ℕ → Turn
 turnOf s = turnIn (viewOf s)
 
--- the packet of ODT k: its number, and what was captured
-abbrev pub packetOf : List ℕ → ℕ → List ℕ
-packetOf s k = packetFrom (sessionOf s) k
+-- the packet of list l's ODT o: its number, and what was captured
+abbrev pub packetOf : List ℕ → ℕ → ℕ → List ℕ
+packetOf s l o = packetFrom (sessionOf s) l o
 
 -- what the call answers, and the state and the lent bytes after it
 pub record Slot : Type 0 where
@@ -48,14 +49,14 @@ ctrNext s = (ctrOf s + 1) % 256
 unfoldable pub answerSent : List ℕ → List ℕ
 answerSent s = set (set (set (set s answerBytesAt (answerKind s)) answerAt 0) ctrAt (ctrNext s)) lastAt 1
 
--- ODT k's packet no longer waits; its list was served last; the last frame was no answer
-unfoldable pub packetSent : List ℕ → ℕ → List ℕ
-packetSent s k = set (set (set (set s (sampleAt k) 0) ctrAt (ctrNext s)) servedAt (listOf k)) lastAt 0
+-- the packet of list l's ODT o no longer waits; the round then begins with the list after it; the last frame was no answer
+unfoldable pub packetSent : List ℕ → ℕ → ℕ → List ℕ
+packetSent s l o = set (set (set (set s (sampleAt (firstOdt s l + o)) 0) ctrAt (ctrNext s)) roundAt (l + 1)) lastAt 0
 
 unfoldable pub sentBy : Turn → List ℕ → List ℕ → Slot
 sentBy Nobody s out = record { slotted = Idle; state = s; out = out }
 sentBy Answer s out = sentAs (writeOf (answerOf s) (ctrOf s) out) (answerSent s)
-sentBy (Packet k) s out = sentAs (writeOf (packetOf s k) (ctrOf s) out) (packetSent s k)
+sentBy (Packet l o) s out = sentAs (writeOf (packetOf s l o) (ctrOf s) out) (packetSent s l o)
 
 unfoldable pub slotOf : List ℕ → List ℕ → Slot
 slotOf s out =

@@ -1,28 +1,30 @@
 // The lists: how commands change them, for any bytes.
 ghost use mathlib.Core.Path.{_≡_};
 ghost use mathlib.Core.Bool.{cond};
-ghost use Prim.Native.Nat.{_+_, _≤_, _<_};
+ghost use Prim.Native.Nat.{_+_, _<_};
 ghost use lib.ListN.{length, set};
-ghost use Rattle.state.specs.Layout.{lists, selectedAt, listOf, size};
-ghost use Rattle.state.specs.Bytes.{cleared};
-ghost use Rattle.lists.specs.Lists.{isState, switched, stopped, started, listCleared, modeSet, tagOf, entryReached, headOf, entrySet, stopEach, startOne, startSelected, stopOne, stopSelected};
+ghost use Rattle.state.specs.Layout.{lists, selectedAt, size};
+ghost use Rattle.state.specs.Pool.{listCount, firstOdt};
+ghost use Rattle.lists.specs.Lists.{isState, switched, stopped, started, listCleared, modeSet, tagOf, headOf, entrySet, stopEach, startOne, startSelected, stopOne, stopSelected};
+use crate::alloc::put_zeros;
 use crate::list::runs;
 use crate::list::selected;
-use crate::list::used;
 use state::bytes::clear;
 use state::bytes::low;
 use state::bytes::put;
 use state::bytes::wide;
 use state::fields::drop_packets;
 use state::layout;
+use state::pool;
 use words::Extension;
 
 // A list switched on or off: its running flag, with all packets dropped.
 fn switch(s: &mut [u8], l: u8, on: u8)
     ensures { λ _. ⌜ now (s .exit) ≡ switched (now (s .entry)) l on ⌝ }
 {
+    let odts = pool::odts(s, l as u16);
     put(s, layout::running_at(l as u16), on);
-    drop_packets(s, layout::first_odt(l), layout::ODTS);
+    drop_packets(s, odts.first, odts.count);
 }
 
 pub fn stop(s: &mut [u8], l: u8)
@@ -43,13 +45,15 @@ pub fn select(s: &mut [u8], l: u8, on: u8)
     put(s, layout::selected_at(l as u16), on);
 }
 
-// As after E3.
+// As after E3: each of its entries is zeros.
 pub fn clear_list(s: &mut [u8], l: u8)
     ensures { λ _. ⌜ now (s .exit) ≡ listCleared (now (s .entry)) l ⌝ }
 {
+    let span = pool::span(s, l as u16);
+    let end = pool::entries(s, span.odt + span.odts).first;
     clear(s, layout::mode_at(l as u16), layout::LIST_SIZE);
-    let at = layout::used_at(layout::first_odt(l));
-    clear(s, at, layout::ODTS as usize);
+    let at = layout::entries_at(span.entry);
+    put_zeros(s, at, layout::entries_at(end) - at);
 }
 
 pub fn set_mode(s: &mut [u8], l: u8, event: u8)
@@ -72,31 +76,6 @@ fn tag(extension: Extension) -> u8
     }
 }
 
-// n zeros from `at`. Each is asked for by itself: as one run they become a call, and a received byte gets that call's stack.
-fn put_zeros(s: &mut [u8], at: usize, n: usize)
-    requires { ⌜ at + n ≤ 4294967295 ⌝ }
-    ensures { λ _. ⌜ now (s .exit) ≡ cleared (now (s .entry)) at n ⌝ }
-{
-    let mut i = 0;
-    while i < n {
-        put(s, at + i, 0);
-        i += 1;
-    }
-}
-
-// An entry comes into use, if it is not: it and those before it that were not are zeros.
-fn reach(s: &mut [u8], k: u16, e: u8)
-    ensures { λ _. ⌜ now (s .exit) ≡ entryReached (now (s .entry)) k e ⌝ }
-{
-    let n = used(s, k);
-    if e < n {
-        return;
-    }
-    let more = (e - n) as usize + 1;
-    put_zeros(s, layout::entry_at(k, n), layout::ENTRY_SIZE * more);
-    put(s, layout::used_at(k), std::num::wrapping_add_u8(e, 1));
-}
-
 // An entry's first byte: three bits of size, one of extension, four of address.
 fn head(n: u8, extension: Extension, address: u32) -> u8
     ensures { λ r. ⌜ r ≡ headOf n extension address ⌝ }
@@ -104,12 +83,13 @@ fn head(n: u8, extension: Extension, address: u32) -> u8
     ((32 * wide(n) + 16 * wide(tag(extension)) + address / 256) % 256) as u8
 }
 
-pub fn set_entry(s: &mut [u8], k: u16, e: u8, n: u8, extension: Extension, address: u32)
-    ensures { λ _. ⌜ now (s .exit) ≡ entrySet (now (s .entry)) (listOf k) k e n extension address ⌝ }
+// Entry e of a list's ODT; the list no longer counts as started.
+pub fn set_entry(s: &mut [u8], l: u8, odt: u8, e: u8, n: u8, extension: Extension, address: u32)
+    ensures { λ _. ⌜ now (s .exit) ≡ entrySet (now (s .entry)) l (firstOdt (now (s .entry)) l + odt) e n extension address ⌝ }
 {
-    put(s, layout::running_at(layout::list_of(k)), 0);
-    reach(s, k, e);
-    let at = layout::entry_at(k, e);
+    let k = pool::odts(s, l as u16).first + odt as u16;
+    let at = layout::entries_at(pool::entries(s, k).first + e as u16);
+    put(s, layout::running_at(l as u16), 0);
     put(s, at, head(n, extension, address));
     put(s, at + 1, low(address));
 }
@@ -117,10 +97,11 @@ pub fn set_entry(s: &mut [u8], k: u16, e: u8, n: u8, extension: Extension, addre
 // ---- START_STOP_SYNCH, list by list
 
 pub fn stop_all(s: &mut [u8])
-    ensures { λ _. ⌜ now (s .exit) ≡ stopEach (now (s .entry)) lists ⌝ }
+    ensures { λ _. ⌜ now (s .exit) ≡ stopEach (now (s .entry)) (listCount (now (s .entry))) ⌝ }
 {
+    let n = pool::list_count(s);
     let mut l = 0;
-    while l < layout::LISTS {
+    while l < n {
         stop(s, l);
         select(s, l, 0);
         l += 1;
@@ -128,7 +109,7 @@ pub fn stop_all(s: &mut [u8])
 }
 
 fn start_one(s: &mut [u8], l: u8)
-    requires { ⌜ (length (now s) ≡ size) × (l < lists) ⌝ }
+    requires { ⌜ (length (now s) ≡ size) × (l < listCount (now s)) ⌝ }
     ensures { λ _. ⌜ now (s .exit) ≡ startOne (now (s .entry)) l ⌝ }
 {
     if selected(s, l) {
@@ -140,10 +121,11 @@ fn start_one(s: &mut [u8], l: u8)
 
 fn start_each(s: &mut [u8])
     requires { ⌜ length (now s) ≡ size ⌝ }
-    ensures { λ _. ⌜ now (s .exit) ≡ startSelected (now (s .entry)) lists ⌝ }
+    ensures { λ _. ⌜ now (s .exit) ≡ startSelected (now (s .entry)) (listCount (now (s .entry))) ⌝ }
 {
+    let n = pool::list_count(s);
     let mut l = 0;
-    while l < layout::LISTS {
+    while l < n {
         start_one(s, l);
         select(s, l, 0);
         l += 1;
@@ -152,7 +134,7 @@ fn start_each(s: &mut [u8])
 
 // In a state of the right size, and no other.
 pub fn start_selected(s: &mut [u8])
-    ensures { λ _. ⌜ now (s .exit) ≡ cond (isState (now (s .entry))) (startSelected (now (s .entry)) lists) (now (s .entry)) ⌝ }
+    ensures { λ _. ⌜ now (s .exit) ≡ cond (isState (now (s .entry))) (startSelected (now (s .entry)) (listCount (now (s .entry)))) (now (s .entry)) ⌝ }
 {
     if s.len() == layout::STATE {
         start_each(s);
@@ -170,10 +152,11 @@ fn stop_one(s: &mut [u8], l: u8)
 
 fn stop_each_selected(s: &mut [u8])
     requires { ⌜ length (now s) ≡ size ⌝ }
-    ensures { λ _. ⌜ now (s .exit) ≡ stopSelected (now (s .entry)) lists ⌝ }
+    ensures { λ _. ⌜ now (s .exit) ≡ stopSelected (now (s .entry)) (listCount (now (s .entry))) ⌝ }
 {
+    let n = pool::list_count(s);
     let mut l = 0;
-    while l < layout::LISTS {
+    while l < n {
         stop_one(s, l);
         select(s, l, 0);
         l += 1;
@@ -181,7 +164,7 @@ fn stop_each_selected(s: &mut [u8])
 }
 
 pub fn stop_selected(s: &mut [u8])
-    ensures { λ _. ⌜ now (s .exit) ≡ cond (isState (now (s .entry))) (stopSelected (now (s .entry)) lists) (now (s .entry)) ⌝ }
+    ensures { λ _. ⌜ now (s .exit) ≡ cond (isState (now (s .entry))) (stopSelected (now (s .entry)) (listCount (now (s .entry)))) (now (s .entry)) ⌝ }
 {
     if s.len() == layout::STATE {
         stop_each_selected(s);

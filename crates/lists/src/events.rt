@@ -4,39 +4,24 @@ ghost use mathlib.Core.Bool.{true};
 ghost use Prim.Native.Nat.{_+_, _≤_, _<_};
 ghost use lib.ListN.{length};
 ghost use lib.Seq.{sets};
-ghost use Rattle.state.specs.Layout.{lists, odts, entries, allOdts, events, odtMost, entryMost, clockSize, size, sampleAt};
-ghost use Rattle.state.specs.Memory.{reach, byteOf, bytesOf};
-ghost use Rattle.state.specs.Lists.{sizeOf};
-ghost use Rattle.lists.specs.Lists.{odtBytes};
+ghost use Rattle.state.specs.Layout.{lists, allOdts, allEntries, events, odtMost, entryMost, clockSize, size, sampleAt};
+ghost use Rattle.state.specs.Pool.{listCount, firstEntry, entryCount};
+ghost use Rattle.state.specs.Memory.{reach, pick, byteOf, bytesOf};
+ghost use Rattle.state.specs.Lists.{extensionAt, addressIn};
+ghost use Rattle.lists.specs.Lists.{odtBytes, fitOf, Spans};
 ghost use Rattle.lists.specs.Event.{samplingOf, contentsOf, stored, captured, sampledState, sampledBy, missedBy, Counts, tally, Happens, eventOf};
-ghost use Rattle.model.specs.Model.{eachFits};
-ghost use Rattle.model.specs.Calls.{blockIn, blocksIn, leadOf};
-ghost use Rattle.model.specs.View.{entryOf, odtOf, sessionOf};
+ghost use Rattle.model.specs.Calls.{blocksIn, leadOf};
+ghost use Rattle.model.specs.View.{odtOf};
 use crate::Counted;
 use crate::list;
 use model::Sampling;
+use state::Span;
 use state::fields;
 use state::layout;
 use state::memory::reach;
+use state::pool;
 use words::Evented;
 use words::Extension;
-
-// What an event is to a list.
-fn sampling(s: &[u8], l: u8, event: u8) -> Sampling
-    requires { ⌜ (length (now s) ≡ size) × (l < lists) × (event < events) ⌝ }
-    ensures { λ r. ⌜ r ≡ samplingOf (now (s .entry)) l event ⌝ }
-{
-    if list::mode(s, l) != event + 1 {
-        return Sampling::Idle;
-    }
-    if !list::runs(s, l) {
-        return Sampling::Idle;
-    }
-    if list::is_unsent(s, l) {
-        return Sampling::Missed;
-    }
-    Sampling::Sampled
-}
 
 // A byte of a memory of which so many can be addressed, 0 where it is not inside.
 fn byte_below(mem: &[u8], at: u32, end: u32) -> u8
@@ -59,16 +44,16 @@ fn take_block(s: &mut [u8], to: usize, mem: &[u8], address: u16, n: u8)
     }
 }
 
-// The n bytes of one entry.
-fn take_entry(s: &mut [u8], to: usize, cal: &[u8], meas: &[u8], k: u16, e: u8, n: u8)
-    requires { ⌜ (length (now s) ≡ size) × (k < allOdts) × (e < entries) × (n ≡ sizeOf (now s) k e) × (n ≤ entryMost) × (to + n ≤ length (now s)) ⌝ }
-    ensures { λ _. ⌜ now (s .exit) ≡ sets (now (s .entry)) to (blockIn (entryOf (now (s .entry)) k e) (now (cal .entry)) (now (meas .entry))) ⌝ }
+// The n bytes of the entry that lies there.
+fn take_entry(s: &mut [u8], to: usize, cal: &[u8], meas: &[u8], at: usize, n: u8)
+    requires { ⌜ (length (now s) ≡ size) × (at + 1 < length (now s)) × (n ≤ entryMost) × (to + n ≤ length (now s)) ⌝ }
+    ensures { λ _. ⌜ now (s .exit) ≡ sets (now (s .entry)) to (bytesOf (pick (extensionAt (now (s .entry)) at) (now (cal .entry)) (now (meas .entry))) (addressIn (now (s .entry)) at) n) ⌝ }
 {
     if n == 0 {
         return;
     }
-    let address = list::entry_address(s, k, e);
-    let extension = list::entry_extension(s, k, e);
+    let address = list::entry_address(s, at);
+    let extension = list::entry_extension(s, at);
     match extension {
         Extension::Calibration => take_block(s, to, cal, address, n),
         Extension::Measured => take_block(s, to, meas, address, n),
@@ -76,28 +61,29 @@ fn take_entry(s: &mut [u8], to: usize, cal: &[u8], meas: &[u8], k: u16, e: u8, n
 }
 
 // The bytes of an ODT's entries, in entry order; says where they end. They go past all entries.
-fn gather(s: &mut [u8], from: usize, cal: &[u8], meas: &[u8], k: u16) -> usize
-    requires { ⌜ (length (now s) ≡ size) × (k < allOdts) × (sampleAt 0 ≤ from) × (from + odtBytes (now s) k ≤ size) ⌝ }
-    ensures { λ r. ⌜ (now (s .exit) ≡ sets (now (s .entry)) from (blocksIn (odtOf (now (s .entry)) k) (now (cal .entry)) (now (meas .entry)) entries)) × (r ≡ from + odtBytes (now (s .entry)) k) ⌝ }
+fn gather(s: &mut [u8], from: usize, cal: &[u8], meas: &[u8], k: u16, first: u16, n: u16) -> usize
+    requires { ⌜ (length (now s) ≡ size) × (k < allOdts) × (first ≡ firstEntry (now s) k) × (n ≡ entryCount (now s) k) × (first + n ≤ allEntries) × (sampleAt 0 ≤ from) × (from + odtBytes (now s) k ≤ size) ⌝ }
+    ensures { λ r. ⌜ (now (s .exit) ≡ sets (now (s .entry)) from (blocksIn (odtOf (now (s .entry)) k) (now (cal .entry)) (now (meas .entry)) n)) × (r ≡ from + odtBytes (now (s .entry)) k) ⌝ }
 {
-    let used = list::used(s, k);
+    let mut at = layout::entries_at(first);
     let mut to = from;
-    let mut e: u8 = 0;
-    while e < used {
-        let n = list::entry_size(s, k, e);
-        take_entry(s, to, cal, meas, k, e, n);
-        to += n as usize;
+    let mut e: u16 = 0;
+    while e < n {
+        let m = list::entry_size(s, at);
+        take_entry(s, to, cal, meas, at, m);
+        to += m as usize;
+        at += layout::ENTRY_SIZE;
         e += 1;
     }
     to
 }
 
 // In a list's first ODT the clock; says where the bytes begin.
-fn lead(s: &mut [u8], at: usize, k: u16, clock: u16) -> usize
+fn lead(s: &mut [u8], at: usize, odt: u16, clock: u16) -> usize
     requires { ⌜ (length (now s) ≡ size) × (at + clockSize ≤ size) ⌝ }
-    ensures { λ r. ⌜ (now (s .exit) ≡ sets (now (s .entry)) at (leadOf k clock)) × (r ≡ at + length (leadOf k clock)) ⌝ }
+    ensures { λ r. ⌜ (now (s .exit) ≡ sets (now (s .entry)) at (leadOf odt clock)) × (r ≡ at + length (leadOf odt clock)) ⌝ }
 {
-    if layout::is_first(k) {
+    if layout::is_first(odt) {
         s[at] = (clock % 256) as u8;
         s[at + 1] = (clock / 256 % 256) as u8;
         return at + layout::CLOCK_SIZE as usize;
@@ -105,44 +91,61 @@ fn lead(s: &mut [u8], at: usize, k: u16, clock: u16) -> usize
     at
 }
 
-// One ODT: its length, in a list's first ODT the clock, then its bytes.
-fn capture_odt(s: &mut [u8], cal: &[u8], meas: &[u8], k: u16, clock: u16)
-    requires { ⌜ (length (now s) ≡ size) × (k < allOdts) × (odtBytes (now s) k ≤ odtMost k) ⌝ }
-    ensures { λ _. ⌜ now (s .exit) ≡ stored (now (s .entry)) k (contentsOf (now (s .entry)) k clock (now (cal .entry)) (now (meas .entry))) ⌝ }
+// One ODT of the list whose first is k: its length, in the first ODT the clock, then its n bytes from entry `first` on.
+fn capture_odt(
+    s: &mut [u8],
+    cal: &[u8],
+    meas: &[u8],
+    k: u16,
+    odt: u16,
+    first: u16,
+    n: u16,
+    clock: u16,
+)
+    requires { ⌜ (length (now s) ≡ size) × (k + odt < allOdts) × (first ≡ firstEntry (now s) (k + odt)) × (n ≡ entryCount (now s) (k + odt)) × (first + n ≤ allEntries) × (odtBytes (now s) (k + odt) ≤ odtMost odt) ⌝ }
+    ensures { λ _. ⌜ now (s .exit) ≡ stored (now (s .entry)) (k + odt) (contentsOf (now (s .entry)) k odt clock (now (cal .entry)) (now (meas .entry))) ⌝ }
 {
-    let at = layout::sample_at(k);
-    let from = lead(s, at + 1, k, clock);
-    let end = gather(s, from, cal, meas, k);
+    let at = layout::sample_at(k + odt);
+    let from = lead(s, at + 1, odt, clock);
+    let end = gather(s, from, cal, meas, k + odt, first, n);
     s[at] = (end - at - 1) as u8;
 }
 
 // All ODTs at once: nothing is read when they are sent.
-fn capture(s: &mut [u8], cal: &[u8], meas: &[u8], l: u8, clock: u16)
-    requires { ⌜ (length (now s) ≡ size) × (l < lists) × (eachFits l (sessionOf (now s) .list l) odts ≡ true) ⌝ }
+fn capture(s: &mut [u8], cal: &[u8], meas: &[u8], l: u8, span: Span, clock: u16)
+    requires { ⌜ (length (now s) ≡ size) × (l < listCount (now s)) × (fitOf (now s) l ≡ true) × Spans (now s) l (span .odt) (span .odts) (span .entry) ⌝ }
     ensures { λ _. ⌜ now (s .exit) ≡ captured (now (s .entry)) l clock (now (cal .entry)) (now (meas .entry)) ⌝ }
 {
-    let k = layout::first_odt(l);
-    let mut j: u8 = 0;
-    while j < layout::ODTS {
-        capture_odt(s, cal, meas, k + j as u16, clock);
-        j += 1;
+    let mut first = span.entry;
+    let mut o: u16 = 0;
+    while o < span.odts {
+        let n = list::entries_in(s, span.odt + o, first);
+        capture_odt(s, cal, meas, span.odt, o, first, n, clock);
+        first += n;
+        o += 1;
     }
 }
 
-// One list.
+// One list: what the event is to it, and its sample.
 fn sample(s: &mut [u8], cal: &[u8], meas: &[u8], l: u8, event: u8, clock: u16) -> Sampling
-    requires { ⌜ (length (now s) ≡ size) × (l < lists) × (event < events) ⌝ }
+    requires { ⌜ (length (now s) ≡ size) × (l < listCount (now s)) × (event < events) ⌝ }
     ensures { λ r. ⌜ (r ≡ samplingOf (now (s .entry)) l event) × (now (s .exit) ≡ sampledState r (now (s .entry)) l clock (now (cal .entry)) (now (meas .entry))) ⌝ }
 {
-    let c = sampling(s, l, event);
-    match c {
-        Sampling::Idle => Sampling::Idle,
-        Sampling::Sampled => {
-            capture(s, cal, meas, l, clock);
-            Sampling::Sampled
-        }
-        Sampling::Missed => Sampling::Missed,
+    if list::mode(s, l) != event + 1 {
+        return Sampling::Idle;
     }
+    if !list::started(s, l) {
+        return Sampling::Idle;
+    }
+    let span = list::span(s, l);
+    if !list::fit(s, l, span) {
+        return Sampling::Idle;
+    }
+    if list::is_unsent(s, l, span) {
+        return Sampling::Missed;
+    }
+    capture(s, cal, meas, l, span, clock);
+    Sampling::Sampled
 }
 
 fn sampled_by(c: Sampling) -> u8
@@ -168,12 +171,13 @@ fn missed_by(c: Sampling) -> u8
 // All lists: how many sampled and how many missed.
 fn happen(s: &mut [u8], cal: &[u8], meas: &[u8], event: u8, clock: u16) -> Counted
     requires { ⌜ (length (now s) ≡ size) × (event < events) ⌝ }
-    ensures { λ r. ⌜ Counts (tally (now (s .entry)) event clock (now (cal .entry)) (now (meas .entry)) lists) (now (s .exit)) (r .sampled) (r .missed) ⌝ }
+    ensures { λ r. ⌜ Counts (tally (now (s .entry)) event clock (now (cal .entry)) (now (meas .entry)) (listCount (now (s .entry)))) (now (s .exit)) (r .sampled) (r .missed) ⌝ }
 {
     let mut sampled: u8 = 0;
     let mut missed: u8 = 0;
+    let n = pool::list_count(s);
     let mut l: u8 = 0;
-    while l < layout::LISTS {
+    while l < n {
         let c = sample(s, cal, meas, l, event, clock);
         sampled += sampled_by(c);
         missed += missed_by(c);

@@ -1,19 +1,21 @@
 // The lists: how they read, for any bytes of a state. Each goes straight to its bytes: events and slots read them often.
 ghost use mathlib.Core.Path.{_≡_};
 ghost use mathlib.Core.Bool.{cond, false};
-ghost use Prim.Native.Nat.{_*_, _≤_, _<_};
+ghost use Prim.Native.Nat.{_+_, _*_, _≤_, _<_};
 ghost use lib.Dec.{eqb};
 ghost use lib.ListN.{length};
-ghost use Rattle.state.specs.Layout.{lists, odts, allOdts, entries, events, storedMost, entryMost, size};
-ghost use Rattle.state.specs.State.{flagOf};
-ghost use Rattle.state.specs.Lists.{usedOf, sizeOf, extensionOf, addressOf, modeOf, selectedOf, leastOf, storedLength};
+ghost use Rattle.state.specs.Layout.{lists, allOdts, allEntries, events, storedMost, entryMost, runningAt, size};
+ghost use Rattle.state.specs.Pool.{listCount, odtCount, firstEntry, entryCount};
+ghost use Rattle.state.specs.State.{flagOf, openOf};
+ghost use Rattle.state.specs.Lists.{sizeAt, extensionAt, addressIn, modeOf, selectedOf, storedLength};
 ghost use Rattle.model.specs.Model.{allBytes, eachFits, unsent, someRuns};
 ghost use Rattle.model.specs.Judge.{startable, allStartable};
 ghost use Rattle.model.specs.View.{sessionOf};
-ghost use Rattle.lists.specs.Lists.{odtBytes, fitOf, runsOf};
-use state::bytes::get;
+ghost use Rattle.lists.specs.Lists.{odtBytes, fitOf, runsOf, Spans};
+use state::Span;
 use state::bytes::wide;
 use state::layout;
+use state::pool;
 use words::Extension;
 
 // A flag is yes only if its byte is 1.
@@ -26,61 +28,63 @@ pub fn on(s: &[u8], at: usize) -> bool
 
 // ---- entries
 
-// How many entries of an ODT are in use; more than it has reads as none. For any state and any ODT.
-pub fn used(s: &[u8], k: u16) -> u8
-    ensures { λ r. ⌜ (r ≡ usedOf (now (s .entry)) k) × (r ≤ entries) ⌝ }
+// How many entries an ODT has, of which the first is known.
+pub fn entries_in(s: &[u8], k: u16, first: u16) -> u16
+    requires { ⌜ (length (now s) ≡ size) × (k < allOdts) × (first ≡ firstEntry (now s) k) × (first ≤ allEntries) ⌝ }
+    ensures { λ r. ⌜ (r ≡ entryCount (now (s .entry)) k) × (first + r ≤ allEntries) ⌝ }
 {
-    let n = get(s, layout::used_at(k));
-    if layout::ENTRIES < n {
-        return 0;
+    let n = s[layout::COUNTS + k as usize] as u16;
+    let room = layout::ALL_ENTRIES_U16 - first;
+    if room < n {
+        return room;
     }
     n
 }
 
 // An entry's size; above 4 it reads as 0.
-pub fn entry_size(s: &[u8], k: u16, e: u8) -> u8
-    requires { ⌜ (length (now s) ≡ size) × (k < allOdts) × (e < entries) ⌝ }
-    ensures { λ r. ⌜ (r ≡ sizeOf (now (s .entry)) k e) × (r ≤ entryMost) ⌝ }
+pub fn entry_size(s: &[u8], at: usize) -> u8
+    requires { ⌜ at < length (now s) ⌝ }
+    ensures { λ r. ⌜ (r ≡ sizeAt (now (s .entry)) at) × (r ≤ entryMost) ⌝ }
 {
-    let n = s[layout::entry_at(k, e)] / 32;
+    let n = s[at] / 32;
     if layout::ENTRY_MOST < n {
         return 0;
     }
     n
 }
 
-pub fn entry_extension(s: &[u8], k: u16, e: u8) -> Extension
-    requires { ⌜ (length (now s) ≡ size) × (k < allOdts) × (e < entries) ⌝ }
-    ensures { λ r. ⌜ r ≡ extensionOf (now (s .entry)) k e ⌝ }
+pub fn entry_extension(s: &[u8], at: usize) -> Extension
+    requires { ⌜ at < length (now s) ⌝ }
+    ensures { λ r. ⌜ r ≡ extensionAt (now (s .entry)) at ⌝ }
 {
-    if s[layout::entry_at(k, e)] / 16 % 2 == 1 {
+    if s[at] / 16 % 2 == 1 {
         Extension::Measured
     } else {
         Extension::Calibration
     }
 }
 
-pub fn entry_address(s: &[u8], k: u16, e: u8) -> u16
-    requires { ⌜ (length (now s) ≡ size) × (k < allOdts) × (e < entries) ⌝ }
-    ensures { λ r. ⌜ r ≡ addressOf (now (s .entry)) k e ⌝ }
+pub fn entry_address(s: &[u8], at: usize) -> u16
+    requires { ⌜ at + 1 < length (now s) ⌝ }
+    ensures { λ r. ⌜ r ≡ addressIn (now (s .entry)) at ⌝ }
 {
-    let at = layout::entry_at(k, e);
     (wide(s[at + 1]) + 256 * (wide(s[at]) % 16)) as u16
 }
 
-// The bytes of an ODT.
-pub fn odt_bytes(s: &[u8], k: u16) -> u8
-    requires { ⌜ (length (now s) ≡ size) × (k < allOdts) ⌝ }
-    ensures { λ r. ⌜ (r ≡ odtBytes (now (s .entry)) k) × (r ≤ entries * entryMost) ⌝ }
+// The bytes of an ODT, of which the first entry and how many are known.
+pub fn odt_bytes(s: &[u8], k: u16, first: u16, n: u16) -> u16
+    requires { ⌜ (length (now s) ≡ size) × (first ≡ firstEntry (now s) k) × (n ≡ entryCount (now s) k) × (first + n ≤ allEntries) ⌝ }
+    ensures { λ r. ⌜ (r ≡ odtBytes (now (s .entry)) k) × (r ≤ allEntries * entryMost) ⌝ }
 {
-    let used = used(s, k);
-    let mut n = 0;
-    let mut e = 0;
-    while e < used {
-        n += entry_size(s, k, e);
+    let mut at = layout::entries_at(first);
+    let mut sum: u16 = 0;
+    let mut e: u16 = 0;
+    while e < n {
+        sum += entry_size(s, at) as u16;
+        at += layout::ENTRY_SIZE;
         e += 1;
     }
-    n
+    sum
 }
 
 // ---- lists
@@ -104,58 +108,77 @@ pub fn selected(s: &[u8], l: u8) -> bool
     on(s, layout::selected_at(l as u16))
 }
 
-// Whether a list's ODTs have some byte, and none has too many.
-fn odts_fit(s: &[u8], l: u8) -> bool
-    requires { ⌜ (length (now s) ≡ size) × (l < lists) ⌝ }
-    ensures { λ r. ⌜ r ≡ cond (eqb (allBytes l (sessionOf (now (s .entry)) .list l) odts) 0) false (eachFits l (sessionOf (now (s .entry)) .list l) odts) ⌝ }
+// What a list has of the pool.
+pub fn span(s: &[u8], l: u8) -> Span
+    ensures { λ r. ⌜ Spans (now (s .entry)) l (r .odt) (r .odts) (r .entry) ⌝ }
 {
-    let k = layout::first_odt(l);
-    let mut n: u16 = 0;
-    let mut j: u8 = 0;
-    while j < layout::ODTS {
-        let m = odt_bytes(s, k + j as u16);
-        if layout::odt_most(k + j as u16) < m {
+    pool::span(s, l as u16)
+}
+
+// Whether a list's ODTs have some byte, and none has too many.
+fn odts_fit(s: &[u8], l: u8, span: Span) -> bool
+    requires { ⌜ (length (now s) ≡ size) × (l < listCount (now s)) × Spans (now s) l (span .odt) (span .odts) (span .entry) ⌝ }
+    ensures { λ r. ⌜ r ≡ cond (eqb (allBytes (sessionOf (now (s .entry)) .list l) (odtCount (now (s .entry)) l)) 0) false (eachFits (sessionOf (now (s .entry)) .list l) (odtCount (now (s .entry)) l)) ⌝ }
+{
+    let mut first = span.entry;
+    let mut sum: u16 = 0;
+    let mut o: u16 = 0;
+    while o < span.odts {
+        let k = span.odt + o;
+        let n = entries_in(s, k, first);
+        let m = odt_bytes(s, k, first, n);
+        if layout::odt_most(o) < m {
             return false;
         }
-        n += m as u16;
-        j += 1;
+        first += n;
+        sum += m;
+        o += 1;
     }
-    if n == 0 {
+    if sum == 0 {
         return false;
     }
     true
 }
 
 // Whether a list can be started.
-pub fn fit(s: &[u8], l: u8) -> bool
-    requires { ⌜ (length (now s) ≡ size) × (l < lists) ⌝ }
+pub fn fit(s: &[u8], l: u8, span: Span) -> bool
+    requires { ⌜ (length (now s) ≡ size) × (l < listCount (now s)) × Spans (now s) l (span .odt) (span .odts) (span .entry) ⌝ }
     ensures { λ r. ⌜ r ≡ fitOf (now (s .entry)) l ⌝ }
 {
     if mode(s, l) == 0 {
         return false;
     }
-    odts_fit(s, l)
+    odts_fit(s, l, span)
 }
 
-pub fn runs(s: &[u8], l: u8) -> bool
+// Whether a list was started, in a session that is open.
+pub fn started(s: &[u8], l: u8) -> bool
     requires { ⌜ (length (now s) ≡ size) × (l < lists) ⌝ }
-    ensures { λ r. ⌜ r ≡ runsOf (now (s .entry)) l ⌝ }
+    ensures { λ r. ⌜ r ≡ cond (openOf (now (s .entry))) (flagOf (now (s .entry)) (runningAt l)) false ⌝ }
 {
     if on(s, layout::OPEN) {
-        if on(s, layout::running_at(l as u16)) {
-            return fit(s, l);
-        }
-        return false;
+        return on(s, layout::running_at(l as u16));
     }
     false
 }
 
+pub fn runs(s: &[u8], l: u8) -> bool
+    requires { ⌜ (length (now s) ≡ size) × (l < listCount (now s)) ⌝ }
+    ensures { λ r. ⌜ r ≡ runsOf (now (s .entry)) l ⌝ }
+{
+    if !started(s, l) {
+        return false;
+    }
+    fit(s, l, span(s, l))
+}
+
 pub fn any_runs(s: &[u8]) -> bool
     requires { ⌜ length (now s) ≡ size ⌝ }
-    ensures { λ r. ⌜ r ≡ someRuns (sessionOf (now (s .entry))) lists ⌝ }
+    ensures { λ r. ⌜ r ≡ someRuns (sessionOf (now (s .entry))) (listCount (now (s .entry))) ⌝ }
 {
+    let n = pool::list_count(s);
     let mut l = 0;
-    while l < layout::LISTS {
+    while l < n {
         if runs(s, l) {
             return true;
         }
@@ -166,11 +189,11 @@ pub fn any_runs(s: &[u8]) -> bool
 
 // Whether a list that is selected can be started.
 fn may_start(s: &[u8], l: u8) -> bool
-    requires { ⌜ (length (now s) ≡ size) × (l < lists) ⌝ }
+    requires { ⌜ (length (now s) ≡ size) × (l < listCount (now s)) ⌝ }
     ensures { λ r. ⌜ r ≡ startable (sessionOf (now (s .entry))) l ⌝ }
 {
     if selected(s, l) {
-        return fit(s, l);
+        return fit(s, l, span(s, l));
     }
     true
 }
@@ -178,10 +201,11 @@ fn may_start(s: &[u8], l: u8) -> bool
 // Whether every selected list can be started.
 pub fn all_fit(s: &[u8]) -> bool
     requires { ⌜ length (now s) ≡ size ⌝ }
-    ensures { λ r. ⌜ r ≡ allStartable (sessionOf (now (s .entry))) lists ⌝ }
+    ensures { λ r. ⌜ r ≡ allStartable (sessionOf (now (s .entry))) (listCount (now (s .entry))) ⌝ }
 {
+    let n = pool::list_count(s);
     let mut l = 0;
-    while l < layout::LISTS {
+    while l < n {
         if !may_start(s, l) {
             return false;
         }
@@ -192,25 +216,12 @@ pub fn all_fit(s: &[u8]) -> bool
 
 // ---- packets
 
-fn least(k: u16) -> u8
-    ensures { λ r. ⌜ r ≡ leastOf k ⌝ }
-{
-    if layout::is_first(k) {
-        layout::CLOCK_SIZE
-    } else {
-        1
-    }
-}
-
 // The length of an ODT's packet in store, without its number; 0 where there is none.
 pub fn stored_length(s: &[u8], k: u16) -> u8
     requires { ⌜ (length (now s) ≡ size) × (k < allOdts) ⌝ }
     ensures { λ r. ⌜ (r ≡ storedLength (now (s .entry)) k) × (r ≤ storedMost) ⌝ }
 {
     let n = s[layout::sample_at(k)];
-    if n < least(k) {
-        return 0;
-    }
     if layout::STORED_MOST < n {
         return 0;
     }
@@ -218,17 +229,16 @@ pub fn stored_length(s: &[u8], k: u16) -> u8
 }
 
 // Whether a list still has an unsent packet.
-pub fn is_unsent(s: &[u8], l: u8) -> bool
-    requires { ⌜ (length (now s) ≡ size) × (l < lists) ⌝ }
-    ensures { λ r. ⌜ r ≡ unsent l (sessionOf (now (s .entry)) .list l) ⌝ }
+pub fn is_unsent(s: &[u8], l: u8, span: Span) -> bool
+    requires { ⌜ (length (now s) ≡ size) × (l < listCount (now s)) × Spans (now s) l (span .odt) (span .odts) (span .entry) ⌝ }
+    ensures { λ r. ⌜ r ≡ unsent (sessionOf (now (s .entry)) .list l) ⌝ }
 {
-    let k = layout::first_odt(l);
-    let mut j: u8 = 0;
-    while j < layout::ODTS {
-        if 0 < stored_length(s, k + j as u16) {
+    let mut o: u16 = 0;
+    while o < span.odts {
+        if 0 < stored_length(s, span.odt + o) {
             return true;
         }
-        j += 1;
+        o += 1;
     }
     false
 }

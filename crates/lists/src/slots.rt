@@ -1,11 +1,13 @@
 // A sending slot: whose turn it is, and one frame.
 ghost use mathlib.Core.Path.{_≡_};
 ghost use mathlib.Core.Bool.{cond, not, false};
-ghost use Prim.Native.Nat.{_+_, _<_};
-ghost use lib.ListN.{length, getD};
-ghost use Rattle.state.specs.Layout.{lists, odts, allOdts, servedAt, lastAt, size};
+ghost use Prim.Native.Nat.{_+_, _≤_, _<_};
+ghost use lib.Dec.{eqb};
+ghost use lib.ListN.{length};
+ghost use Rattle.state.specs.Layout.{lists, allOdts, lastAt, size};
+ghost use Rattle.state.specs.Pool.{listCount, firstOdt, odtCount};
 ghost use Rattle.state.specs.State.{waits, flagOf};
-ghost use Rattle.model.specs.Calls.{firstPacket, packetIn, orElse, roundIn};
+ghost use Rattle.model.specs.Calls.{firstPacket, packetIn, orElse, roundIn, listAfter};
 ghost use Rattle.model.specs.View.{sessionOf};
 ghost use Rattle.lists.specs.Slot.{turnOf, slottedAs, sentBy, Sends, slotOf};
 use crate::list;
@@ -13,34 +15,35 @@ use line::Written;
 use model::Turn;
 use state::fields;
 use state::layout;
+use state::pool;
 use words::Slotted;
 
-// A list's first packet in store.
-fn first_stored(s: &[u8], l: u8) -> Turn
-    requires { ⌜ (length (now s) ≡ size) × (l < lists) ⌝ }
-    ensures { λ r. ⌜ r ≡ firstPacket l (sessionOf (now (s .entry)) .list l) 0 odts ⌝ }
+// The first packet in store of a list with n ODTs, of which k is the first.
+fn first_stored(s: &[u8], l: u8, k: u16, n: u16) -> Turn
+    requires { ⌜ (length (now s) ≡ size) × (l < listCount (now s)) × (k ≡ firstOdt (now s) l) × (n ≡ odtCount (now s) l) × (k + n ≤ allOdts) ⌝ }
+    ensures { λ r. ⌜ r ≡ firstPacket l (sessionOf (now (s .entry)) .list l) 0 (odtCount (now (s .entry)) l) ⌝ }
 {
-    let mut k = layout::first_odt(l);
-    let mut n = layout::ODTS;
-    while 0 < n {
-        if 0 < list::stored_length(s, k) {
-            return Turn::Packet(k);
+    let mut o: u16 = 0;
+    let mut left = n;
+    while 0 < left {
+        if 0 < list::stored_length(s, k + o) {
+            return Turn::Packet(l, o as u8);
         }
-        k += 1;
-        n -= 1;
+        o += 1;
+        left -= 1;
     }
     Turn::Nobody
 }
 
 // A list's next packet. Whether the list runs is asked in full only where it has one: that takes longer.
-fn packet_in(s: &[u8], l: u8) -> Turn
-    requires { ⌜ (length (now s) ≡ size) × (l < lists) ⌝ }
+fn packet_in(s: &[u8], l: u8, k: u16, n: u16) -> Turn
+    requires { ⌜ (length (now s) ≡ size) × (l < listCount (now s)) × (k ≡ firstOdt (now s) l) × (n ≡ odtCount (now s) l) × (k + n ≤ allOdts) ⌝ }
     ensures { λ r. ⌜ r ≡ packetIn (sessionOf (now (s .entry))) l ⌝ }
 {
     if !list::on(s, layout::running_at(l as u16)) {
         return Turn::Nobody;
     }
-    let turn = first_stored(s, l);
+    let turn = first_stored(s, l, k, n);
     if let Turn::Nobody = turn {
         return Turn::Nobody;
     }
@@ -50,22 +53,60 @@ fn packet_in(s: &[u8], l: u8) -> Turn
     Turn::Nobody
 }
 
-// The next list after the last one served that has a packet.
+// How many ODTs a list has, of which the first is known.
+fn odts_in(s: &[u8], l: u8, first: u16) -> u16
+    requires { ⌜ (length (now s) ≡ size) × (l < lists) × (first ≡ firstOdt (now s) l) × (first ≤ allOdts) ⌝ }
+    ensures { λ r. ⌜ (r ≡ odtCount (now (s .entry)) l) × (first + r ≤ allOdts) ⌝ }
+{
+    let n = s[layout::ODTS + l as usize] as u16;
+    let room = layout::ALL_ODTS_U16 - first;
+    if room < n {
+        return room;
+    }
+    n
+}
+
+// After the last of the lists comes list 0.
+fn list_after(count: u8, l: u8) -> u8
+    requires { ⌜ l < count ⌝ }
+    ensures { λ r. ⌜ r ≡ listAfter count l ⌝ }
+{
+    if l + 1 < count {
+        return l + 1;
+    }
+    0
+}
+
+// Its first ODT, which is k where it is not list 0.
+fn first_after(l: u8, k: u16) -> u16
+    ensures { λ r. ⌜ r ≡ cond (eqb l 0) 0 k ⌝ }
+{
+    if l == 0 {
+        return 0;
+    }
+    k
+}
+
+// The next list that has a packet, from the one with which the round begins. Its first ODT is kept on the way.
 fn round(s: &[u8]) -> Turn
     requires { ⌜ length (now s) ≡ size ⌝ }
-    ensures { λ r. ⌜ r ≡ roundIn (sessionOf (now (s .entry))) (getD (now (s .entry)) servedAt 0) ⌝ }
+    ensures { λ r. ⌜ r ≡ roundIn (sessionOf (now (s .entry))) ⌝ }
 {
-    let mut l = s[layout::SERVED] as u16 + 1;
-    let mut n = layout::LISTS;
-    while 0 < n {
-        let turn = packet_in(s, (l % layout::LISTS_U16) as u8);
+    let count = pool::list_count(s);
+    let mut l = pool::round(s);
+    let mut k = pool::odts(s, l as u16).first;
+    let mut left = count;
+    while 0 < left {
+        let n = odts_in(s, l, k);
+        let turn = packet_in(s, l, k, n);
         match turn {
             Turn::Nobody => {
-                l += 1;
-                n -= 1;
+                l = list_after(count, l);
+                k = first_after(l, k + n);
+                left -= 1;
             }
             Turn::Answer => return Turn::Answer,
-            Turn::Packet(k) => return Turn::Packet(k),
+            Turn::Packet(list, odt) => return Turn::Packet(list, odt),
         }
     }
     Turn::Nobody
@@ -77,7 +118,7 @@ fn or_else(first: Turn, second: Turn) -> Turn
     match first {
         Turn::Nobody => second,
         Turn::Answer => Turn::Answer,
-        Turn::Packet(k) => Turn::Packet(k),
+        Turn::Packet(list, odt) => Turn::Packet(list, odt),
     }
 }
 
@@ -139,10 +180,11 @@ fn send_answer(s: &mut [u8], out: &mut [u8]) -> Slotted
 }
 
 // A packet's frame. The ODT's number goes where its length stood, before the bytes.
-fn send_packet(s: &mut [u8], out: &mut [u8], k: u16) -> Slotted
-    requires { ⌜ (length (now s) ≡ size) × (k < allOdts) ⌝ }
-    ensures { λ r. ⌜ Sends (sentBy (Turn.Packet k) (now (s .entry)) (now (out .entry))) r (now (s .exit)) (now (out .exit)) ⌝ }
+fn send_packet(s: &mut [u8], out: &mut [u8], l: u8, odt: u8) -> Slotted
+    requires { ⌜ (length (now s) ≡ size) × (l < listCount (now s)) × (odt < odtCount (now s) l) ⌝ }
+    ensures { λ r. ⌜ Sends (sentBy (Turn.Packet l odt) (now (s .entry)) (now (out .entry))) r (now (s .exit)) (now (out .exit)) ⌝ }
 {
+    let k = pool::odts(s, l as u16).first + odt as u16;
     let at = layout::sample_at(k);
     let n = list::stored_length(s, k) as usize;
     let ctr = s[layout::CTR];
@@ -151,7 +193,7 @@ fn send_packet(s: &mut [u8], out: &mut [u8], k: u16) -> Slotted
     let written = line::write(&s[at..end], ctr, out);
     s[at] = 0;
     s[layout::CTR] = line::next_ctr(ctr);
-    s[layout::SERVED] = layout::list_of(k) as u8;
+    s[layout::ROUND] = l + 1;
     s[layout::LAST] = 0;
     slotted(written)
 }
@@ -164,7 +206,7 @@ fn send(s: &mut [u8], out: &mut [u8]) -> Slotted
     match t {
         Turn::Nobody => Slotted::Idle,
         Turn::Answer => send_answer(s, out),
-        Turn::Packet(k) => send_packet(s, out, k),
+        Turn::Packet(l, odt) => send_packet(s, out, l, odt),
     }
 }
 

@@ -3,8 +3,9 @@ use Prim.Native.Nat.{ℕ, _+_}
 use mathlib.Core.Bool.{Bool, false}
 use mathlib.Core.List.{List}
 use lib.ListN.{getD}
-use Rattle.state.specs.Layout.{lists, packetAt, listOf}
+use Rattle.state.specs.Layout.{packetAt}
 use Rattle.state.specs.Bytes.{u16At, u32At}
+use Rattle.state.specs.Pool.{freedOf, listCount, odtTotal, entryTotal}
 use Rattle.state.specs.State.{generatorOf, wrongKeysOf, unlockedOf, seedOf, mtaOf, pointerOf}
 use Rattle.lists.specs.Lists.{runsNamed, fitsNamed, ready}
 use Rattle.words.specs.declared.Resource.the-variants.{Calibration, Lists}
@@ -36,7 +37,7 @@ numbersAt s m = record {
 -- the pointer's list runs
 abbrev pub pointedNamed : Pointer → List ℕ → Bool
 pointedNamed NoEntry s = false
-pointedNamed (Entry k e) s = runsNamed s (listOf k)
+pointedNamed (Entry l o e) s = runsNamed s l
 
 -- what is seen of a state with such a message
 abbrev pub lookedAt : List ℕ → Seen
@@ -48,6 +49,12 @@ lookedAt s = record {
   generator = generatorOf s;
   mta = mtaOf s;
   pointer = pointerOf s;
+  freed = freedOf s;
+  present = listCount s;
+  odtsTaken = odtTotal s;
+  entriesTaken = entryTotal s;
+  odts = sessionOf s .list (u16At s (packetAt + 2)) .odts;
+  entries = sessionOf s .list (u16At s (packetAt + 2)) .odt (getD s (packetAt + 4) 0) .entries;
   runs = runsNamed s (u16At s (packetAt + 2));
   fits = fitsNamed s (u16At s (packetAt + 2));
   pointed = pointedNamed (pointerOf s) s;

@@ -1,9 +1,11 @@
 // What the command in the message buffer leads to. Of packet and state each command's checks look at what they need, and at no more.
 // No function leans on its caller: a byte that is not there reads 0.
 ghost use mathlib.Core.Path.{_≡_};
+ghost use Rattle.state.specs.Pool.{freedOf, listCount, odtTotal, entryTotal};
 ghost use Rattle.state.specs.State.{generatorOf, seedOf, pointerOf};
 ghost use Rattle.lists.specs.Lists.{runsNamed, fitsNamed, ready};
-ghost use Rattle.model.specs.Judge.{unlockBy, clearDeed, modeDeed, startStopDeed, synchDeed, writeDeed, judgeThe, lockedBy, judgeBy, judge};
+ghost use Rattle.model.specs.Judge.{unlockBy, clearDeed, pointerDeed, modeDeed, startStopDeed, synchDeed, writeDeed, allocListsDeed, allocOdtsDeed, allocEntriesDeed, judgeThe, lockedBy, judgeBy, judge};
+ghost use Rattle.model.specs.View.{sessionOf};
 ghost use Rattle.look.specs.Look.{numbersAt, pointedNamed, lookedAt};
 use judge::checks;
 use lists::asked;
@@ -13,6 +15,7 @@ use state::bytes::get16;
 use state::bytes::get32;
 use state::fields;
 use state::layout;
+use state::pool;
 use words::Command;
 use words::Needs;
 use words::Pointer;
@@ -26,7 +29,11 @@ fn pointed_runs(s: &[u8], pointer: Pointer) -> bool
 {
     match pointer {
         Pointer::Unset => false,
-        Pointer::At { odt, entry: _ } => asked::runs(s, layout::list_of(odt as u16)),
+        Pointer::At {
+            list,
+            odt: _,
+            entry: _,
+        } => asked::runs(s, list as u16),
     }
 }
 
@@ -38,9 +45,22 @@ fn unlock(s: &[u8], width: u8, n: u8, key: u32) -> Deed
 }
 
 fn clear_list(s: &[u8], l: u16) -> Deed
-    ensures { λ r. ⌜ r ≡ clearDeed (runsNamed (now (s .entry)) l) l ⌝ }
+    ensures { λ r. ⌜ r ≡ clearDeed (listCount (now (s .entry))) (runsNamed (now (s .entry)) l) l ⌝ }
 {
-    checks::clear_list(asked::runs(s, l), l)
+    checks::clear_list(pool::list_count(s), asked::runs(s, l), l)
+}
+
+fn set_pointer(s: &[u8], l: u16, odt: u8, entry: u8) -> Deed
+    ensures { λ r. ⌜ r ≡ pointerDeed (listCount (now (s .entry))) (sessionOf (now (s .entry)) .list l .odts) (sessionOf (now (s .entry)) .list l .odt odt .entries) l odt entry ⌝ }
+{
+    checks::set_pointer(
+        pool::list_count(s),
+        asked::odts(s, l),
+        asked::entries(s, l, odt),
+        l,
+        odt,
+        entry,
+    )
 }
 
 fn write_entry(s: &[u8], bit: u8, n: u8, extension: u8, address: u32, nc: usize, nm: usize) -> Deed
@@ -60,19 +80,28 @@ fn write_entry(s: &[u8], bit: u8, n: u8, extension: u8, address: u32, nc: usize,
 }
 
 fn set_mode(s: &[u8], mode: u8, l: u16, event: u16, prescaler: u8, priority: u8) -> Deed
-    ensures { λ r. ⌜ r ≡ modeDeed (runsNamed (now (s .entry)) l) mode l event prescaler priority ⌝ }
+    ensures { λ r. ⌜ r ≡ modeDeed (listCount (now (s .entry))) (runsNamed (now (s .entry)) l) mode l event prescaler priority ⌝ }
 {
-    checks::set_mode(asked::runs(s, l), mode, l, event, prescaler, priority)
+    checks::set_mode(
+        pool::list_count(s),
+        asked::runs(s, l),
+        mode,
+        l,
+        event,
+        prescaler,
+        priority,
+    )
 }
 
 // A start alone asks what a list has.
 fn start_stop(s: &[u8], mode: u8, l: u16) -> Deed
-    ensures { λ r. ⌜ r ≡ startStopDeed (runsNamed (now (s .entry)) l) (fitsNamed (now (s .entry)) l) mode l ⌝ }
+    ensures { λ r. ⌜ r ≡ startStopDeed (listCount (now (s .entry))) (runsNamed (now (s .entry)) l) (fitsNamed (now (s .entry)) l) mode l ⌝ }
 {
+    let present = pool::list_count(s);
     if mode != 1 {
-        return checks::start_stop(false, false, mode, l);
+        return checks::start_stop(present, false, false, mode, l);
     }
-    checks::start_stop(asked::runs(s, l), asked::fits(s, l), mode, l)
+    checks::start_stop(present, asked::runs(s, l), asked::fits(s, l), mode, l)
 }
 
 fn start_stop_synch(s: &[u8], mode: u8) -> Deed
@@ -82,6 +111,46 @@ fn start_stop_synch(s: &[u8], mode: u8) -> Deed
         return checks::start_stop_synch(false, mode);
     }
     checks::start_stop_synch(asked::all_fit(s), mode)
+}
+
+fn alloc_lists(s: &[u8], n: u16) -> Deed
+    ensures { λ r. ⌜ r ≡ allocListsDeed (freedOf (now (s .entry))) (listCount (now (s .entry))) n ⌝ }
+{
+    checks::alloc_lists(pool::is_freed(s), pool::list_count(s), n)
+}
+
+fn alloc_odts(s: &[u8], l: u16, n: u8) -> Deed
+    ensures { λ r. ⌜ r ≡ allocOdtsDeed (listCount (now (s .entry))) (sessionOf (now (s .entry)) .list l .odts) (odtTotal (now (s .entry))) (entryTotal (now (s .entry))) (runsNamed (now (s .entry)) l) l n ⌝ }
+{
+    checks::alloc_odts(
+        pool::list_count(s),
+        asked::odts(s, l),
+        pool::odt_total(s),
+        pool::entry_total(s),
+        asked::runs(s, l),
+        l,
+        n,
+    )
+}
+
+// Of a list that there is not nothing is asked: it has no ODTs.
+fn alloc_entries(s: &[u8], l: u16, odt: u8, n: u8) -> Deed
+    ensures { λ r. ⌜ r ≡ allocEntriesDeed (sessionOf (now (s .entry)) .list l .odts) (sessionOf (now (s .entry)) .list l .odt odt .entries) (odtTotal (now (s .entry))) (entryTotal (now (s .entry))) (runsNamed (now (s .entry)) l) l odt n ⌝ }
+{
+    let all = pool::odt_total(s);
+    if pool::list_count(s) as u16 <= l {
+        return checks::alloc_entries(0, 0, all, 0, false, 0, odt, n);
+    }
+    checks::alloc_entries(
+        asked::odts(s, l),
+        asked::entries(s, l, odt),
+        all,
+        pool::entry_total(s),
+        asked::runs(s, l),
+        l as u8,
+        odt,
+        n,
+    )
 }
 
 // Each command's own checks.
@@ -126,7 +195,8 @@ fn judge_the(command: Command, s: &[u8], n: u8, nc: usize, nm: usize) -> Deed
             nc,
         ),
         Command::ClearDaqList => clear_list(s, get16(s, layout::PACKET_2)),
-        Command::SetDaqPtr => checks::set_pointer(
+        Command::SetDaqPtr => set_pointer(
+            s,
             get16(s, layout::PACKET_2),
             get(s, layout::PACKET_4),
             get(s, layout::PACKET_5),
@@ -154,6 +224,15 @@ fn judge_the(command: Command, s: &[u8], n: u8, nc: usize, nm: usize) -> Deed
         Command::StartStopSynch => start_stop_synch(s, get(s, layout::PACKET_1)),
         Command::GetDaqProcessorInfo => Deed::ProcessorInfo,
         Command::GetDaqResolutionInfo => Deed::ResolutionInfo,
+        Command::FreeDaq => Deed::FreeLists,
+        Command::AllocDaq => alloc_lists(s, get16(s, layout::PACKET_2)),
+        Command::AllocOdt => alloc_odts(s, get16(s, layout::PACKET_2), get(s, layout::PACKET_4)),
+        Command::AllocOdtEntry => alloc_entries(
+            s,
+            get16(s, layout::PACKET_2),
+            get(s, layout::PACKET_4),
+            get(s, layout::PACKET_5),
+        ),
     }
 }
 

@@ -5,7 +5,7 @@ use mathlib.Core.Option.{Option, none, some}
 use mathlib.Core.List.{List, [], _∷_}
 use lib.ListN.{length}
 use lib.Seq.{sets}
-use Rattle.state.specs.Layout.{lists, events, packetMost, entryMost, addressable, firstOdt}
+use Rattle.state.specs.Layout.{events, packetMost, entryMost, addressable}
 use Rattle.state.specs.Bytes.{block, bytes32}
 use Rattle.state.specs.Generator.{nextOf}
 use Rattle.state.specs.Memory.{pick, blockSum}
@@ -14,8 +14,8 @@ use Rattle.words.specs.Command.{codeOf}
 use Rattle.words.specs.declared.Reason.the-variants as reason
 use Rattle.model.specs.Judge.{judgeIn}
 use Rattle.model.specs.declared.Deed.{Deed}
-use Rattle.model.specs.declared.Deed.the-variants.{Refuse, RefuseSize, WrongKey, Connect, Disconnect, Status, Synch, NoSeed, GiveSeed, Unlock, SetMta, Upload, Checksum, Download, ClearList, SetPointer, ClearEntry, WriteEntry, SetMode, Stop, Start, KeepRunning, Select, StopAll, StartSelected, StopSelected, ProcessorInfo, ResolutionInfo}
-use Rattle.model.specs.Model.{Session, someRuns}
+use Rattle.model.specs.declared.Deed.the-variants.{Refuse, RefuseSize, WrongKey, Connect, Disconnect, Status, Synch, NoSeed, GiveSeed, Unlock, SetMta, Upload, Checksum, Download, ClearList, SetPointer, ClearEntry, WriteEntry, SetMode, Stop, Start, KeepRunning, Select, StopAll, StartSelected, StopSelected, ProcessorInfo, ResolutionInfo, FreeLists, AllocLists, AllocOdts, AllocEntries}
+use Rattle.model.specs.Model.{Session, firstOf, someRuns}
 use Rattle.model.specs.Step.{unlock, stepIn}
 
 -- ---- the answer, by the session and the memories before the deed
@@ -25,7 +25,7 @@ replyIn RefuseSize c cal meas = 0xFE ∷ codeOf reason.OutOfRange ∷ 0x00 ∷ 0
 replyIn WrongKey c cal meas = 0xFE ∷ codeOf reason.WrongKey ∷ []
 replyIn Connect c cal meas = 0xFF ∷ 0x05 ∷ 0x00 ∷ packetMost ∷ packetMost ∷ 0x00 ∷ 0x01 ∷ 0x01 ∷ []
 replyIn Disconnect c cal meas = 0xFF ∷ []
-replyIn Status c cal meas = 0xFF ∷ cond (someRuns c lists) 0x40 0x00 ∷ maskBy (c .unlocked) ∷ 0x00 ∷ 0x00 ∷ 0x00 ∷ []
+replyIn Status c cal meas = 0xFF ∷ cond (someRuns c (c .lists)) 0x40 0x00 ∷ maskBy (c .unlocked) ∷ 0x00 ∷ 0x00 ∷ 0x00 ∷ []
 replyIn Synch c cal meas = 0xFE ∷ 0x00 ∷ []
 replyIn NoSeed c cal meas = 0xFF ∷ 0x00 ∷ []
 replyIn (GiveSeed r) c cal meas = 0xFF ∷ 0x04 ∷ bytes32 (nextOf (c .generator))
@@ -35,19 +35,23 @@ replyIn (Upload e a n) c cal meas = 0xFF ∷ block (pick e cal meas) a n
 replyIn (Checksum e a n) c cal meas = 0xFF ∷ 0x02 ∷ 0x00 ∷ 0x00 ∷ bytes32 (blockSum (pick e cal meas) a n)
 replyIn (Download from a n) c cal meas = 0xFF ∷ []
 replyIn (ClearList l) c cal meas = 0xFF ∷ []
-replyIn (SetPointer k e) c cal meas = 0xFF ∷ []
-replyIn (ClearEntry k e) c cal meas = 0xFF ∷ []
-replyIn (WriteEntry k e n x a) c cal meas = 0xFF ∷ []
+replyIn (SetPointer l o e) c cal meas = 0xFF ∷ []
+replyIn (ClearEntry l o e) c cal meas = 0xFF ∷ []
+replyIn (WriteEntry l o e n x a) c cal meas = 0xFF ∷ []
 replyIn (SetMode l event) c cal meas = 0xFF ∷ []
-replyIn (Stop l) c cal meas = 0xFF ∷ firstOdt l ∷ []
-replyIn (Start l) c cal meas = 0xFF ∷ firstOdt l ∷ []
-replyIn (KeepRunning l) c cal meas = 0xFF ∷ firstOdt l ∷ []
-replyIn (Select l) c cal meas = 0xFF ∷ firstOdt l ∷ []
+replyIn (Stop l) c cal meas = 0xFF ∷ firstOf c l ∷ []
+replyIn (Start l) c cal meas = 0xFF ∷ firstOf c l ∷ []
+replyIn (KeepRunning l) c cal meas = 0xFF ∷ firstOf c l ∷ []
+replyIn (Select l) c cal meas = 0xFF ∷ firstOf c l ∷ []
 replyIn StopAll c cal meas = 0xFF ∷ []
 replyIn StartSelected c cal meas = 0xFF ∷ []
 replyIn StopSelected c cal meas = 0xFF ∷ []
-replyIn ProcessorInfo c cal meas = 0xFF ∷ 0x10 ∷ lists ∷ 0x00 ∷ events ∷ 0x00 ∷ 0x00 ∷ 0x00 ∷ []
+replyIn ProcessorInfo c cal meas = 0xFF ∷ 0x11 ∷ c .lists ∷ 0x00 ∷ events ∷ 0x00 ∷ 0x00 ∷ 0x00 ∷ []
 replyIn ResolutionInfo c cal meas = 0xFF ∷ 0x01 ∷ entryMost ∷ 0x00 ∷ 0x00 ∷ 0x6A ∷ 0x01 ∷ 0x00 ∷ []
+replyIn FreeLists c cal meas = 0xFF ∷ []
+replyIn (AllocLists n) c cal meas = 0xFF ∷ []
+replyIn (AllocOdts l n) c cal meas = 0xFF ∷ []
+replyIn (AllocEntries l o n) c cal meas = 0xFF ∷ []
 
 -- ---- what a deed writes into the calibration memory: DOWNLOAD and SHORT_DOWNLOAD alone do, so many bytes of their packet from byte `from` on
 pub record Write : Type 0 where
@@ -71,9 +75,9 @@ writes (Upload e a n) = none
 writes (Checksum e a n) = none
 writes (Download from a n) = some (record { from = from; address = a; count = n })
 writes (ClearList l) = none
-writes (SetPointer k e) = none
-writes (ClearEntry k e) = none
-writes (WriteEntry k e n ext a) = none
+writes (SetPointer l o e) = none
+writes (ClearEntry l o e) = none
+writes (WriteEntry l o e n ext a) = none
 writes (SetMode l event) = none
 writes (Stop l) = none
 writes (Start l) = none
@@ -84,6 +88,10 @@ writes StartSelected = none
 writes StopSelected = none
 writes ProcessorInfo = none
 writes ResolutionInfo = none
+writes FreeLists = none
+writes (AllocLists n) = none
+writes (AllocOdts l n) = none
+writes (AllocEntries l o n) = none
 
 abbrev pub memoryAfter : Option Write → List ℕ → List ℕ → List ℕ
 memoryAfter none p cal = cal

@@ -4,17 +4,18 @@ use Prim.Native.Nat.{ℕ, zero, suc, _+_}
 use mathlib.Core.Bool.{Bool, true, false, cond, not}
 use mathlib.Core.List.{List}
 use lib.Dec.{eqb, ltb, leb}
-use Rattle.state.specs.Layout.{lists, events, entryMost, uploadMost, downloadFrom, downloadMost, shortDownloadFrom, shortDownloadMost, addressable, firstOdt, odtCount, listOf, entryCount}
+use lib.ListN.{getD}
+use Rattle.state.specs.Layout.{lists, allOdts, allEntries, events, entryMost, uploadMost, downloadFrom, downloadMost, shortDownloadFrom, shortDownloadMost, addressable}
 use Rattle.state.specs.Bytes.{u16At}
 use Rattle.state.specs.Generator.{keyOf, staysShut}
 use Rattle.state.specs.Memory.{pick, insideOf}
 use Rattle.words.specs.Command.{commandOf, fewest, needsOf}
-use Rattle.model.specs.Model.{Session, fits, runsIn}
+use Rattle.model.specs.Model.{Session, odtsTaken, entriesTaken, fits, runsIn}
 use Rattle.model.specs.Seen.{Packet, numbersOf, Seen}
 use Rattle.words.specs.declared.Needs.{Needs}
 use Rattle.words.specs.declared.Needs.the-variants as needs
 use Rattle.words.specs.declared.Command.{Command}
-use Rattle.words.specs.declared.Command.the-variants.{Unknown, Connect, Disconnect, GetStatus, Synch, GetSeed, Unlock, SetMta, Upload, ShortUpload, BuildChecksum, Download, ShortDownload, ClearDaqList, SetDaqPtr, WriteDaq, SetDaqListMode, StartStopDaqList, StartStopSynch, GetDaqProcessorInfo, GetDaqResolutionInfo}
+use Rattle.words.specs.declared.Command.the-variants.{Unknown, Connect, Disconnect, GetStatus, Synch, GetSeed, Unlock, SetMta, Upload, ShortUpload, BuildChecksum, Download, ShortDownload, ClearDaqList, SetDaqPtr, WriteDaq, SetDaqListMode, StartStopDaqList, StartStopSynch, GetDaqProcessorInfo, GetDaqResolutionInfo, FreeDaq, AllocDaq, AllocOdt, AllocOdtEntry}
 use Rattle.words.specs.declared.Resource.{Resource}
 use Rattle.words.specs.declared.Resource.the-variants.{Calibration, Lists}
 use Rattle.words.specs.declared.Extension.{Extension}
@@ -25,7 +26,7 @@ use Rattle.words.specs.declared.Mta.{Mta}
 use Rattle.words.specs.declared.Mta.the-variants.{Unset, At}
 use Rattle.words.specs.declared.Pointer.{Pointer}
 use Rattle.words.specs.declared.Pointer.the-variants.{Unset as NoEntry, At as Entry}
-use Rattle.words.specs.declared.Reason.the-variants.{Unknown as UnknownCode, TooShort, Locked, Sequence, OutOfRange, DataMissing, ListRuns, ReadOnly, NotInside, CannotStart}
+use Rattle.words.specs.declared.Reason.the-variants.{Unknown as UnknownCode, TooShort, Locked, Sequence, OutOfRange, DataMissing, ListRuns, ReadOnly, NotInside, CannotStart, PoolFull}
 use Rattle.model.specs.declared.Deed.{Deed}
 use Rattle.model.specs.declared.Deed.the-variants as deed
 
@@ -113,43 +114,43 @@ shortDownloadDeed n ext a len nc =
     (cond (ltb len (n + shortDownloadFrom)) (deed.Refuse DataMissing)
     (downloadTo shortDownloadFrom (extensionFrom ext) a n nc))))
 
--- CLEAR_DAQ_LIST
-unfoldable pub clearDeed : Bool → ℕ → Deed
-clearDeed runs l =
-    cond (leb lists l) (deed.Refuse OutOfRange)
+-- CLEAR_DAQ_LIST, of so many lists that there are
+unfoldable pub clearDeed : ℕ → Bool → ℕ → Deed
+clearDeed present runs l =
+    cond (leb present l) (deed.Refuse OutOfRange)
     (cond runs (deed.Refuse ListRuns)
     (deed.ClearList l))
 
--- SET_DAQ_PTR
-unfoldable pub pointerDeed : ℕ → ℕ → ℕ → Deed
-pointerDeed l odt e =
-    cond (leb lists l) (deed.Refuse OutOfRange)
-    (cond (leb (odtCount l) odt) (deed.Refuse OutOfRange)
-    (cond (leb (entryCount (firstOdt l + odt)) e) (deed.Refuse OutOfRange)
-    (deed.SetPointer (firstOdt l + odt) e)))
+-- SET_DAQ_PTR; so many ODTs has the list, so many entries the ODT
+unfoldable pub pointerDeed : ℕ → ℕ → ℕ → ℕ → ℕ → ℕ → Deed
+pointerDeed present odts entries l o e =
+    cond (leb present l) (deed.Refuse OutOfRange)
+    (cond (leb odts o) (deed.Refuse OutOfRange)
+    (cond (leb entries e) (deed.Refuse OutOfRange)
+    (deed.SetPointer l o e)))
 
 -- WRITE_DAQ; a block of size 0 is always inside
-unfoldable pub writeBlock : ℕ → ℕ → ℕ → Extension → ℕ → ℕ → Deed
-writeBlock k e n ext a len =
-    cond (eqb n 0) (deed.ClearEntry k e)
-    (cond (insideOf a n len) (deed.WriteEntry k e n ext a)
+unfoldable pub writeBlock : ℕ → ℕ → ℕ → ℕ → Extension → ℕ → ℕ → Deed
+writeBlock l o e n ext a len =
+    cond (eqb n 0) (deed.ClearEntry l o e)
+    (cond (insideOf a n len) (deed.WriteEntry l o e n ext a)
     (deed.Refuse NotInside))
 
 unfoldable pub writeDeed : Pointer → Bool → ℕ → ℕ → ℕ → ℕ → ℕ → ℕ → Deed
 writeDeed NoEntry runs bit n ext a nc nm = deed.Refuse Sequence
-writeDeed (Entry k e) runs bit n ext a nc nm =
+writeDeed (Entry l o e) runs bit n ext a nc nm =
     cond (eqb bit 0xFF)
     (cond (ltb entryMost n) (deed.Refuse OutOfRange)
     (cond (ltb 1 ext) (deed.Refuse OutOfRange)
     (cond runs (deed.Refuse ListRuns)
-    (writeBlock k e n (extensionFrom ext) a (pick (extensionFrom ext) nc nm)))))
+    (writeBlock l o e n (extensionFrom ext) a (pick (extensionFrom ext) nc nm)))))
     (deed.Refuse OutOfRange)
 
 -- SET_DAQ_LIST_MODE
-unfoldable pub modeDeed : Bool → ℕ → ℕ → ℕ → ℕ → ℕ → Deed
-modeDeed runs mode l event prescaler priority =
+unfoldable pub modeDeed : ℕ → Bool → ℕ → ℕ → ℕ → ℕ → ℕ → Deed
+modeDeed present runs mode l event prescaler priority =
     cond (eqb mode 0x10)
-    (cond (leb lists l) (deed.Refuse OutOfRange)
+    (cond (leb present l) (deed.Refuse OutOfRange)
     (cond (leb events event) (deed.Refuse OutOfRange)
     (cond (eqb prescaler 1)
     (cond (eqb priority 0)
@@ -166,10 +167,10 @@ startDeed runs fit l =
     (cond fit (deed.Start l)
     (deed.Refuse CannotStart))
 
-unfoldable pub startStopDeed : Bool → Bool → ℕ → ℕ → Deed
-startStopDeed runs fit mode l =
+unfoldable pub startStopDeed : ℕ → Bool → Bool → ℕ → ℕ → Deed
+startStopDeed present runs fit mode l =
     cond (ltb 2 mode) (deed.Refuse OutOfRange)
-    (cond (leb lists l) (deed.Refuse OutOfRange)
+    (cond (leb present l) (deed.Refuse OutOfRange)
     (cond (eqb mode 0) (deed.Stop l)
     (cond (eqb mode 1) (startDeed runs fit l)
     (deed.Select l))))
@@ -181,6 +182,39 @@ synchDeed ready mode =
     (cond (eqb mode 0) deed.StopAll
     (cond (eqb mode 1) (cond ready deed.StartSelected (deed.Refuse CannotStart))
     deed.StopSelected))
+
+-- ALLOC_DAQ: first FREE_DAQ, and once
+unfoldable pub allocListsDeed : Bool → ℕ → ℕ → Deed
+allocListsDeed freed present n =
+    cond freed
+    (cond (ltb 0 present) (deed.Refuse Sequence)
+    (cond (eqb n 0) (deed.Refuse OutOfRange)
+    (cond (ltb lists n) (deed.Refuse PoolFull)
+    (deed.AllocLists n))))
+    (deed.Refuse Sequence)
+
+-- ALLOC_ODT: first ALLOC_DAQ, no ALLOC_ODT_ENTRY yet, and once for a list. A list that runs has entries, so that it is refused before that is asked
+unfoldable pub allocOdtsDeed : ℕ → ℕ → ℕ → ℕ → Bool → ℕ → ℕ → Deed
+allocOdtsDeed present odts taken entries runs l n =
+    cond (eqb present 0) (deed.Refuse Sequence)
+    (cond (ltb 0 entries) (deed.Refuse Sequence)
+    (cond (ltb 0 odts) (deed.Refuse Sequence)
+    (cond (leb present l) (deed.Refuse OutOfRange)
+    (cond (eqb n 0) (deed.Refuse OutOfRange)
+    (cond runs (deed.Refuse ListRuns)
+    (cond (ltb allOdts (taken + n)) (deed.Refuse PoolFull)
+    (deed.AllocOdts l n)))))))
+
+-- ALLOC_ODT_ENTRY: first ALLOC_ODT, and once for an ODT
+unfoldable pub allocEntriesDeed : ℕ → ℕ → ℕ → ℕ → Bool → ℕ → ℕ → ℕ → Deed
+allocEntriesDeed odts entries odtsAll taken runs l o n =
+    cond (eqb odtsAll 0) (deed.Refuse Sequence)
+    (cond (ltb 0 entries) (deed.Refuse Sequence)
+    (cond (leb odts o) (deed.Refuse OutOfRange)
+    (cond (eqb n 0) (deed.Refuse OutOfRange)
+    (cond runs (deed.Refuse ListRuns)
+    (cond (ltb allEntries (taken + n)) (deed.Refuse PoolFull)
+    (deed.AllocEntries l o n))))))
 
 -- each command's own checks
 unfoldable pub judgeThe : Command → Packet → Seen → ℕ → ℕ → Deed
@@ -197,14 +231,18 @@ judgeThe ShortUpload p v nc nm = shortUploadDeed (p .b1) (p .b3) (p .d4) nc nm
 judgeThe BuildChecksum p v nc nm = checksumDeed (v .mta) (p .d4) nc nm
 judgeThe Download p v nc nm = downloadDeed (v .mta) (p .b1) (p .n) nc
 judgeThe ShortDownload p v nc nm = shortDownloadDeed (p .b1) (p .b3) (p .d4) (p .n) nc
-judgeThe ClearDaqList p v nc nm = clearDeed (v .runs) (p .w2)
-judgeThe SetDaqPtr p v nc nm = pointerDeed (p .w2) (p .b4) (p .b5)
+judgeThe ClearDaqList p v nc nm = clearDeed (v .present) (v .runs) (p .w2)
+judgeThe SetDaqPtr p v nc nm = pointerDeed (v .present) (v .odts) (v .entries) (p .w2) (p .b4) (p .b5)
 judgeThe WriteDaq p v nc nm = writeDeed (v .pointer) (v .pointed) (p .b1) (p .b2) (p .b3) (p .d4) nc nm
-judgeThe SetDaqListMode p v nc nm = modeDeed (v .runs) (p .b1) (p .w2) (p .w4) (p .b6) (p .b7)
-judgeThe StartStopDaqList p v nc nm = startStopDeed (v .runs) (v .fits) (p .b1) (p .w2)
+judgeThe SetDaqListMode p v nc nm = modeDeed (v .present) (v .runs) (p .b1) (p .w2) (p .w4) (p .b6) (p .b7)
+judgeThe StartStopDaqList p v nc nm = startStopDeed (v .present) (v .runs) (v .fits) (p .b1) (p .w2)
 judgeThe StartStopSynch p v nc nm = synchDeed (v .ready) (p .b1)
 judgeThe GetDaqProcessorInfo p v nc nm = deed.ProcessorInfo
 judgeThe GetDaqResolutionInfo p v nc nm = deed.ResolutionInfo
+judgeThe FreeDaq p v nc nm = deed.FreeLists
+judgeThe AllocDaq p v nc nm = allocListsDeed (v .freed) (v .present) (p .w2)
+judgeThe AllocOdt p v nc nm = allocOdtsDeed (v .present) (v .odts) (v .odtsTaken) (v .entriesTaken) (v .runs) (p .w2) (p .b4)
+judgeThe AllocOdtEntry p v nc nm = allocEntriesDeed (v .odts) (v .entries) (v .odtsTaken) (v .entriesTaken) (v .runs) (p .w2) (p .b4) (p .b5)
 
 -- the lock that a command needs is shut
 abbrev pub lockedBy : Needs → Seen → Bool
@@ -226,19 +264,19 @@ judge p v nc nm = judgeBy (commandOf (p .b0)) p v nc nm
 -- the pointer's list runs
 abbrev pub pointedIn : Pointer → Session → Bool
 pointedIn NoEntry c = false
-pointedIn (Entry k e) c = runsIn c (listOf k)
+pointedIn (Entry l o e) c = runsIn c l
 
 -- every selected one of the first n lists can be started
 abbrev pub startable : Session → ℕ → Bool
-startable c l = cond (c .list l .selected) (fits l (c .list l)) true
+startable c l = cond (c .list l .selected) (fits (c .list l)) true
 
 unfoldable pub allStartable : Session → ℕ → Bool
 allStartable c zero = true
 allStartable c (suc n) = cond (allStartable c n) (startable c n) false
 
--- by the checks of a command that names list l
-abbrev pub seenIn : ℕ → Session → Seen
-seenIn l c = record {
+-- by the checks of a command that names list l and its ODT o
+abbrev pub seenIn : ℕ → ℕ → Session → Seen
+seenIn l o c = record {
   wrongKeys = c .wrongKeys;
   calibration = c .unlocked Calibration;
   lists = c .unlocked Lists;
@@ -246,12 +284,18 @@ seenIn l c = record {
   generator = c .generator;
   mta = c .mta;
   pointer = c .pointer;
+  freed = c .freed;
+  present = c .lists;
+  odtsTaken = odtsTaken c;
+  entriesTaken = entriesTaken c;
+  odts = c .list l .odts;
+  entries = c .list l .odt o .entries;
   runs = runsIn c l;
-  fits = fits l (c .list l);
+  fits = fits (c .list l);
   pointed = pointedIn (c .pointer) c;
-  ready = allStartable c lists;
+  ready = allStartable c (c .lists);
 }
 
 -- what the command in packet p leads to
 unfoldable pub judgeIn : List ℕ → Session → ℕ → ℕ → Deed
-judgeIn p c nc nm = judge (numbersOf p) (seenIn (u16At p 2) c) nc nm
+judgeIn p c nc nm = judge (numbersOf p) (seenIn (u16At p 2) (getD p 4 0) c) nc nm

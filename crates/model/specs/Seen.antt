@@ -42,8 +42,9 @@ numbersOf p = record {
   d4 = u32At p 4;
 }
 
--- wrong keys since power-up; calibration and lists are unlocked; the list that w2 names runs, and it could be started; the pointer's list runs; every
--- selected list could be started
+-- wrong keys since power-up; calibration and lists are unlocked; the lists were freed, how many there are, and what of the pool is taken; how many ODTs the list
+-- that w2 names has, and how many entries its ODT that b4 names; that list runs, and it could be started; the pointer's list runs; every selected list
+-- could be started
 pub record Seen : Type 0 where
   pub wrongKeys : ℕ
   pub calibration : Bool
@@ -52,6 +53,12 @@ pub record Seen : Type 0 where
   pub generator : ℕ
   pub mta : Mta
   pub pointer : Pointer
+  pub freed : Bool
+  pub present : ℕ
+  pub odtsTaken : ℕ
+  pub entriesTaken : ℕ
+  pub odts : ℕ
+  pub entries : ℕ
   pub runs : Bool
   pub fits : Bool
   pub pointed : Bool

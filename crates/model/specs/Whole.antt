@@ -10,7 +10,7 @@ use Rattle.line.specs.Reader.{takeOf}
 use Rattle.line.specs.Writer.{atFront}
 use Rattle.line.specs.declared.Outcome.{Outcome}
 use Rattle.line.specs.declared.Outcome.the-variants as line
-use Rattle.state.specs.Layout.{lists, events}
+use Rattle.state.specs.Layout.{events}
 use Rattle.state.specs.Bytes.{block}
 use Rattle.words.specs.declared.Received.{Received}
 use Rattle.words.specs.declared.Received.the-variants.{Nothing, Answered, Silent, BadLength, BadEscape, BadChecksum, Unread, CutOff, NoState}
@@ -73,15 +73,15 @@ pub record AfterEvent : Type 0 where
   pub evented : Evented
   pub slave : Slave
 
--- list l, by what the event is to it: it takes a sample at once, or the old stays
-unfoldable pub sampledAs : Sampling → ℕ → ℕ → List ℕ → List ℕ → DaqList → DaqList
-sampledAs Idle l clock cal meas x = x
-sampledAs Sampled l clock cal meas x = sampled l clock cal meas x
-sampledAs Missed l clock cal meas x = x
+-- a list, by what the event is to it: it takes a sample at once, or the old stays
+unfoldable pub sampledAs : Sampling → ℕ → List ℕ → List ℕ → DaqList → DaqList
+sampledAs Idle clock cal meas x = x
+sampledAs Sampled clock cal meas x = sampled clock cal meas x
+sampledAs Missed clock cal meas x = x
 
 -- each list by itself
 abbrev pub sampledIn : Session → ℕ → ℕ → List ℕ → List ℕ → Session
-sampledIn c event clock cal meas = eachList (λ l. sampledAs (samplingIn c l event) l clock cal meas) c
+sampledIn c event clock cal meas = eachList (λ l. sampledAs (samplingIn c l event) clock cal meas) c
 
 -- how many of the first n lists sampled, and how many missed
 abbrev pub isSampled : Sampling → Bool
@@ -99,7 +99,7 @@ howMany test zero = 0
 howMany test (suc n) = howMany test n + cond (test n) 1 0
 
 abbrev pub countedIn : Session → ℕ → Evented
-countedIn c event = Done (howMany (λ l. isSampled (samplingIn c l event)) lists) (howMany (λ l. isMissed (samplingIn c l event)) lists)
+countedIn c event = Done (howMany (λ l. isSampled (samplingIn c l event)) (c .lists)) (howMany (λ l. isMissed (samplingIn c l event)) (c .lists))
 
 -- a number above 1 changes nothing
 unfoldable pub eventIn : ℕ → ℕ → Slave → List ℕ → List ℕ → AfterEvent
@@ -121,7 +121,7 @@ packetGoes p ctr out v = record { slotted = Sent (length (frame ctr p)); slave =
 unfoldable pub sentIn : Turn → Slave → List ℕ → AfterSlot
 sentIn Nobody v out = record { slotted = NothingWaits; slave = v; out = out }
 sentIn Answer v out = packetGoes (v .answer) (v .ctr) out (answerGone v)
-sentIn (Packet k) v out = packetGoes (packetFrom (v .session) k) (v .ctr) out (packetGone k v)
+sentIn (Packet l o) v out = packetGoes (packetFrom (v .session) l o) (v .ctr) out (packetGone l o v)
 
 -- fewer lent bytes than the room of the longest frame change nothing
 unfoldable pub slotIn : Slave → List ℕ → AfterSlot

@@ -3,20 +3,28 @@ use Prim.Native.Nat.{ℕ, _+_}
 use mathlib.Core.Path.{_≡_}
 use mathlib.Core.List.{List}
 use lib.ListN.{set}
-use Rattle.state.specs.Layout.{lists, selectedAt, listOf}
+use Rattle.state.specs.Layout.{selectedAt}
+use Rattle.state.specs.Pool.{listCount, firstOdt, entryCount}
 use Rattle.state.specs.Generator.{nextOf}
 use Rattle.state.specs.State.{generatorOf, setGenerator, countedWrong, lockAt, setSeed, setMta, setPointer, closed, fresh, answered}
+use Rattle.lists.specs.Alloc.{listsFreed, listsAllocated, odtsAllocated, entriesAllocated}
 use Rattle.lists.specs.Lists.{stopped, started, listCleared, modeSet, entrySet, stopEach, startSelected, stopSelected}
+use Rattle.words.specs.declared.Extension.{Extension}
 use Rattle.words.specs.declared.Extension.the-variants.{Calibration}
 use Rattle.words.specs.declared.Seed.the-variants.{None, For}
 use Rattle.words.specs.declared.Mta.the-variants.{At}
 use Rattle.words.specs.declared.Pointer.the-variants.{At as Entry}
 use Rattle.words.specs.declared.Reason.the-variants as reason
 use Rattle.model.specs.declared.Deed.{Deed}
-use Rattle.model.specs.declared.Deed.the-variants.{Refuse, RefuseSize, WrongKey, Connect, Disconnect, Status, Synch, NoSeed, GiveSeed, Unlock, SetMta, Upload, Checksum, Download, ClearList, SetPointer, ClearEntry, WriteEntry, SetMode, Stop, Start, KeepRunning, Select, StopAll, StartSelected, StopSelected, ProcessorInfo, ResolutionInfo}
+use Rattle.model.specs.declared.Deed.the-variants.{Refuse, RefuseSize, WrongKey, Connect, Disconnect, Status, Synch, NoSeed, GiveSeed, Unlock, SetMta, Upload, Checksum, Download, ClearList, SetPointer, ClearEntry, WriteEntry, SetMode, Stop, Start, KeepRunning, Select, StopAll, StartSelected, StopSelected, ProcessorInfo, ResolutionInfo, FreeLists, AllocLists, AllocOdts, AllocEntries}
 use Rattle.model.specs.Step.{nextEntry}
 use Rattle.model.specs.Answers.{replyIn, written}
 use Rattle.model.specs.View.{sessionOf}
+
+-- entry e of list l's ODT o is written, and the next one is pointed to
+abbrev pub entryWritten : List ℕ → ℕ → ℕ → ℕ → ℕ → Extension → ℕ → List ℕ
+entryWritten s l o e n ext a =
+    setPointer (entrySet s l (firstOdt s l + o) e n ext a) (nextEntry (entryCount s (firstOdt s l + o)) l o e)
 
 -- ---- the state after a deed, but for its answer
 unfoldable pub effect : Deed → List ℕ → List ℕ
@@ -35,19 +43,23 @@ effect (Upload e a n) s = setMta s (At e (a + n))
 effect (Checksum e a n) s = setMta s (At e (a + n))
 effect (Download from a n) s = setMta s (At Calibration (a + n))
 effect (ClearList l) s = listCleared s l
-effect (SetPointer k e) s = setPointer s (Entry k e)
-effect (ClearEntry k e) s = setPointer (entrySet s (listOf k) k e 0 Calibration 0) (nextEntry k e)
-effect (WriteEntry k e n ext a) s = setPointer (entrySet s (listOf k) k e n ext a) (nextEntry k e)
+effect (SetPointer l o e) s = setPointer s (Entry l o e)
+effect (ClearEntry l o e) s = entryWritten s l o e 0 Calibration 0
+effect (WriteEntry l o e n ext a) s = entryWritten s l o e n ext a
 effect (SetMode l event) s = modeSet s l event
 effect (Stop l) s = stopped s l
 effect (Start l) s = started s l
 effect (KeepRunning l) s = s
 effect (Select l) s = set s (selectedAt l) 1
-effect StopAll s = stopEach s lists
-effect StartSelected s = startSelected s lists
-effect StopSelected s = stopSelected s lists
+effect StopAll s = stopEach s (listCount s)
+effect StartSelected s = startSelected s (listCount s)
+effect StopSelected s = stopSelected s (listCount s)
 effect ProcessorInfo s = s
 effect ResolutionInfo s = s
+effect FreeLists s = listsFreed s
+effect (AllocLists n) s = listsAllocated s n
+effect (AllocOdts l n) s = odtsAllocated s l n
+effect (AllocEntries l o n) s = entriesAllocated s (firstOdt s l + o) n
 
 -- the answer, by what the state shows before the deed
 abbrev pub reply : Deed → List ℕ → List ℕ → List ℕ → List ℕ

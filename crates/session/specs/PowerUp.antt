@@ -4,17 +4,17 @@ use mathlib.Core.Path.{_≡_}
 use mathlib.Core.Bool.{cond}
 use mathlib.Core.List.{List}
 use lib.Dec.{eqb}
-use lib.ListN.{length, set, replicate}
-use Rattle.state.specs.Layout.{lastList, mark, markAt, servedAt, size}
+use lib.ListN.{length, replicate}
+use Rattle.state.specs.Layout.{mark, markAt, size}
 use Rattle.state.specs.Bytes.{put32}
 use Rattle.state.specs.Generator.{startOf}
 use Rattle.state.specs.State.{setGenerator}
 use Rattle.words.specs.declared.PoweredUp.{PoweredUp}
 use Rattle.words.specs.declared.PoweredUp.the-variants.{Done, NoState}
 
--- the last list counts as last served; all else is 0
+-- all else is 0
 unfoldable pub powered : ℕ → List ℕ
-powered start = set (setGenerator (put32 (replicate size 0) markAt mark) (startOf start)) servedAt lastList
+powered start = setGenerator (put32 (replicate size 0) markAt mark) (startOf start)
 
 pub record Power : Type 0 where
   pub poweredUp : PoweredUp

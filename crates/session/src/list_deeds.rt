@@ -1,105 +1,121 @@
 // The deeds of the lists: of each its effect, then its answer.
 ghost use mathlib.Core.Path.{_≡_};
-ghost use mathlib.Core.List.{[], _∷_};
-ghost use Prim.Native.Nat.{_<_};
+ghost use mathlib.Core.List.{[]};
+ghost use Prim.Native.Nat.{_≤_, _<_};
 ghost use lib.ListN.{length};
-ghost use Rattle.state.specs.Layout.{lists, entryCount, allOdts, events, size, firstOdt};
+ghost use Rattle.state.specs.Layout.{allEntries, size};
+ghost use Rattle.model.specs.Model.{firstOf};
 ghost use Rattle.model.specs.Step.{nextEntry};
+ghost use Rattle.model.specs.View.{sessionOf};
+ghost use Rattle.judge.specs.Doable.{Entered};
 ghost use Rattle.session.specs.Perform.{after};
-ghost use Rattle.state.specs.State.{Pointed, answered};
 use crate::answer;
+use lists::alloc;
 use lists::changes;
 use model::Deed;
 use state::fields;
-use state::layout;
+use state::pool;
 use words::Extension;
 use words::Pointer;
 
 pub fn clear_list(s: &mut [u8], l: u8)
-    requires { ⌜ (length (now s) ≡ size) × (l < lists) ⌝ }
+    requires { ⌜ length (now s) ≡ size ⌝ }
     ensures { λ _. ⌜ now (s .exit) ≡ after (Deed.ClearList l) (now (s .entry)) [] [] ⌝ }
 {
     changes::clear_list(s, l);
     answer::ok(s);
 }
 
-pub fn set_pointer(s: &mut [u8], k: u8, e: u8)
-    requires { ⌜ (length (now s) ≡ size) × (k < allOdts) × (e < entryCount k) ⌝ }
-    ensures { λ _. ⌜ now (s .exit) ≡ after (Deed.SetPointer k e) (now (s .entry)) [] [] ⌝ }
+pub fn set_pointer(s: &mut [u8], l: u8, odt: u8, e: u8)
+    requires { ⌜ length (now s) ≡ size ⌝ }
+    ensures { λ _. ⌜ now (s .exit) ≡ after (Deed.SetPointer l odt e) (now (s .entry)) [] [] ⌝ }
 {
-    fields::set_pointer(s, Pointer::At { odt: k, entry: e });
+    fields::set_pointer(
+        s,
+        Pointer::At {
+            list: l,
+            odt,
+            entry: e,
+        },
+    );
     answer::ok(s);
 }
 
-// After an ODT's last entry the pointer is unset.
-fn next_entry(k: u8, e: u8) -> Pointer
-    requires { ⌜ (k < allOdts) × (e < entryCount k) ⌝ }
-    ensures { λ r. ⌜ (r ≡ nextEntry k e) × Pointed r ⌝ }
+// After the last of an ODT's n entries the pointer is unset.
+fn next_entry(n: u16, l: u8, odt: u8, e: u8) -> Pointer
+    requires { ⌜ (e < n) × (n ≤ allEntries) ⌝ }
+    ensures { λ r. ⌜ r ≡ nextEntry n l odt e ⌝ }
 {
-    if e == layout::LAST_ENTRY {
+    if e as u16 + 1 == n {
         return Pointer::Unset;
     }
     Pointer::At {
-        odt: k,
+        list: l,
+        odt,
         entry: e + 1,
     }
 }
 
-pub fn write_entry(s: &mut [u8], k: u8, e: u8, n: u8, extension: Extension, address: u32)
-    requires { ⌜ (length (now s) ≡ size) × (k < allOdts) × (e < entryCount k) ⌝ }
-    ensures { λ _. ⌜ now (s .exit) ≡ after (Deed.WriteEntry k e n extension address) (now (s .entry)) [] [] ⌝ }
+pub fn write_entry(s: &mut [u8], l: u8, odt: u8, e: u8, n: u8, extension: Extension, address: u32)
+    requires { ⌜ (length (now s) ≡ size) × Entered (sessionOf (now s)) l odt e ⌝ }
+    ensures { λ _. ⌜ now (s .exit) ≡ after (Deed.WriteEntry l odt e n extension address) (now (s .entry)) [] [] ⌝ }
 {
-    changes::set_entry(s, k as u16, e, n, extension, address);
-    fields::set_pointer(s, next_entry(k, e));
+    let k = pool::odts(s, l as u16).first + odt as u16;
+    let next = next_entry(pool::entries(s, k).count, l, odt, e);
+    changes::set_entry(s, l, odt, e, n, extension, address);
+    fields::set_pointer(s, next);
     answer::ok(s);
 }
 
 // One of size 0 is none.
-pub fn clear_entry(s: &mut [u8], k: u8, e: u8)
-    requires { ⌜ (length (now s) ≡ size) × (k < allOdts) × (e < entryCount k) ⌝ }
-    ensures { λ _. ⌜ now (s .exit) ≡ after (Deed.ClearEntry k e) (now (s .entry)) [] [] ⌝ }
+pub fn clear_entry(s: &mut [u8], l: u8, odt: u8, e: u8)
+    requires { ⌜ (length (now s) ≡ size) × Entered (sessionOf (now s)) l odt e ⌝ }
+    ensures { λ _. ⌜ now (s .exit) ≡ after (Deed.ClearEntry l odt e) (now (s .entry)) [] [] ⌝ }
 {
-    write_entry(s, k, e, 0, Extension::Calibration, 0);
+    write_entry(s, l, odt, e, 0, Extension::Calibration, 0);
 }
 
 pub fn set_mode(s: &mut [u8], l: u8, event: u8)
-    requires { ⌜ (length (now s) ≡ size) × (l < lists) × (event < events) ⌝ }
+    requires { ⌜ length (now s) ≡ size ⌝ }
     ensures { λ _. ⌜ now (s .exit) ≡ after (Deed.SetMode l event) (now (s .entry)) [] [] ⌝ }
 {
     changes::set_mode(s, l, event);
     answer::ok(s);
 }
 
-// FF and the number of a list's first ODT.
-pub fn give_first_odt(s: &mut [u8], l: u8)
-    requires { ⌜ (length (now s) ≡ size) × (l < lists) ⌝ }
-    ensures { λ _. ⌜ now (s .exit) ≡ answered (now (s .entry)) (0xFF ∷ firstOdt l ∷ []) ⌝ }
+// The number of a list's first ODT.
+pub fn first_odt(s: &[u8], l: u8) -> u8
+    requires { ⌜ l < sessionOf (now s) .lists ⌝ }
+    ensures { λ r. ⌜ r ≡ firstOf (sessionOf (now (s .entry))) l ⌝ }
 {
-    answer::two(s, 0xFF, layout::first_odt(l) as u8);
+    pool::odts(s, l as u16).first as u8
 }
 
 pub fn stop(s: &mut [u8], l: u8)
-    requires { ⌜ (length (now s) ≡ size) × (l < lists) ⌝ }
+    requires { ⌜ (length (now s) ≡ size) × (l < sessionOf (now s) .lists) ⌝ }
     ensures { λ _. ⌜ now (s .exit) ≡ after (Deed.Stop l) (now (s .entry)) [] [] ⌝ }
 {
+    let first = first_odt(s, l);
     changes::stop(s, l);
-    give_first_odt(s, l);
+    answer::two(s, 0xFF, first);
 }
 
 pub fn start(s: &mut [u8], l: u8)
-    requires { ⌜ (length (now s) ≡ size) × (l < lists) ⌝ }
+    requires { ⌜ (length (now s) ≡ size) × (l < sessionOf (now s) .lists) ⌝ }
     ensures { λ _. ⌜ now (s .exit) ≡ after (Deed.Start l) (now (s .entry)) [] [] ⌝ }
 {
+    let first = first_odt(s, l);
     changes::start(s, l);
-    give_first_odt(s, l);
+    answer::two(s, 0xFF, first);
 }
 
 pub fn select(s: &mut [u8], l: u8)
-    requires { ⌜ (length (now s) ≡ size) × (l < lists) ⌝ }
+    requires { ⌜ (length (now s) ≡ size) × (l < sessionOf (now s) .lists) ⌝ }
     ensures { λ _. ⌜ now (s .exit) ≡ after (Deed.Select l) (now (s .entry)) [] [] ⌝ }
 {
+    let first = first_odt(s, l);
     changes::select(s, l, 1);
-    give_first_odt(s, l);
+    answer::two(s, 0xFF, first);
 }
 
 pub fn stop_all(s: &mut [u8])
@@ -123,5 +139,37 @@ pub fn stop_selected(s: &mut [u8])
     ensures { λ _. ⌜ now (s .exit) ≡ after Deed.StopSelected (now (s .entry)) [] [] ⌝ }
 {
     changes::stop_selected(s);
+    answer::ok(s);
+}
+
+pub fn free_lists(s: &mut [u8])
+    requires { ⌜ length (now s) ≡ size ⌝ }
+    ensures { λ _. ⌜ now (s .exit) ≡ after Deed.FreeLists (now (s .entry)) [] [] ⌝ }
+{
+    alloc::free(s);
+    answer::ok(s);
+}
+
+pub fn alloc_lists(s: &mut [u8], n: u8)
+    requires { ⌜ length (now s) ≡ size ⌝ }
+    ensures { λ _. ⌜ now (s .exit) ≡ after (Deed.AllocLists n) (now (s .entry)) [] [] ⌝ }
+{
+    alloc::alloc_lists(s, n);
+    answer::ok(s);
+}
+
+pub fn alloc_odts(s: &mut [u8], l: u8, n: u8)
+    requires { ⌜ length (now s) ≡ size ⌝ }
+    ensures { λ _. ⌜ now (s .exit) ≡ after (Deed.AllocOdts l n) (now (s .entry)) [] [] ⌝ }
+{
+    alloc::alloc_odts(s, l, n);
+    answer::ok(s);
+}
+
+pub fn alloc_entries(s: &mut [u8], l: u8, odt: u8, n: u8)
+    requires { ⌜ length (now s) ≡ size ⌝ }
+    ensures { λ _. ⌜ now (s .exit) ≡ after (Deed.AllocEntries l odt n) (now (s .entry)) [] [] ⌝ }
+{
+    alloc::alloc_entries(s, l, odt, n);
     answer::ok(s);
 }

@@ -6,6 +6,7 @@ ghost use Rattle.state.specs.Layout.{packetMost, size, packetAt};
 ghost use Rattle.state.specs.Bytes.{block};
 ghost use Rattle.session.specs.Perform.{Performs};
 ghost use Rattle.judge.specs.Doable.{Doable};
+ghost use Rattle.model.specs.View.{sessionOf};
 use crate::answer;
 use crate::deeds;
 use crate::list_answers;
@@ -14,7 +15,7 @@ use model::Deed;
 
 // A deed whose packet has len bytes.
 pub fn perform(deed: Deed, s: &mut [u8], cal: &mut [u8], meas: &[u8], len: u8)
-    requires { ⌜ (length (now s) ≡ size) × (len ≤ packetMost) × Doable deed len (length (now cal)) (length (now meas)) ⌝ }
+    requires { ⌜ (length (now s) ≡ size) × (len ≤ packetMost) × Doable deed (sessionOf (now s)) len (length (now cal)) (length (now meas)) ⌝ }
     ensures { λ _. ⌜ Performs deed (block (now (s .entry)) packetAt len) (now (s .entry)) (now (cal .entry)) (now (meas .entry)) (now (s .exit)) (now (cal .exit)) ⌝ }
 {
     match deed {
@@ -33,9 +34,9 @@ pub fn perform(deed: Deed, s: &mut [u8], cal: &mut [u8], meas: &[u8], len: u8)
         Deed::Checksum(e, a, n) => deeds::checksum(s, cal, meas, e, a, n),
         Deed::Download(from, a, n) => deeds::download(s, cal, from, a, n, len),
         Deed::ClearList(l) => list_deeds::clear_list(s, l),
-        Deed::SetPointer(k, e) => list_deeds::set_pointer(s, k, e),
-        Deed::ClearEntry(k, e) => list_deeds::clear_entry(s, k, e),
-        Deed::WriteEntry(k, e, n, ext, a) => list_deeds::write_entry(s, k, e, n, ext, a),
+        Deed::SetPointer(l, o, e) => list_deeds::set_pointer(s, l, o, e),
+        Deed::ClearEntry(l, o, e) => list_deeds::clear_entry(s, l, o, e),
+        Deed::WriteEntry(l, o, e, n, ext, a) => list_deeds::write_entry(s, l, o, e, n, ext, a),
         Deed::SetMode(l, event) => list_deeds::set_mode(s, l, event),
         Deed::Stop(l) => list_deeds::stop(s, l),
         Deed::Start(l) => list_deeds::start(s, l),
@@ -46,5 +47,9 @@ pub fn perform(deed: Deed, s: &mut [u8], cal: &mut [u8], meas: &[u8], len: u8)
         Deed::StopSelected => list_deeds::stop_selected(s),
         Deed::ProcessorInfo => list_answers::processor_info(s),
         Deed::ResolutionInfo => list_answers::resolution_info(s),
+        Deed::FreeLists => list_deeds::free_lists(s),
+        Deed::AllocLists(n) => list_deeds::alloc_lists(s, n),
+        Deed::AllocOdts(l, n) => list_deeds::alloc_odts(s, l, n),
+        Deed::AllocEntries(l, o, n) => list_deeds::alloc_entries(s, l, o, n),
     }
 }

@@ -16,5 +16,4 @@ pub fn write_all(s: &mut [u8], start: u32)
     clear(s, 0, layout::STATE);
     store32(s, layout::MARK_AT, layout::MARK);
     fields::set_generator(s, Generator::new(start));
-    s[layout::SERVED] = layout::LAST_LIST;
 }

@@ -1,6 +1,7 @@
 -- What the demands shut out.
 pub mod Computed
 pub mod AsOurs
+pub mod Taken
 pub mod ShutOut
 -- The bench sheet.
 pub mod Table

@@ -1,5 +1,5 @@
 -- Each wrong slave fails the demand that is to shut it out: one run of it is computed. Assumes nothing.
-use Prim.Native.Nat.{ℕ, _+_, _-_, _≤_}
+use Prim.Native.Nat.{ℕ, _+_, _-_, _≤_, _<_}
 use mathlib.Core.Path.{_≡_, refl, ap, sym, _∙_, subst}
 use mathlib.Core.Logic.{inl, inr}
 use mathlib.Core.Bool.{Bool, true, false, cond}
@@ -24,18 +24,21 @@ use Rattle.words.specs.declared.Extension.the-variants.{Calibration as Calibrat
 use Rattle.words.specs.declared.Mta.{Mta}
 use Rattle.words.specs.declared.Mta.the-variants.{Unset, At}
 use Rattle.model.specs.Calls.{turnIn, packetFor}
-use Rattle.model.specs.Model.{byte, hasAnswer}
+use Rattle.model.specs.Model.{byte, entriesTaken, hasAnswer}
 use Rattle.model.specs.View.{sessionOf, viewOf}
+use Rattle.views.specs.Full.{Fills}
 use Rattle.demands.specs.Slave.{AnySlave}
 use Rattle.demands.specs.Runs.{Byte, Event, SendingSlot}
 use Rattle.demands.specs.Heard.{packetEnded}
 use Rattle.demands.specs.Demand1.{Demand1}
 use Rattle.demands.specs.Demand2.{Demand2, ReadsBack, WritesTo, byDownload, byShortDownload, ReadsFrom, byUpload, byShortUpload}
 use Rattle.demands.specs.Demand3.{Demand3}
+use Rattle.demands.specs.Obeyed.{Obeyed}
 use Rattle.demands.specs.StaysShut.{StaysShut}
-use Rattle.shown.specs.Wrong.{refusesAlways, silent, onlyConnects, alwaysFF, storesNothing, obeysDamaged, readsEscaped, allAtOnce, slotsUpTo, sumsEscaped, neverSamples, inventsCounts, inventsMissed, movesAfterRefusal, leavesMta, loadLeavesMta, loadsAtMta, readsLate, opensBoth, connectClears, shutsFirst}
-use Rattle.shown.specs.Exchange.{slot, says, asks, askAll, begun, lastByte, device, answering, reached, connect, synch, seedOfCalibration, keyOfCalibration, tries, mtaTo, upload, uploadFirst, downloadOne, downloadFirst, downloading, uploading, pair, loadingFirst, fetchingFirst, readingOn, measuring}
+use Rattle.shown.specs.Wrong.{refusesAlways, silent, onlyConnects, alwaysFF, storesNothing, obeysDamaged, readsEscaped, allAtOnce, slotsUpTo, sumsEscaped, neverSamples, inventsCounts, inventsMissed, stampsEach, keepsFreed, beginsBehind, movesAfterRefusal, leavesMta, loadLeavesMta, loadsAtMta, readsLate, opensBoth, connectClears, shutsFirst}
+use Rattle.shown.specs.Exchange.{slot, says, asks, askAll, begun, lastByte, device, answering, reached, connect, synch, seedOfCalibration, keyOfCalibration, tries, mtaTo, upload, uploadFirst, downloadOne, downloadFirst, downloading, uploading, pair, loadingFirst, fetchingFirst, readingOn, listable, freeLists, allocLists, allocEntries, measuring, freedAgain}
 use Rattle.shown.proofs.Computed.{computed}
+use Rattle.shown.proofs.Taken.{low, asked, heardSo, left, taken-so}
 
 -- CONNECT is answered FE
 pub refusesAlways-fails : Demand2 refusesAlways → ⊥
@@ -173,7 +176,7 @@ sumsEscaped-fails d =
 pub neverSamples-fails : Demand2 neverSamples → ⊥
 unfolding computed
 neverSamples-fails d =
-    let e : _≡_ {A = ℕ} 0 2 = ap length (d .samples (reached neverSamples (measuring (5 ∷ []))) [] (5 ∷ []) 0 0 0 refl (lit≤ tt) (lit< tt) refl) in omega arith
+    let e : _≡_ {A = ℕ} 0 2 = ap length (d .samples (reached neverSamples (measuring (5 ∷ []))) [] (5 ∷ []) 0 0 0 refl (lit≤ tt) refl) in omega arith
 
 -- no list runs, and one is said to be sampled
 pub inventsCounts-fails : Demand2 inventsCounts → ⊥
@@ -184,6 +187,31 @@ inventsCounts-fails d = let e : _≡_ {A = ℕ} 256 0 = ap eventedValue (d .coun
 pub inventsMissed-fails : Demand2 inventsMissed → ⊥
 unfolding computed
 inventsMissed-fails d = let e : _≡_ {A = ℕ} 1 0 = ap eventedValue (d .counts (powered 1) [] [] 0 0 refl (lit≤ tt)) in omega arith
+
+-- list 0 is sampled, and the packet of its second ODT has two bytes more
+pub stampsEach-fails : Demand2 stampsEach → ⊥
+unfolding computed
+stampsEach-fails d =
+    let e : _≡_ {A = ℕ} 4 2 = ap (λ ps. length (getD ps 1 [])) (d .samples (reached stampsEach (measuring (5 ∷ []))) [] (5 ∷ []) 0 0 0 refl (lit≤ tt) refl) in omega arith
+
+-- ---- the pool
+-- one entry is written and freed; then 128 are answered FE 30, though none is taken
+not-full : (v : AnySlave) (s p : List ℕ) → asked v s p ≡ heardSo p (0xFE ∷ 0x30 ∷ []) 1 1 1 0 → lastByte p < 256 → byte p 0 ≡ 0xD3 → byte p 5 ≡ 128 → Fills (Obeyed v) → ⊥
+unfolding asked heardSo
+not-full v s p k h code many d =
+    let e : 128 < entriesTaken (sessionOf s) + byte p 5 = d .entries p (sessionOf s) [] [] (left v s p) (taken-so v s p (0xFE ∷ 0x30 ∷ []) 1 1 1 0 h k) code .0 (ap (λ x. x .answer) k) .1
+    in omega (arith, e, many, ap (λ x. x .entriesTaken) k)
+
+pub keepsFreed-fails : Fills (Obeyed keepsFreed) → ⊥
+unfolding computed low asked heardSo
+keepsFreed-fails = not-full keepsFreed (reached keepsFreed (freedAgain ++ begun [] [] (allocEntries 0 0 128))) (allocEntries 0 0 128) refl (lit< tt) refl refl
+
+-- after FREE_DAQ two lists are allocated, and the round begins with the second
+pub beginsBehind-fails : Demand2 beginsBehind → ⊥
+unfolding computed
+beginsBehind-fails d =
+    let s : List ℕ = reached beginsBehind (listable ++ (asks [] [] freeLists ++ begun [] [] (allocLists 2))) in
+    let e : _≡_ {A = ℕ} 1 0 = ap (λ o. sessionOf (o .state) .round) (d .reads s [] [] (lastByte (allocLists 2)) refl) in omega arith
 
 -- ---- slips
 -- refused for want of memory, UPLOAD of 1 moves the MTA from 0 to 1
@@ -229,7 +257,7 @@ loadLeavesMta-fails d =
 pub readsLate-fails : Demand3 readsLate → ⊥
 unfolding computed
 readsLate-fails d =
-    let e : _≡_ {A = ℕ} 6 5 = ap (λ ps. getD (getD ps 1 []) 1 0) (d .sampled (reached readsLate (measuring (5 ∷ []))) [] (5 ∷ []) 0 0 0 (Byte [] (6 ∷ []) 0 ∷ replicate 16 slot) refl (lit≤ tt) (lit< tt) refl (refl, tt) (lit≤ tt) .1)
+    let e : _≡_ {A = ℕ} 6 5 = ap (λ ps. getD (getD ps 1 []) 1 0) (d .sampled (reached readsLate (measuring (5 ∷ []))) [] (5 ∷ []) 0 0 0 (Byte [] (6 ∷ []) 0 ∷ replicate 4 slot) refl (lit≤ tt) refl (refl, tt) (lit≤ tt) .1)
     in omega arith
 
 -- the key to calibration unlocks lists

@@ -19,7 +19,7 @@ use Rattle.demands.specs.Slave.{AnySlave}
 use Rattle.demands.specs.Heard.{packetEnded, readBy}
 use Rattle.demands.specs.Demand2.{Demand2}
 use Rattle.shown.specs.Exchange.{lastByte}
-use Rattle.shown.specs.Table.{Comes, Holds, connectFrame, connectAnswer, synchFrame, synchAnswer, escapedPacket, escapedCtr, seedGiven, calibrationKey, calibrationOpens, listsKey, listsOpen, weightSent, download62Done, download62Refused, download63Refused, odt61Starts, odt62Refused, table, data62, download, begun62At}
+use Rattle.shown.specs.Table.{Comes, Holds, connectFrame, connectAnswer, synchFrame, synchAnswer, escapedPacket, escapedCtr, seedGiven, calibrationKey, calibrationOpens, listsKey, listsOpen, weightPacket, weightSent, download62Done, download62Refused, download63Refused, odt61Starts, odt62Refused, table, data62, download, begun62At}
 use Rattle.demands.proofs.Received.{received-by, commanded}
 use Rattle.shown.proofs.Computed.{computed}
 
@@ -68,6 +68,10 @@ lists-open : Comes (listsOpen 6)
 unfolding computed
 lists-open = refl
 
+weight-packet : Comes (weightPacket 7)
+unfolding computed
+weight-packet = refl
+
 weight-sent : Comes (weightSent 7)
 unfolding computed
 weight-sent = refl
@@ -94,7 +98,7 @@ odt62-refused = refl
 
 -- all of them
 pub bench-sheet : Holds table
-bench-sheet = (connect-frame, (connect-answer, (synch-frame, (synch-answer, (escaped-packet, (escaped-ctr, (seed-given, (calibration-key, (calibration-opens, (lists-key, (lists-open, (weight-sent, (download62-done, (download62-refused, (download63-refused, (odt61-starts, (odt62-refused, tt)))))))))))))))))
+bench-sheet = (connect-frame, (connect-answer, (synch-frame, (synch-answer, (escaped-packet, (escaped-ctr, (seed-given, (calibration-key, (calibration-opens, (lists-key, (lists-open, (weight-packet, (weight-sent, (download62-done, (download62-refused, (download63-refused, (odt61-starts, (odt62-refused, tt))))))))))))))))))
 
 -- ---- case 8 with whatever memory of 4,096 bytes, of every slave that meets demand 2
 -- how DOWNLOAD of 62 stands at its last byte b

@@ -128,7 +128,20 @@ fetchingFirst = asks pair [] connect ++ begun pair [] uploadFirst
 abbrev pub readingOn : List Call
 readingOn = slot ∷ begun pair [] (upload 1)
 
--- ---- lists: the pointer; an entry of n bytes, the first of the measured values; event 0; a start
+-- ---- lists: freed, and n of them allocated; n ODTs of list l; n entries of its ODT; the pointer; an entry of n bytes, the first of the measured values;
+-- event 0; a start
+abbrev pub freeLists : List ℕ
+freeLists = 0xD6 ∷ []
+
+abbrev pub allocLists : ℕ → List ℕ
+allocLists n = 0xD5 ∷ 0 ∷ n ∷ 0 ∷ []
+
+abbrev pub allocOdts : ℕ → ℕ → List ℕ
+allocOdts l n = 0xD4 ∷ 0 ∷ l ∷ 0 ∷ n ∷ []
+
+abbrev pub allocEntries : ℕ → ℕ → ℕ → List ℕ
+allocEntries l odt n = 0xD3 ∷ 0 ∷ l ∷ 0 ∷ odt ∷ n ∷ []
+
 abbrev pub pointTo : ℕ → ℕ → ℕ → List ℕ
 pointTo l odt e = 0xE2 ∷ 0 ∷ l ∷ 0 ∷ odt ∷ e ∷ []
 
@@ -141,24 +154,46 @@ onEvent0 l = 0xE0 ∷ 0x10 ∷ l ∷ 0 ∷ 0 ∷ 0 ∷ 1 ∷ 0 ∷ []
 abbrev pub start : ℕ → List ℕ
 start l = 0xDE ∷ 1 ∷ l ∷ 0 ∷ []
 
--- list 0 has one byte, in its second ODT, and runs on event 0; the answer to its start waits
+-- two ODTs for each of n lists; a session with n such lists, and no entries yet
+abbrev pub twoOdts : ℕ → List (List ℕ)
+twoOdts zero = []
+twoOdts (suc n) = twoOdts n ++ allocOdts n 2 ∷ []
+
+abbrev pub withLists : ℕ → List Call
+withLists n = listable ++ askAll [] [] (freeLists ∷ allocLists n ∷ twoOdts n)
+
+-- of two ODTs list 0 has one byte, in its second, and runs on event 0; the answer to its start waits
 abbrev pub measuring : List ℕ → List Call
-measuring meas = listable ++ (askAll [] meas (pointTo 0 1 0 ∷ entryCommand 1 ∷ onEvent0 0 ∷ []) ++ says [] meas (start 0))
+measuring meas = withLists 1 ++ (askAll [] meas (allocEntries 0 1 1 ∷ pointTo 0 1 0 ∷ entryCommand 1 ∷ onEvent0 0 ∷ []) ++ says [] meas (start 0))
+
+-- one list of one ODT
+abbrev pub oneOdt : List (List ℕ)
+oneOdt = freeLists ∷ allocLists 1 ∷ allocOdts 0 1 ∷ []
+
+-- an entry of it is written; then it is freed, and as large a one allocated, without entries
+abbrev pub freedAgain : List Call
+freedAgain = listable ++ askAll [] (5 ∷ []) (oneOdt ++ (allocEntries 0 0 1 ∷ pointTo 0 0 0 ∷ entryCommand 1 ∷ oneOdt))
 
 -- so has list l; the answer has gone
 abbrev pub listed : ℕ → List Call
-listed l = askAll [] (5 ∷ []) (pointTo l 1 0 ∷ entryCommand 1 ∷ onEvent0 l ∷ start l ∷ [])
+listed l = askAll [] (5 ∷ []) (allocEntries l 1 1 ∷ pointTo l 1 0 ∷ entryCommand 1 ∷ onEvent0 l ∷ start l ∷ [])
 
--- four lists run, each with one byte in its second ODT; a sample of each has gone, that of list 3 last
+-- four lists of two ODTs run, each with one byte in its second; a sample of each has gone, that of list 3 last
 abbrev pub fourLists : List Call
-fourLists = listable ++ (listed 0 ++ (listed 1 ++ (listed 2 ++ (listed 3 ++ Event [] (5 ∷ []) 0 0 ∷ replicate 8 slot))))
+fourLists = withLists 4 ++ (listed 0 ++ (listed 1 ++ (listed 2 ++ (listed 3 ++ Event [] (5 ∷ []) 0 0 ∷ replicate 8 slot))))
 
 -- a command and two slots, n times
 abbrev pub turns : ℕ → List Call
 turns zero = []
 turns (suc n) = says [] [] synch ++ slot ∷ slot ∷ turns n
 
--- fifteen slots, and sixteen
+-- seven slots, eight, fifteen, and sixteen
+abbrev pub seven : List Call
+seven = turns 3 ++ (says [] [] synch ++ slot ∷ [])
+
+abbrev pub eight : List Call
+eight = turns 4
+
 abbrev pub fifteen : List Call
 fifteen = turns 7 ++ (says [] [] synch ++ slot ∷ [])
 

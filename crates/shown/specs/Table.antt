@@ -15,7 +15,7 @@ use Rattle.words.specs.declared.Resource.the-variants.{Calibration, Lists}
 use Rattle.demands.specs.Slave.{ours}
 use Rattle.demands.specs.Runs.{Call, Event, run, frames}
 use Rattle.demands.specs.Waiting.{packetRead}
-use Rattle.shown.specs.Exchange.{slot, bytes, asks, askAll, begun, reached, connect, synch, seedOfCalibration, seedOfLists, keyOfCalibration, keyOfLists, mtaTo, uploadFirst, writable, listable, pointTo, entryCommand, onEvent0, start}
+use Rattle.shown.specs.Exchange.{slot, bytes, asks, askAll, begun, reached, connect, synch, seedOfCalibration, seedOfLists, keyOfCalibration, keyOfLists, mtaTo, uploadFirst, writable, withLists, allocEntries, pointTo, entryCommand, onEvent0, start}
 
 pub record Row : Type 0 where
   pub number : ℕ
@@ -25,7 +25,7 @@ pub record Row : Type 0 where
 abbrev pub row : ℕ → List ℕ → List ℕ → Row
 row n got told = record { number = n; comesTo = got; sheet = told }
 
--- the last frame that ours sends in a run from state s; the answer in it
+-- the last frame that ours sends in a run from state s; the packet in it, most often an answer
 abbrev pub lastFrame : List (List ℕ) → List ℕ
 lastFrame [] = []
 lastFrame (f ∷ []) = f
@@ -64,13 +64,13 @@ begun62At a b = run ours (writableAt a b) (begun [] [] (download 62))
 abbrev pub answer62At : ℕ → ℕ → List ℕ
 answer62At a b = replyIn (judgeIn (download 62) (sessionOf (writableAt a b)) addressable 0) (sessionOf (writableAt a b)) [] []
 
--- the start of list 0, whose ODT 0 has fifteen entries of 4 bytes and one of n
+-- of four lists of two ODTs, the start of list 0, whose ODT 0 has fifteen entries of 4 bytes and one of n
 abbrev pub startWith : ℕ → List Call
-startWith n = listable ++ askAll [] (replicate 4 0) (pointTo 0 0 0 ∷ (replicate 15 (entryCommand 4) ++ entryCommand n ∷ onEvent0 0 ∷ start 0 ∷ []))
+startWith n = withLists 4 ++ askAll [] (replicate 4 0) (allocEntries 0 0 16 ∷ pointTo 0 0 0 ∷ (replicate 15 (entryCommand 4) ++ entryCommand n ∷ onEvent0 0 ∷ start 0 ∷ []))
 
--- list 1 with two bytes runs, and nine frames have gone
+-- of four lists of two ODTs list 1, with two bytes, runs
 abbrev pub weighing : List Call
-weighing = listable ++ askAll [] (0x64 ∷ 0x00 ∷ []) (pointTo 1 0 0 ∷ entryCommand 2 ∷ onEvent0 1 ∷ start 1 ∷ synch ∷ synch ∷ [])
+weighing = withLists 4 ++ askAll [] (0x64 ∷ 0x00 ∷ []) (allocEntries 1 0 1 ∷ pointTo 1 0 0 ∷ entryCommand 2 ∷ onEvent0 1 ∷ start 1 ∷ [])
 
 -- CONNECT and its answer
 abbrev pub connectFrame : ℕ → Row
@@ -111,9 +111,15 @@ listsKey number = row number (bytes32 (keyOf Lists 0x00042021)) (0x00 ∷ 0x21 �
 abbrev pub listsOpen : ℕ → Row
 listsOpen number = row number (answer (askAll [] [] (connect ∷ seedOfLists ∷ keyOfLists ∷ []))) (0xFF ∷ 0x01 ∷ [])
 
--- list 1, clock 0x1234, bytes 64 00, CTR 9
+-- list 1, clock 0x1234, bytes 64 00: the packet, as it goes after fourteen answers; and its frame in a session with CTR 9
+abbrev pub weight : List Call
+weight = Event [] (0x64 ∷ 0x00 ∷ []) 0 0x1234 ∷ slot ∷ []
+
+abbrev pub weightPacket : ℕ → Row
+weightPacket number = row number (answer (weighing ++ weight)) (0x02 ∷ 0x34 ∷ 0x12 ∷ 0x64 ∷ 0x00 ∷ [])
+
 abbrev pub weightSent : ℕ → Row
-weightSent number = row number (sent (weighing ++ Event [] (0x64 ∷ 0x00 ∷ []) 0 0x1234 ∷ slot ∷ [])) (0x9A ∷ 0x05 ∷ 0x09 ∷ 0x02 ∷ 0x34 ∷ 0x12 ∷ 0x64 ∷ 0x00 ∷ 0xBA ∷ [])
+weightSent number = row number (sentFrom (set (reached ours weighing) ctrAt 9) weight) (0x9A ∷ 0x05 ∷ 0x09 ∷ 0x02 ∷ 0x34 ∷ 0x12 ∷ 0x64 ∷ 0x00 ∷ 0xBA ∷ [])
 
 -- DOWNLOAD of 62 at 4,034 and at 4,035
 abbrev pub download62Done : ℕ → Row
@@ -146,6 +152,7 @@ table =
     ∷ calibrationOpens 5
     ∷ listsKey 6
     ∷ listsOpen 6
+    ∷ weightPacket 7
     ∷ weightSent 7
     ∷ download62Done 8
     ∷ download62Refused 8

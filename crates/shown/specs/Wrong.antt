@@ -3,27 +3,30 @@ use Prim.Native.Nat.{ℕ, zero, suc, _+_, _%_}
 use mathlib.Core.Bool.{Bool, true, false, cond}
 use mathlib.Core.Option.{Option, none, some}
 use mathlib.Core.List.{List, [], _∷_, _++_}
-use lib.Dec.{eqb, ltb}
+use lib.Dec.{eqb, ltb, leb}
 use lib.ListN.{length, getD, set, take, drop}
 use Rattle.line.specs.Stuffing.{stuff, onWire}
 use Rattle.line.specs.Message.{sum}
 use Rattle.line.specs.Writer.{atFront}
 use Rattle.line.specs.Number.{outcomeNumber}
-use Rattle.state.specs.Layout.{wrongKeysAt, calibrationAt, listsAt, firstOdt, entryCount}
+use Rattle.state.specs.Layout.{allOdts, allEntries, events, storedMost, wrongKeysAt, roundAt, calibrationAt, listsAt, entriesAt}
+use Rattle.state.specs.Pool.{listCount, firstOdt, odtCount, entryCount, entryTotal}
 use Rattle.state.specs.Bytes.{put32}
 use Rattle.state.specs.Generator.{staysShut}
-use Rattle.state.specs.State.{consistent, wrongKeysOf, ctrOf, openOf, maskOf, mtaOf, setMta, waits, answered}
+use Rattle.state.specs.State.{consistent, wrongKeysOf, ctrOf, openOf, maskOf, mtaOf, setMta, waits, answerOf, answered}
 use Rattle.state.specs.Lists.{storedLength}
 use Rattle.session.specs.Receive.{Step, only, obeyed, heeded, fedOf, receiveOf}
 use Rattle.model.specs.Heed.{goodConnect}
-use Rattle.lists.specs.Event.{Happened, stored, eventOf}
-use Rattle.model.specs.Calls.{blocksIn, packetFor}
+use Rattle.lists.specs.Event.{Happened, samplingOf, stored, eventOf}
+use Rattle.model.specs.Calls.{blocksIn, contentsIn, packetFor}
 use Rattle.model.specs.View.{odtOf, viewOf}
 use Rattle.lists.specs.Slot.{Slot, turnOf, slotOf}
 use Rattle.words.specs.Number.{slottedValue}
 use Rattle.session.specs.PowerUp.{powerUpOf}
 use Rattle.model.specs.declared.Deed.the-variants.{Refuse}
-use Rattle.words.specs.declared.Reason.the-variants.{Unknown, Locked}
+use Rattle.model.specs.declared.Sampling.{Sampling}
+use Rattle.model.specs.declared.Sampling.the-variants.{Idle as Unsampled, Sampled, Missed}
+use Rattle.words.specs.declared.Reason.the-variants.{Unknown, Locked, PoolFull}
 use Rattle.words.specs.declared.Mta.{Mta}
 use Rattle.words.specs.declared.Mta.the-variants.{Unset, At}
 use Rattle.words.specs.declared.Received.the-variants.{Silent, BadChecksum}
@@ -121,9 +124,9 @@ unfoldable pub slotsUpTo : ℕ → List ℕ → List ℕ → Slot
 slotsUpTo zero s out = slotOf s out
 slotsUpTo (suc n) s out = followed (slotOf s out .slotted) (slotOf s out) (slotsUpTo n)
 
--- a slot sends all that waits, an answer and two packets of each list, as far as there is room
+-- a slot sends all that waits, an answer and a packet of each ODT, as far as there is room
 abbrev pub allAtOnce : AnySlave
-allAtOnce = sending (slotsUpTo 8)
+allAtOnce = sending (slotsUpTo allOdts)
 
 -- a checksum taken over escaped bytes
 abbrev pub escapedSum : List ℕ → List ℕ
@@ -166,6 +169,53 @@ oneMissedMore EventNoState = EventNoState
 abbrev pub inventsMissed : AnySlave
 inventsMissed = happening (λ s cal meas event clock. record { evented = oneMissedMore (eventOf s cal meas event clock .evented); state = eventOf s cal meas event clock .state })
 
+-- each packet of a sample begins with the clock, as the first one does, and then has its bytes as far as there is room
+abbrev pub stampedOdts : List ℕ → ℕ → ℕ → List ℕ → List ℕ → ℕ → List ℕ
+stampedOdts s k clock cal meas zero = s
+stampedOdts s k clock cal meas (suc n) = stored (stampedOdts s k clock cal meas n) (k + n) (take storedMost (contentsIn 0 clock cal meas (odtOf s (k + n))))
+
+abbrev pub stampedAs : Sampling → List ℕ → ℕ → ℕ → List ℕ → List ℕ → List ℕ
+stampedAs Unsampled s l clock cal meas = s
+stampedAs Sampled s l clock cal meas = stampedOdts s (firstOdt s l) clock cal meas (odtCount s l)
+stampedAs Missed s l clock cal meas = s
+
+abbrev pub stampedLists : List ℕ → ℕ → ℕ → List ℕ → List ℕ → ℕ → List ℕ
+stampedLists s event clock cal meas zero = s
+stampedLists s event clock cal meas (suc n) = stampedAs (samplingOf s n event) (stampedLists s event clock cal meas n) n clock cal meas
+
+abbrev pub stampsEach : AnySlave
+stampsEach =
+    happening (λ s cal meas event clock. record { evented = eventOf s cal meas event clock .evented; state = cond (consistent s) (cond (leb events event) s (stampedLists s event clock cal meas (listCount s))) s })
+
+-- ---- the pool
+-- a command with that code is done: it is answered FF
+abbrev pub done : ℕ → List ℕ → Step → Bool
+done code p o = cond (eqb (getD p 0 0) code) (eqb (getD (answerOf (o .state)) 0 0) 0xFF) false
+
+-- how many of these entries, each of two bytes, were written
+abbrev pub writtenIn : List ℕ → ℕ
+writtenIn [] = 0
+writtenIn (head ∷ []) = 0
+writtenIn (head ∷ low ∷ bs) = cond (eqb head 0) (writtenIn bs) (suc (writtenIn bs))
+
+-- those of freed lists: they still stand behind the entries that there are
+abbrev pub freedEntries : List ℕ → ℕ
+freedEntries s = writtenIn (drop (entriesAt (entryTotal s)) (take (entriesAt allEntries) s))
+
+-- to ALLOC_ODT_ENTRY the entries of freed lists are taken
+abbrev pub overfull : List ℕ → List ℕ → Bool
+overfull p s = ltb allEntries (entryTotal s + freedEntries s + getD p 5 0)
+
+abbrev pub keepsFreed : AnySlave
+keepsFreed = heeding (λ p s cal meas. cond (done 0xD3 p (heeded p s cal meas)) (cond (overfull p s) (obeyed (Refuse PoolFull) p s cal meas) (heeded p s cal meas)) (heeded p s cal meas))
+
+-- after FREE_DAQ and ALLOC_DAQ the round begins behind list 0
+abbrev pub behindFirst : Step → Step
+behindFirst o = record { received = o .received; state = set (o .state) roundAt 1; cal = o .cal }
+
+abbrev pub beginsBehind : AnySlave
+beginsBehind = heeding (λ p s cal meas. cond (done 0xD5 p (heeded p s cal meas)) (behindFirst (heeded p s cal meas)) (heeded p s cal meas))
+
 -- ---- slips
 -- the MTA moves on by n bytes
 abbrev pub movedOn : Mta → ℕ → List ℕ → List ℕ
@@ -201,13 +251,16 @@ addressedBy (At e a) p = put32 p 4 a
 abbrev pub loadsAtMta : AnySlave
 loadsAtMta = heeding (λ p s cal meas. cond (eqb (getD p 0 0) 0xED) (heeded (addressedBy (mtaOf s) p) s cal meas) (heeded p s cal meas))
 
--- where a packet of ODT 1 waits, its bytes are taken from the memories lent now
+-- where a packet of ODT k waits, its bytes are taken from the memories lent now
 abbrev pub reread : List ℕ → ℕ → List ℕ → List ℕ → List ℕ
-reread s k cal meas = cond (ltb 0 (storedLength s k)) (stored s k (blocksIn (odtOf s k) cal meas (entryCount k))) s
+reread s k cal meas = cond (ltb 0 (storedLength s k)) (stored s k (blocksIn (odtOf s k) cal meas (entryCount s k))) s
 
--- the second ODT of list 0 is read again at each byte until it is sent
+-- the second ODT of list 0, if it has one, is read again at each byte until it is sent
+abbrev pub readAgain : List ℕ → List ℕ → List ℕ → List ℕ
+readAgain s cal meas = cond (ltb 1 (odtCount s 0)) (reread s (firstOdt s 0 + 1) cal meas) s
+
 abbrev pub readsLate : AnySlave
-readsLate = receiving (λ s cal meas b. cond (consistent s) (receiveOf (reread s (firstOdt 0 + 1) cal meas) cal meas b) (receiveOf s cal meas b))
+readsLate = receiving (λ s cal meas b. cond (consistent s) (receiveOf (readAgain s cal meas) cal meas b) (receiveOf s cal meas b))
 
 -- once a lock has opened, both are open
 abbrev pub bothOpen : List ℕ → Step → Step

@@ -3,5 +3,7 @@ pub mod Sets
 pub mod Rotated
 pub mod Xorshift
 pub mod Inside
+pub mod Ranges
+pub mod Allocated
 pub mod Pointers
 pub mod Consistent

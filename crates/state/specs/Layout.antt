@@ -1,28 +1,18 @@
 -- Where everything lies in the lent state. Limits and places have one name each; later limits change numbers here.
-use Prim.Native.Nat.{ℕ, _+_, _*_, _-_, _/_}
+use Prim.Native.Nat.{ℕ, _+_, _*_, _-_}
 use mathlib.Core.Bool.{Bool, cond}
 use lib.Dec.{eqb}
 use Rattle.line.specs.Message.{most, longest}
 
--- four lists, each two ODTs of sixteen entries
+-- the pool, for all lists together
 abbrev pub lists : ℕ
-lists = 4
+lists = 8
 
-abbrev pub odts : ℕ
-odts = 2
-
-abbrev pub entries : ℕ
-entries = 16
-
-abbrev pub lastList : ℕ
-lastList = lists - 1
-
-abbrev pub lastEntry : ℕ
-lastEntry = entries - 1
-
--- in all
 abbrev pub allOdts : ℕ
-allOdts = lists * odts
+allOdts = 16
+
+abbrev pub allEntries : ℕ
+allEntries = 128
 
 -- events 0 and 1
 abbrev pub events : ℕ
@@ -68,29 +58,16 @@ wrongMost = 3
 abbrev pub addressable : ℕ
 addressable = 4096
 
--- ---- which ODTs a list has, and which entries an ODT: the same for every list today, out of a table of allocations later
-abbrev pub firstOdt : ℕ → ℕ
-firstOdt l = odts * l
-
-abbrev pub odtCount : ℕ → ℕ
-odtCount l = odts
-
-abbrev pub listOf : ℕ → ℕ
-listOf k = k / odts
-
-abbrev pub entryCount : ℕ → ℕ
-entryCount k = entries
-
--- whether an ODT is its list's first; most bytes of an ODT in a packet
+-- whether a list's ODT o is its first; most bytes of it in a packet: before those of the first one the clock stands
 abbrev pub isFirst : ℕ → Bool
-isFirst k = eqb (firstOdt (listOf k)) k
+isFirst o = eqb o 0
 
 abbrev pub odtMost : ℕ → ℕ
-odtMost k = cond (isFirst k) (storedMost - clockSize) storedMost
+odtMost o = cond (isFirst o) (storedMost - clockSize) storedMost
 
 -- ---- the mark that power-up writes; it changes with every layout
 abbrev pub mark : ℕ
-mark = 0x34504358
+mark = 0x35504358
 
 abbrev pub markAt : ℕ
 markAt = 0
@@ -106,12 +83,13 @@ wrongKeysAt = generatorAt + 4
 abbrev pub ctrAt : ℕ
 ctrAt = wrongKeysAt + 1
 
-abbrev pub servedAt : ℕ
-servedAt = ctrAt + 1
+-- with which list the round begins
+abbrev pub roundAt : ℕ
+roundAt = ctrAt + 1
 
 -- whether the last frame was an answer
 abbrev pub lastAt : ℕ
-lastAt = servedAt + 1
+lastAt = roundAt + 1
 
 -- ---- the reader's place with its message buffer, and the waiting answer: before the tables, side by side
 abbrev pub placeAt : ℕ
@@ -133,7 +111,7 @@ answerAt = messageAt + longest
 abbrev pub answerBytesAt : ℕ
 answerBytesAt = answerAt + 1
 
--- ---- the session's own bytes: up to the entries they are written 0 when it closes
+-- ---- the session's own bytes: up to the count of lists they are written 0 when it closes, and what is behind it means nothing then
 abbrev pub sessionAt : ℕ
 sessionAt = answerBytesAt + packetMost
 
@@ -155,19 +133,30 @@ mtaAt = seedAt + 1
 abbrev pub addressAt : ℕ
 addressAt = mtaAt + 1
 
--- the list pointer: its ODT, and its entry
+-- the list pointer: its list and ODT, and its entry
 abbrev pub pointerAt : ℕ
 pointerAt = addressAt + 4
 
 abbrev pub pointerEntryAt : ℕ
 pointerEntryAt = pointerAt + 1
 
+-- whether the lists were freed, and how many there are since
+abbrev pub phaseAt : ℕ
+phaseAt = pointerEntryAt + 1
+
+-- of each list: how many ODTs it has; of each ODT, by its absolute number: how many entries
+abbrev pub odtsAt : ℕ
+odtsAt = phaseAt + 1
+
+abbrev pub countsAt : ℕ
+countsAt = odtsAt + lists
+
 -- of each list: mode, selected, running
 abbrev pub listSize : ℕ
 listSize = 3
 
 abbrev pub modeAt : ℕ → ℕ
-modeAt l = pointerEntryAt + 1 + listSize * l
+modeAt l = countsAt + allOdts + listSize * l
 
 abbrev pub selectedAt : ℕ → ℕ
 selectedAt l = modeAt l + 1
@@ -175,32 +164,22 @@ selectedAt l = modeAt l + 1
 abbrev pub runningAt : ℕ → ℕ
 runningAt l = modeAt l + 2
 
--- of each ODT, by its absolute number: how many of its entries are in use; from there on each is empty, whatever its bytes are
-abbrev pub usedAt : ℕ → ℕ
-usedAt k = modeAt lists + k
-
--- of each ODT: its entries, each two bytes of size, extension and address
+-- the entries, in the order of the ODTs and without gaps, each two bytes of size, extension and address
 abbrev pub entrySize : ℕ
 entrySize = 2
 
-abbrev pub odtSize : ℕ
-odtSize = entries * entrySize
-
 abbrev pub entriesAt : ℕ → ℕ
-entriesAt k = usedAt allOdts + odtSize * k
-
-abbrev pub entryAt : ℕ → ℕ → ℕ
-entryAt k e = entriesAt k + entrySize * e
+entriesAt i = modeAt lists + entrySize * i
 
 -- of each ODT: the length of its waiting packet without the number, and its bytes
 abbrev pub sampleSize : ℕ
 sampleSize = storedMost + 1
 
 abbrev pub sampleAt : ℕ → ℕ
-sampleAt k = entriesAt allOdts + sampleSize * k
+sampleAt k = entriesAt allEntries + sampleSize * k
 
 abbrev pub size : ℕ
 size = sampleAt allOdts
 
 abbrev pub sessionSize : ℕ
-sessionSize = entriesAt 0 - sessionAt
+sessionSize = odtsAt - sessionAt

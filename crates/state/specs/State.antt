@@ -1,5 +1,5 @@
 -- How each byte of the state reads, and the state with a field changed. Every value of every byte reads as some legal value.
-use Prim.Native.Nat.{ℕ, zero, suc, _+_, _-_, _%_, _<_}
+use Prim.Native.Nat.{ℕ, zero, suc, _+_, _*_, _-_, _/_, _%_, _<_}
 use mathlib.Core.Bool.{Bool, false, cond}
 use mathlib.Core.List.{List, _∷_, _++_}
 use lib.Dec.{eqb, ltb, leb}
@@ -8,7 +8,8 @@ use lib.Seq.{sets}
 use Rattle.line.specs.Message.{longest}
 use Rattle.line.specs.declared.Place.{Place}
 use Rattle.line.specs.declared.Place.the-variants.{Outside, Inside, Escaped}
-use Rattle.state.specs.Layout.{allOdts, entryCount, packetMost, wrongMost, mark, markAt, generatorAt, wrongKeysAt, ctrAt, openAt, calibrationAt, listsAt, seedAt, mtaAt, addressAt, pointerAt, pointerEntryAt, placeAt, countAt, messageAt, answerAt, answerBytesAt, sessionAt, sessionSize, sampleAt, size}
+use Rattle.state.specs.Layout.{allOdts, packetMost, wrongMost, mark, markAt, generatorAt, wrongKeysAt, ctrAt, openAt, calibrationAt, listsAt, seedAt, mtaAt, addressAt, pointerAt, pointerEntryAt, placeAt, countAt, messageAt, answerAt, answerBytesAt, sessionAt, sessionSize, sampleAt, size}
+use Rattle.state.specs.Pool.{listCount, firstOdt, odtCount, entryCount}
 use Rattle.state.specs.Bytes.{u32At, put32, block, cleared}
 use Rattle.state.specs.Generator.{startOf, staysShut, oneWrongMore}
 use Rattle.words.specs.declared.Resource.{Resource}
@@ -94,31 +95,38 @@ unfoldable pub setMta : List ℕ → Mta → List ℕ
 setMta s Unset = set s mtaAt 0
 setMta s (At e a) = put32 (set s mtaAt (mtaTag e)) addressAt a
 
--- one more than the ODT's number, and the entry; what is no entry reads as unset
+-- 1 more than 16 times the list plus its ODT, and the entry; what is no entry reads as unset
+abbrev pub pointedList : List ℕ → ℕ
+pointedList s = (getD s pointerAt 0 - 1) / allOdts
+
+abbrev pub pointedOdt : List ℕ → ℕ
+pointedOdt s = (getD s pointerAt 0 - 1) % allOdts
+
 unfoldable pub pointerOf : List ℕ → Pointer
 pointerOf s =
     cond (eqb (getD s pointerAt 0) 0) NoEntry
-    (cond (ltb allOdts (getD s pointerAt 0)) NoEntry
-    (cond (leb (entryCount (getD s pointerAt 0 - 1)) (getD s pointerEntryAt 0)) NoEntry
-    (Entry (getD s pointerAt 0 - 1) (getD s pointerEntryAt 0))))
+    (cond (leb (listCount s) (pointedList s)) NoEntry
+    (cond (leb (odtCount s (pointedList s)) (pointedOdt s)) NoEntry
+    (cond (leb (entryCount s (firstOdt s (pointedList s) + pointedOdt s)) (getD s pointerEntryAt 0)) NoEntry
+    (Entry (pointedList s) (pointedOdt s) (getD s pointerEntryAt 0)))))
 
 unfoldable pub setPointer : List ℕ → Pointer → List ℕ
 setPointer s NoEntry = set s pointerAt 0
-setPointer s (Entry k e) = set (set s pointerAt ((k + 1) % 256)) pointerEntryAt e
+setPointer s (Entry l o e) = set (set s pointerAt ((allOdts * l + o + 1) % 256)) pointerEntryAt e
 
--- one of the entries
-abbrev pub Pointed : Pointer → Type 0
-Pointed NoEntry = Unit
-Pointed (Entry k e) = (k < allOdts) × (e < entryCount k)
+-- one of the entries that there are
+abbrev pub Pointed : List ℕ → Pointer → Type 0
+Pointed s NoEntry = Unit
+Pointed s (Entry l o e) = (l < listCount s) × (o < odtCount s l) × (e < entryCount s (firstOdt s l + o))
 
 -- the packets of the n ODTs from k on dropped: of none is there a length
 unfoldable pub dropped : List ℕ → ℕ → ℕ → List ℕ
 dropped s k zero = s
 dropped s k (suc n) = set (dropped s k n) (sampleAt (k + n)) 0
 
--- a closed session, with everything in it as in a fresh one; and a fresh one
+-- a closed session, with everything in it as in a fresh one, which has no lists; and a fresh one
 unfoldable pub closed : List ℕ → List ℕ
-closed s = dropped (cleared s sessionAt sessionSize) 0 allOdts
+closed s = cleared s sessionAt sessionSize
 
 unfoldable pub fresh : List ℕ → List ℕ
 fresh s = set (closed s) openAt 1

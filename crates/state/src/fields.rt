@@ -13,6 +13,7 @@ use crate::bytes::put;
 use crate::bytes::store32;
 use crate::bytes::wide;
 use crate::layout;
+use crate::pool;
 use crate::seeds::one_wrong_more;
 use crate::seeds::stays_shut;
 use words::Extension;
@@ -193,21 +194,24 @@ pub fn set_mta(s: &mut [u8], mta: Mta)
 pub fn pointer(s: &[u8]) -> Pointer
     ensures { λ r. ⌜ r ≡ pointerOf (now (s .entry)) ⌝ }
 {
-    let k = get(s, layout::POINTER);
-    let e = get(s, layout::POINTER_ENTRY);
-    if k == 0 {
+    let at = get(s, layout::POINTER);
+    if at == 0 {
         return Pointer::Unset;
     }
-    if layout::ALL_ODTS < k {
+    let list = (at - 1) / layout::ALL_ODTS;
+    let odt = (at - 1) % layout::ALL_ODTS;
+    if pool::list_count(s) <= list {
         return Pointer::Unset;
     }
-    if layout::ENTRIES <= e {
+    let odts = pool::odts(s, list as u16);
+    if odts.count <= odt as u16 {
         return Pointer::Unset;
     }
-    Pointer::At {
-        odt: k - 1,
-        entry: e,
+    let entry = get(s, layout::POINTER_ENTRY);
+    if pool::entries(s, odts.first + odt as u16).count <= entry as u16 {
+        return Pointer::Unset;
     }
+    Pointer::At { list, odt, entry }
 }
 
 pub fn set_pointer(s: &mut [u8], pointer: Pointer)
@@ -217,19 +221,20 @@ pub fn set_pointer(s: &mut [u8], pointer: Pointer)
         Pointer::Unset => {
             put(s, layout::POINTER, 0);
         }
-        Pointer::At { odt, entry } => {
-            put(s, layout::POINTER, std::num::wrapping_add_u8(odt, 1));
+        Pointer::At { list, odt, entry } => {
+            let at = layout::ALL_ODTS_U16 * list as u16 + odt as u16 + 1;
+            put(s, layout::POINTER, (at % 256) as u8);
             put(s, layout::POINTER_ENTRY, entry);
         }
     }
 }
 
 // The packets of the n ODTs from k on dropped.
-pub fn drop_packets(s: &mut [u8], k: u16, n: u8)
+pub fn drop_packets(s: &mut [u8], k: u16, n: u16)
     ensures { λ _. ⌜ now (s .exit) ≡ dropped (now (s .entry)) k n ⌝ }
 {
     let mut at = layout::sample_at(k);
-    let mut j: u8 = 0;
+    let mut j: u16 = 0;
     while j < n {
         put(s, at, 0);
         at += layout::SAMPLE_SIZE;
@@ -237,12 +242,11 @@ pub fn drop_packets(s: &mut [u8], k: u16, n: u8)
     }
 }
 
-// The session's end: everything in it as in a fresh one.
+// The session's end: everything in it as in a fresh one, which has no lists.
 pub fn close(s: &mut [u8])
     ensures { λ _. ⌜ now (s .exit) ≡ closed (now (s .entry)) ⌝ }
 {
     clear(s, layout::SESSION, layout::SESSION_SIZE);
-    drop_packets(s, 0, layout::ALL_ODTS);
 }
 
 pub fn begin(s: &mut [u8])

@@ -1,25 +1,22 @@
 // Where everything lies in the lent state. docs/STATE.md says how each value reads.
 ghost use mathlib.Core.Path.{_≡_};
-ghost use Rattle.state.specs.Layout.{modeAt, selectedAt, runningAt, usedAt, entriesAt, entryAt, sampleAt, firstOdt, listOf, isFirst, odtMost};
+ghost use Rattle.state.specs.Layout.{modeAt, selectedAt, runningAt, entriesAt, sampleAt, isFirst, odtMost};
 
-// Four lists, each of two ODTs of sixteen entries.
-pub const LISTS: u8 = 4;
+// The pool, for all lists together.
+pub const LISTS: u8 = 8;
 
-pub const ODTS: u8 = 2;
+pub const ALL_ODTS: u8 = 16;
 
-pub const ENTRIES: u8 = 16;
+pub const ALL_ENTRIES: u8 = 128;
 
 pub const EVENTS: u8 = 2;
 
-pub const LAST_LIST: u8 = LISTS - 1;
-
-pub const LAST_ENTRY: u8 = ENTRIES - 1;
-
-// In all.
-pub const ALL_ODTS: u8 = LISTS * ODTS;
-
 // The same, in the widths of a packet's numbers and of an event's.
 pub const LISTS_U16: u16 = LISTS as u16;
+
+pub const ALL_ODTS_U16: u16 = ALL_ODTS as u16;
+
+pub const ALL_ENTRIES_U16: u16 = ALL_ENTRIES as u16;
 
 pub const EVENTS_U16: u16 = EVENTS as u16;
 
@@ -60,7 +57,7 @@ pub const CHECKSUM_MOST: u32 = ADDRESSABLE as u32;
 pub const ROOM: usize = line::ROOM;
 
 // The mark that power-up writes; it changes with every layout.
-pub const MARK: u32 = 0x3450_4358;
+pub const MARK: u32 = 0x3550_4358;
 
 pub const MARK_AT: usize = 0;
 
@@ -72,10 +69,11 @@ pub const WRONG_KEYS: usize = GENERATOR + 4;
 
 pub const CTR: usize = WRONG_KEYS + 1;
 
-pub const SERVED: usize = CTR + 1;
+// With which list the round begins.
+pub const ROUND: usize = CTR + 1;
 
 // Whether the last frame was an answer.
-pub const LAST: usize = SERVED + 1;
+pub const LAST: usize = ROUND + 1;
 
 // The reader's place with its message buffer, and the waiting answer: before the tables, side by side.
 pub const PLACE: usize = LAST + 1;
@@ -121,7 +119,7 @@ pub const ANSWER_6: usize = ANSWER_BYTES + 6;
 
 pub const ANSWER_7: usize = ANSWER_BYTES + 7;
 
-// The session's own bytes: up to the entries they are written 0 when it closes.
+// The session's own bytes: up to the count of lists they are written 0 when it closes, and what is behind it means nothing then.
 pub const SESSION: usize = ANSWER_BYTES + line::MOST;
 
 pub const OPEN: usize = SESSION;
@@ -136,34 +134,37 @@ pub const MTA: usize = SEED + 1;
 
 pub const ADDRESS: usize = MTA + 1;
 
-// The list pointer: its ODT, and its entry.
+// The list pointer: its list and ODT, and its entry.
 pub const POINTER: usize = ADDRESS + 4;
 
 pub const POINTER_ENTRY: usize = POINTER + 1;
 
+// Whether the lists were freed, and how many there are since.
+pub const PHASE: usize = POINTER_ENTRY + 1;
+
+// Of each list: how many ODTs it has; of each ODT, by its absolute number: how many entries.
+pub const ODTS: usize = PHASE + 1;
+
+pub const COUNTS: usize = ODTS + LISTS as usize;
+
 // Of each list: mode, selected, running.
-pub const MODE: usize = POINTER_ENTRY + 1;
+pub const MODE: usize = COUNTS + ALL_ODTS as usize;
 
 pub const LIST_SIZE: usize = 3;
 
-// Of each ODT: how many of its entries are in use.
-pub const USED: usize = MODE + LIST_SIZE * LISTS as usize;
-
-// Of each ODT: its entries, each two bytes of size, extension and address.
-pub const ENTRY: usize = USED + ALL_ODTS as usize;
+// The entries, in the order of the ODTs and without gaps, each two bytes of size, extension and address.
+pub const ENTRY: usize = MODE + LIST_SIZE * LISTS as usize;
 
 pub const ENTRY_SIZE: usize = 2;
 
-pub const ODT_SIZE: usize = ENTRIES as usize * ENTRY_SIZE;
-
 // Of each ODT: the length of its waiting packet without the number, and its bytes.
-pub const SAMPLE: usize = ENTRY + ODT_SIZE * ALL_ODTS as usize;
+pub const SAMPLE: usize = ENTRY + ENTRY_SIZE * ALL_ENTRIES as usize;
 
 pub const SAMPLE_SIZE: usize = 1 + STORED_MOST as usize;
 
 pub const STATE: usize = SAMPLE + SAMPLE_SIZE * ALL_ODTS as usize;
 
-pub const SESSION_SIZE: usize = ENTRY - SESSION;
+pub const SESSION_SIZE: usize = ODTS - SESSION;
 
 // Places are reckoned in 32 bits: a small processor has no product of 64.
 
@@ -187,57 +188,12 @@ pub fn running_at(l: u16) -> usize
     mode_at(l) + 2
 }
 
-// ---- storage by the ODT's absolute number; a table of allocations would stand here
+// ---- storage by the entry's and the ODT's absolute number
 
-// A list's first ODT.
-pub fn first_odt(l: u8) -> u16
-    ensures { λ r. ⌜ r ≡ firstOdt l ⌝ }
+pub fn entries_at(i: u16) -> usize
+    ensures { λ r. ⌜ r ≡ entriesAt i ⌝ }
 {
-    ODTS as u16 * l as u16
-}
-
-// An ODT's list.
-pub fn list_of(k: u16) -> u16
-    ensures { λ r. ⌜ r ≡ listOf k ⌝ }
-{
-    k / ODTS as u16
-}
-
-// Whether an ODT is its list's first.
-pub fn is_first(k: u16) -> bool
-    ensures { λ r. ⌜ r ≡ isFirst k ⌝ }
-{
-    ODTS as u16 * list_of(k) == k
-}
-
-// Most bytes of an ODT in a packet.
-pub fn odt_most(k: u16) -> u8
-    ensures { λ r. ⌜ r ≡ odtMost k ⌝ }
-{
-    if is_first(k) {
-        return STORED_MOST - CLOCK_SIZE;
-    }
-    STORED_MOST
-}
-
-// How many of an ODT's entries are in use.
-pub fn used_at(k: u16) -> usize
-    ensures { λ r. ⌜ r ≡ usedAt k ⌝ }
-{
-    USED + k as usize
-}
-
-// An ODT's entries, and one of them.
-pub fn entries_at(k: u16) -> usize
-    ensures { λ r. ⌜ r ≡ entriesAt k ⌝ }
-{
-    ENTRY + (ODT_SIZE as u32 * k as u32) as usize
-}
-
-pub fn entry_at(k: u16, e: u8) -> usize
-    ensures { λ r. ⌜ r ≡ entryAt k e ⌝ }
-{
-    entries_at(k) + (ENTRY_SIZE as u32 * e as u32) as usize
+    ENTRY + (ENTRY_SIZE as u32 * i as u32) as usize
 }
 
 // An ODT's waiting packet.
@@ -245,4 +201,21 @@ pub fn sample_at(k: u16) -> usize
     ensures { λ r. ⌜ r ≡ sampleAt k ⌝ }
 {
     SAMPLE + (SAMPLE_SIZE as u32 * k as u32) as usize
+}
+
+// Whether a list's ODT is its first.
+pub fn is_first(odt: u16) -> bool
+    ensures { λ r. ⌜ r ≡ isFirst odt ⌝ }
+{
+    odt == 0
+}
+
+// Most bytes of a list's ODT in a packet.
+pub fn odt_most(odt: u16) -> u16
+    ensures { λ r. ⌜ r ≡ odtMost odt ⌝ }
+{
+    if is_first(odt) {
+        return (STORED_MOST - CLOCK_SIZE) as u16;
+    }
+    STORED_MOST as u16
 }

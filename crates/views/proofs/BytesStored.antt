@@ -15,11 +15,14 @@ use Rattle.line.specs.declared.Place.{Place}
 use Rattle.line.specs.declared.Place.the-variants.{Outside, Inside, Escaped}
 use Rattle.line.specs.declared.Outcome.the-variants as line
 use Rattle.line.proofs.Laws.{cond-ind}
-use Rattle.state.specs.Layout.{odtCount, firstOdt, allOdts, entryCount, usedAt, listSize, entrySize, packetMost, wrongMost, generatorAt, wrongKeysAt, placeAt, countAt, messageAt, answerAt, sessionAt, sessionSize, openAt, seedAt, mtaAt, addressAt, pointerAt, pointerEntryAt, modeAt, selectedAt, runningAt, entryAt, sampleAt}
-use Rattle.state.specs.Bytes.{put32, cleared}
+use Rattle.state.specs.Layout.{lists, allOdts, listSize, entrySize, packetMost, wrongMost, generatorAt, wrongKeysAt, placeAt, countAt, messageAt, answerAt, sessionAt, sessionSize, openAt, seedAt, mtaAt, addressAt, pointerAt, pointerEntryAt, phaseAt, odtsAt, countsAt, modeAt, selectedAt, runningAt, roundAt, entriesAt, sampleAt}
+use Rattle.state.specs.Pool.{firstOdt, odtCount, firstEntry, entryCount, entryTotal, entryAt}
+use Rattle.state.proofs.Allocated.{entry-most}
+use Rattle.state.specs.Bytes.{put32, block, copied, cleared}
 use Rattle.state.specs.Generator.{oneWrongMore}
-use Rattle.state.specs.State.{setGenerator, wrongKeysOf, countedWrong, bitOf, setSeed, mtaTag, setMta, setPointer, Pointed, dropped, closed, fresh, setPlace, setMessage, answered}
-use Rattle.state.specs.Lists.{usedOf, selectedOf}
+use Rattle.state.specs.State.{setGenerator, wrongKeysOf, countedWrong, bitOf, setSeed, mtaTag, setMta, pointerOf, setPointer, Pointed, dropped, closed, fresh, setPlace, setMessage, answered}
+use Rattle.state.specs.Lists.{selectedOf}
+use Rattle.state.proofs.Pointers.{pointed}
 use Rattle.words.specs.declared.Resource.{Resource}
 use Rattle.words.specs.declared.Resource.the-variants.{Calibration, Lists}
 use Rattle.words.specs.declared.Extension.{Extension}
@@ -32,10 +35,11 @@ use Rattle.words.specs.declared.Pointer.{Pointer}
 use Rattle.words.specs.declared.Pointer.the-variants.{Unset as NoEntry, At as Points}
 use Rattle.words.specs.declared.Reason.the-variants as reason
 use Rattle.model.specs.Model.{Bytes}
-use Rattle.lists.specs.Lists.{runsOf, tagOf, switched, stopped, listCleared, modeSet, entryReached, headOf, entrySet, stopEach, startOne, startSelected, stopOne, stopSelected}
+use Rattle.lists.specs.Lists.{runsOf, tagOf, switched, stopped, listCleared, modeSet, headOf, entrySet, stopEach, startOne, startSelected, stopOne, stopSelected}
+use Rattle.lists.specs.Alloc.{listsAllocated, odtsAllocated, roomMade, entriesAllocated}
 use Rattle.session.specs.Receive.{readOn}
 use Rattle.fields.proofs.Fields.{more-few}
-use Rattle.views.proofs.Bytes.{bytes-cons, bytes-set, bytes-take, bytes-drop}
+use Rattle.views.proofs.Bytes.{bytes-cons, bytes-set, bytes-take, bytes-drop, bytes-block}
 
 -- ---- bytes written out, put together, and stored
 both : (a b : Bool) → T (cond a b false) → (a ≡ true) × T b
@@ -108,10 +112,15 @@ unfolding setMta
 bytes-mta s Unset w = bytes-set s mtaAt 0 w (lit< tt)
 bytes-mta s (At e a) w = bytes-put32 (set s mtaAt (mtaTag e)) addressAt a (bytes-set s mtaAt (mtaTag e) w (tag-low e))
 
-pub bytes-pointer : (s : List ℕ) (p : Pointer) → Pointed p → Bytes s → Bytes (setPointer s p)
+-- an entry that there is in some state has a number of one byte
+pub bytes-pointer : (s t : List ℕ) (p : Pointer) → Pointed s p → Bytes t → Bytes (setPointer t p)
 unfolding setPointer
-bytes-pointer s NoEntry h w = bytes-set s pointerAt 0 w (lit< tt)
-bytes-pointer s (Points k e) h w = let few : e < entryCount k = h .1 in bytes-set (set s pointerAt ((k + 1) % 256)) pointerEntryAt e (bytes-modulo s pointerAt (k + 1) w) (omega arith)
+bytes-pointer s t NoEntry h w = bytes-set t pointerAt 0 w (lit< tt)
+bytes-pointer s t (Points l o e) h w =
+    let k : ℕ = firstOdt s l + o in
+    let few : e < entryCount s k = h .2 in
+    let b : ℕ = allOdts * l + o + 1 in
+    bytes-set (set t pointerAt (b % 256)) pointerEntryAt e (bytes-modulo t pointerAt b w) (omega (arith, entry-most s k))
 
 pub bytes-counted : (s : List ℕ) → Bytes s → Bytes (countedWrong s)
 unfolding countedWrong
@@ -124,7 +133,7 @@ bytes-dropped s k (suc n) w = bytes-set (dropped s k n) (sampleAt (k + n)) 0 (by
 
 pub bytes-closed : (s : List ℕ) → Bytes s → Bytes (closed s)
 unfolding closed
-bytes-closed s w = bytes-dropped (cleared s sessionAt sessionSize) 0 allOdts (bytes-cleared s sessionAt sessionSize w)
+bytes-closed s w = bytes-cleared s sessionAt sessionSize w
 
 pub bytes-fresh : (s : List ℕ) → Bytes s → Bytes (fresh s)
 unfolding fresh
@@ -152,28 +161,22 @@ bytes-answered s bs w v few = bytes-sets (length bs ∷ bs) s answerAt w (bytes-
 -- ---- the lists
 pub bytes-switched : (s : List ℕ) (l on : ℕ) → on < 256 → Bytes s → Bytes (switched s l on)
 unfolding switched
-bytes-switched s l on h w = bytes-dropped (set s (runningAt l) on) (firstOdt l) (odtCount l) (bytes-set s (runningAt l) on w h)
+bytes-switched s l on h w = bytes-dropped (set s (runningAt l) on) (firstOdt s l) (odtCount s l) (bytes-set s (runningAt l) on w h)
 
 pub bytes-listCleared : (s : List ℕ) (l : ℕ) → Bytes s → Bytes (listCleared s l)
 unfolding listCleared
-bytes-listCleared s l w = bytes-cleared (cleared s (modeAt l) listSize) (usedAt (firstOdt l)) _ (bytes-cleared s (modeAt l) listSize w)
+bytes-listCleared s l w = bytes-cleared (cleared s (modeAt l) listSize) (entriesAt (firstEntry s (firstOdt s l))) _ (bytes-cleared s (modeAt l) listSize w)
 
 pub bytes-modeSet : (s : List ℕ) (l event : ℕ) → Bytes s → Bytes (modeSet s l event)
 unfolding modeSet
 bytes-modeSet s l event w = bytes-set (set s (modeAt l) ((event + 1) % 256)) (runningAt l) 0 (bytes-modulo s (modeAt l) (event + 1) w) (lit< tt)
 
-bytes-reached : (s : List ℕ) (k e : ℕ) → Bytes s → Bytes (entryReached s k e)
-unfolding entryReached
-bytes-reached s k e w =
-    let n : ℕ = entrySize * (e + 1 - usedOf s k) in
-    cond-ind Bytes (ltb e (usedOf s k)) (λ _. w) (λ _. bytes-modulo (cleared s (entryAt k (usedOf s k)) n) (usedAt k) (e + 1) (bytes-cleared s (entryAt k (usedOf s k)) n w))
-
 pub bytes-entrySet : (s : List ℕ) (l k e n : ℕ) (x : Extension) (a : ℕ) → Bytes s → Bytes (entrySet s l k e n x a)
 unfolding entrySet
 bytes-entrySet s l k e n x a w =
-    let s₁ : List ℕ = entryReached (set s (runningAt l) 0) k e in
-    bytes-modulo (set s₁ (entryAt k e) (headOf n x a)) (entryAt k e + 1) a
-    (bytes-modulo s₁ (entryAt k e) (32 * n + 16 * tagOf x + a / 256) (bytes-reached (set s (runningAt l) 0) k e (bytes-set s (runningAt l) 0 w (lit< tt))))
+    let s₁ : List ℕ = set s (runningAt l) 0 in
+    bytes-modulo (set s₁ (entryAt s k e) (headOf n x a)) (entryAt s k e + 1) a
+    (bytes-modulo s₁ (entryAt s k e) (32 * n + 16 * tagOf x + a / 256) (bytes-set s (runningAt l) 0 w (lit< tt)))
 
 pub bytes-selected : (s : List ℕ) (l on : ℕ) → on < 256 → Bytes s → Bytes (set s (selectedAt l) on)
 bytes-selected s l on h w = bytes-set s (selectedAt l) on w h
@@ -199,3 +202,30 @@ bytes-stopSelected s (suc n) w =
     let t : List ℕ = stopSelected s n in
     let v : Bytes t = bytes-stopSelected s n w in
     bytes-selected (stopOne t n) n 0 (lit< tt) (cond-ind Bytes (selectedOf t n) (λ _. bytes-switched t n 0 (lit< tt) v) (λ _. v))
+
+-- ---- the allocations
+pub bytes-newLists : (s : List ℕ) (n : ℕ) → Bytes s → Bytes (listsAllocated s n)
+unfolding listsAllocated
+bytes-newLists s n w =
+    let s₁ : List ℕ = cleared s odtsAt (modeAt lists - odtsAt) in
+    bytes-modulo (set s₁ roundAt 0) phaseAt (n + 1) (bytes-set s₁ roundAt 0 (bytes-cleared s odtsAt (modeAt lists - odtsAt) w) (lit< tt))
+
+pub bytes-newOdts : (s : List ℕ) (l n : ℕ) → n < 256 → Bytes s → Bytes (odtsAllocated s l n)
+unfolding odtsAllocated
+bytes-newOdts s l n h w = let s₁ : List ℕ = dropped s 0 allOdts in bytes-set (cleared s₁ countsAt allOdts) (odtsAt + l) n (bytes-cleared s₁ countsAt allOdts (bytes-dropped s 0 allOdts w)) h
+
+bytes-copied : (d : List ℕ) (i : ℕ) (s : List ℕ) (from n : ℕ) → Bytes d → Bytes s → Bytes (copied d i s from n)
+unfolding copied
+bytes-copied d i s from n v w = bytes-sets (block s from n) d i v (bytes-block s from n w)
+
+bytes-room : (s : List ℕ) (i m n : ℕ) → Bytes s → Bytes (roomMade s i m n)
+unfolding roomMade
+bytes-room s i m n w =
+    let size : ℕ = entrySize * (m - i) in
+    bytes-cleared (copied s (entriesAt (i + n)) s (entriesAt i) size) (entriesAt i) (entrySize * n) (bytes-copied s (entriesAt (i + n)) s (entriesAt i) size w w)
+
+pub bytes-newEntries : (s : List ℕ) (k n : ℕ) → n < 256 → Bytes s → Bytes (entriesAllocated s k n)
+unfolding entriesAllocated
+bytes-newEntries s k n h w =
+    let s₁ : List ℕ = roomMade s (firstEntry s k) (entryTotal s) n in
+    bytes-pointer s (set s₁ (countsAt + k) n) (pointerOf s) (pointed s) (bytes-set s₁ (countsAt + k) n (bytes-room s (firstEntry s k) (entryTotal s) n w) h)

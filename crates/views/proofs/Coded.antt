@@ -7,7 +7,7 @@ use lib.Dec.{eqb}
 use Rattle.line.proofs.Laws.{cond-ind}
 use Rattle.words.specs.Command.{commandOf}
 use Rattle.words.specs.declared.Command.{Command}
-use Rattle.words.specs.declared.Command.the-variants.{Unknown, Connect, Disconnect, GetStatus, Synch, GetSeed, Unlock, SetMta, Upload, ShortUpload, BuildChecksum, Download, ShortDownload, ClearDaqList, SetDaqPtr, WriteDaq, SetDaqListMode, StartStopDaqList, StartStopSynch, GetDaqProcessorInfo, GetDaqResolutionInfo}
+use Rattle.words.specs.declared.Command.the-variants.{Unknown, Connect, Disconnect, GetStatus, Synch, GetSeed, Unlock, SetMta, Upload, ShortUpload, BuildChecksum, Download, ShortDownload, ClearDaqList, SetDaqPtr, WriteDaq, SetDaqListMode, StartStopDaqList, StartStopSynch, GetDaqProcessorInfo, GetDaqResolutionInfo, FreeDaq, AllocDaq, AllocOdt, AllocOdtEntry}
 
 abbrev pub Coded : ℕ → Command → Type 0
 Coded n Unknown = Unit
@@ -31,6 +31,10 @@ Coded n StartStopDaqList = n ≡ 0xDE
 Coded n StartStopSynch = n ≡ 0xDD
 Coded n GetDaqProcessorInfo = n ≡ 0xDA
 Coded n GetDaqResolutionInfo = n ≡ 0xD9
+Coded n FreeDaq = n ≡ 0xD6
+Coded n AllocDaq = n ≡ 0xD5
+Coded n AllocOdt = n ≡ 0xD4
+Coded n AllocOdtEntry = n ≡ 0xD3
 
 pub coded : (n : ℕ) → Coded n (commandOf n)
 unfolding commandOf
@@ -54,4 +58,8 @@ coded n =
     cond-ind (Coded n) (eqb n 0xDE) (λ e. eqb-true n 0xDE e) (λ _.
     cond-ind (Coded n) (eqb n 0xDD) (λ e. eqb-true n 0xDD e) (λ _.
     cond-ind (Coded n) (eqb n 0xDA) (λ e. eqb-true n 0xDA e) (λ _.
-    cond-ind (Coded n) (eqb n 0xD9) (λ e. eqb-true n 0xD9 e) (λ _. tt))))))))))))))))))))
+    cond-ind (Coded n) (eqb n 0xD9) (λ e. eqb-true n 0xD9 e) (λ _.
+    cond-ind (Coded n) (eqb n 0xD6) (λ e. eqb-true n 0xD6 e) (λ _.
+    cond-ind (Coded n) (eqb n 0xD5) (λ e. eqb-true n 0xD5 e) (λ _.
+    cond-ind (Coded n) (eqb n 0xD4) (λ e. eqb-true n 0xD4 e) (λ _.
+    cond-ind (Coded n) (eqb n 0xD3) (λ e. eqb-true n 0xD3 e) (λ _. tt))))))))))))))))))))))))

@@ -18,7 +18,7 @@ use Rattle.views.proofs.Fit.{Fit}
 use Rattle.views.proofs.Effect.{view-effect}
 use Rattle.views.proofs.Calls.{view-answered}
 
-module _ (d : Deed) (s cal meas : List ℕ) (n : ℕ) (h : length s ≡ size) (can : Doable d n (length cal) (length meas)) (fit : Fit d (generatorOf s) (wrongKeysOf s)) where
+module _ (d : Deed) (s cal meas : List ℕ) (n : ℕ) (h : length s ≡ size) (can : Doable d (sessionOf s) n (length cal) (length meas)) (fit : Fit d (generatorOf s) (wrongKeysOf s)) where
   pub view-after : viewOf (after d s cal meas) ≡ withAnswer (step d (viewOf s)) (replyIn d (sessionOf s) cal meas)
   view-after =
       view-answered (effect d s) (reply d s cal meas) (effected d s n (length cal) (length meas) can .range .long ∙ h) (answering d s cal meas n can)

@@ -19,13 +19,12 @@ use Rattle.state.proofs.Inside.{inside-le}
 use Rattle.state.proofs.Xorshift.{next-fits, next-some, generator-some}
 use Rattle.words.specs.Command.{commandOf}
 use Rattle.words.specs.declared.Command.{Command}
-use Rattle.words.specs.declared.Command.the-variants as command
 use Rattle.model.specs.Seen.{Packet, Seen, numbersOf}
 use Rattle.model.specs.declared.Deed.{Deed}
-use Rattle.model.specs.declared.Deed.the-variants.{Refuse, RefuseSize, WrongKey, Connect, Disconnect, Status, Synch, NoSeed, GiveSeed, Unlock, SetMta, Upload, Checksum, Download, ClearList, SetPointer, ClearEntry, WriteEntry, SetMode, Stop, Start, KeepRunning, Select, StopAll, StartSelected, StopSelected, ProcessorInfo, ResolutionInfo}
+use Rattle.model.specs.declared.Deed.the-variants.{Refuse, RefuseSize, WrongKey, Connect, Disconnect, Status, Synch, NoSeed, GiveSeed, Unlock, SetMta, Upload, Checksum, Download, ClearList, SetPointer, ClearEntry, WriteEntry, SetMode, Stop, Start, KeepRunning, Select, StopAll, StartSelected, StopSelected, ProcessorInfo, ResolutionInfo, FreeLists, AllocLists, AllocOdts, AllocEntries}
 use Rattle.look.specs.Look.{judgeOf}
-use Rattle.model.specs.Model.{Bytes}
-use Rattle.views.proofs.Verdict.{Verdict, refused, connects, disconnects, tells, synchs, no-seed, gives, unlocks, wrong, sets, uploads, shorts, no-size, sums, downloads, short-downloads, clears, points, zeroes, writes, modes, stops, starts, goes-on, selects, stops-all, starts-all, stops-some, processor, resolution, found}
+use Rattle.model.specs.Model.{byte, Bytes}
+use Rattle.views.proofs.Verdict.{Verdict, refused, connects, disconnects, tells, synchs, no-seed, gives, unlocks, wrong, sets, uploads, shorts, no-size, sums, downloads, short-downloads, clears, points, zeroes, writes, modes, stops, starts, goes-on, selects, stops-all, starts-all, stops-some, processor, resolution, frees, allocs-lists, allocs-odts, allocs-entries, found}
 
 -- a seed, an address and an entry fit in the bytes that they are stored in, and a seed is given while fewer than three keys were wrong; g is the
 -- generator, w the count of wrong keys
@@ -45,9 +44,9 @@ Fit (Upload e a n) g w = Unit
 Fit (Checksum e a n) g w = Unit
 Fit (Download from a n) g w = Unit
 Fit (ClearList l) g w = Unit
-Fit (SetPointer k e) g w = Unit
-Fit (ClearEntry k e) g w = Unit
-Fit (WriteEntry k e n x a) g w = (n ≤ entryMost) × (a < addressable)
+Fit (SetPointer l o e) g w = Unit
+Fit (ClearEntry l o e) g w = Unit
+Fit (WriteEntry l o e n x a) g w = (n ≤ entryMost) × (a < addressable)
 Fit (SetMode l event) g w = Unit
 Fit (Stop l) g w = Unit
 Fit (Start l) g w = Unit
@@ -58,6 +57,10 @@ Fit StartSelected g w = Unit
 Fit StopSelected g w = Unit
 Fit ProcessorInfo g w = Unit
 Fit ResolutionInfo g w = Unit
+Fit FreeLists g w = Unit
+Fit (AllocLists n) g w = Unit
+Fit (AllocOdts l n) g w = Unit
+Fit (AllocEntries l o n) g w = Unit
 
 -- ---- numbers in bytes
 four-bytes : (a b c d : ℕ) → a < 256 → b < 256 → c < 256 → d < 256 → a + 256 * b + 65536 * c + 16777216 * d < 2 ^ 32
@@ -96,8 +99,8 @@ module _ (p : Packet) (v : Seen) (nc nm : ℕ) (low : p .d4 < 2 ^ 32) (few : v .
   by-verdict _ _ (short-downloads free named long inside) = tt
   by-verdict _ _ (clears free list still) = tt
   by-verdict _ _ (points free list odt entry) = tt
-  by-verdict _ _ (zeroes k e free w) = tt
-  by-verdict _ _ (writes k e free w some inside) = (inside .0, entry-low (p .d4) (p .b2) (pick (extensionFrom (p .b3)) nc nm) some (inside .1))
+  by-verdict _ _ (zeroes l o e free w) = tt
+  by-verdict _ _ (writes l o e free w some inside) = (inside .0, entry-low (p .d4) (p .b2) (pick (extensionFrom (p .b3)) nc nm) some (inside .1))
   by-verdict _ _ (modes free list event still) = tt
   by-verdict _ _ (stops free list) = tt
   by-verdict _ _ (starts free list still) = tt
@@ -108,10 +111,14 @@ module _ (p : Packet) (v : Seen) (nc nm : ℕ) (low : p .d4 < 2 ^ 32) (few : v .
   by-verdict _ _ (stops-some free) = tt
   by-verdict _ _ processor = tt
   by-verdict _ _ resolution = tt
+  by-verdict _ _ (frees free) = tt
+  by-verdict _ _ (allocs-lists free freed none some few) = tt
+  by-verdict _ _ (allocs-odts free list none unused some room) = tt
+  by-verdict _ _ (allocs-entries free odt none still some room) = tt
 
   judge-fits : Fit (judge p v nc nm) (v .generator) (v .wrongKeys)
   judge-fits = by-verdict (commandOf (p .b0)) (judge p v nc nm) (found p v nc nm)
 
 pub judged-fits : (p s : List ℕ) (nc nm : ℕ) → Bytes p → generatorOf s < 2 ^ 32 → Fit (judgeOf p s nc nm) (generatorOf s) (wrongKeysOf s)
 unfolding judgeIn sessionOf
-judged-fits p s nc nm w h = judge-fits (numbersOf p) (seenIn (u16At p 2) (sessionOf s)) nc nm (number-fits p 4 w) h (generator-some s)
+judged-fits p s nc nm w h = judge-fits (numbersOf p) (seenIn (u16At p 2) (byte p 4) (sessionOf s)) nc nm (number-fits p 4 w) h (generator-some s)

@@ -4,11 +4,15 @@ pub mod Bytes
 pub mod Coded
 pub mod Verdict
 pub mod Fit
-pub mod Reached
+pub mod EntryStored
 pub mod Shows
+pub mod Moved
+pub mod AllocReads
+pub mod Allocs
 pub mod Effect
 pub mod Stepped
 pub mod Calls
+pub mod Listed
 pub mod Waits
 pub mod Round
 pub mod TurnLaws
@@ -23,6 +27,7 @@ pub mod WrongKeys
 pub mod ListLaws
 pub mod SampleLaws
 pub mod Obeys
+pub mod Full
 pub mod Settings
 pub mod Locked
 pub mod BytesStored

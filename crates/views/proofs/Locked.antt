@@ -1,6 +1,6 @@
 -- While lists are locked no command changes the lists' settings, unless it ends or renews the session. Assumes nothing.
 use Prim.Native.Nat.{ℕ, _+_}
-use mathlib.Core.Path.{_≡_, refl, sym, ap, subst, _∙_}
+use mathlib.Core.Path.{_≡_, refl, sym, _∙_}
 use mathlib.Core.Bool.{Bool, true, false, cond}
 use mathlib.Core.List.{List}
 use borrow.Author.Tests.{eqb-true, eq-eqb}
@@ -21,7 +21,7 @@ use Rattle.words.specs.declared.Seed.the-variants.{None, For}
 use Rattle.words.specs.declared.Mta.{Mta}
 use Rattle.words.specs.declared.Reason.the-variants.{TooShort, Sequence, OutOfRange, DataMissing}
 use Rattle.model.specs.Seen.{numbersOf}
-use Rattle.model.specs.Judge.{connectDeed, unlockBy, judgeThe, judgeBy, judge, seenIn, judgeIn}
+use Rattle.model.specs.Judge.{connectDeed, unlockBy, judgeThe, judgeBy, seenIn, judgeIn}
 use Rattle.model.specs.declared.Deed.{Deed}
 use Rattle.model.specs.declared.Deed.the-variants.{Refuse, Connect, Disconnect, Unlock, WrongKey}
 use Rattle.model.specs.Model.{byte, Session}
@@ -32,19 +32,20 @@ use Rattle.views.specs.Locked.{SettingsKept, endsSession, Shields}
 use Rattle.model.proofs.Bounded.{either}
 use Rattle.views.proofs.SessionLaws.{blank-fresh}
 use Rattle.views.proofs.Coded.{Coded, coded}
-use Rattle.views.proofs.Verdict.{Verdict, refused, connects, disconnects, tells, synchs, no-seed, gives, unlocks, wrong, sets, uploads, shorts, no-size, sums, downloads, short-downloads, clears, points, zeroes, writes, modes, stops, starts, goes-on, selects, stops-all, starts-all, stops-some, processor, resolution, found}
+use Rattle.views.proofs.Taken.{by-code}
+use Rattle.views.proofs.Verdict.{Verdict, refused, connects, disconnects, tells, synchs, no-seed, gives, unlocks, wrong, sets, uploads, shorts, no-size, sums, downloads, short-downloads, clears, points, zeroes, writes, modes, stops, starts, goes-on, selects, stops-all, starts-all, stops-some, processor, resolution, frees, allocs-lists, allocs-odts, allocs-entries, found}
 
 module _ (p : List ℕ) (c : Session) (cal meas : List ℕ) where
   abbrev Keeps : Deed → Type 0
   Keeps d = SettingsKept c (stepIn d c)
 
   as-was : SettingsKept c c
-  as-was = record { pointer = refl; modes = λ l. refl; selected = λ l. refl; started = λ l. refl; entries = λ l o e. refl }
+  as-was = record { pointer = refl; freed = refl; lists = refl; modes = λ l. refl; selected = λ l. refl; started = λ l. refl; odts = λ l. refl; counts = λ l o. refl; entries = λ l o e. refl }
 
   -- generator, wrong keys, locks, seed and MTA are no settings of the lists
   other-parts : {g n : ℕ} {o : Bool} {u : Resource → Bool} {s : Seed} {m : Mta}
-      → SettingsKept c (record { generator = g; wrongKeys = n; opened = o; unlocked = u; seed = s; mta = m; pointer = c .pointer; list = c .list })
-  other-parts = record { pointer = refl; modes = λ l. refl; selected = λ l. refl; started = λ l. refl; entries = λ l o e. refl }
+      → SettingsKept c (record { generator = g; wrongKeys = n; opened = o; unlocked = u; seed = s; mta = m; pointer = c .pointer; freed = c .freed; lists = c .lists; round = c .round; list = c .list })
+  other-parts = record { pointer = refl; freed = refl; lists = refl; modes = λ l. refl; selected = λ l. refl; started = λ l. refl; odts = λ l. refl; counts = λ l o. refl; entries = λ l o e. refl }
 
   -- ---- every command but three
   module _ (locked : c .unlocked Lists ≡ false) (nc nm : ℕ) (ff : eqb (byte p 0) 0xFF ≡ false) (fe : eqb (byte p 0) 0xFE ≡ false) (f7 : eqb (byte p 0) 0xF7 ≡ false) where
@@ -56,7 +57,7 @@ module _ (p : List ℕ) (c : Session) (cal meas : List ℕ) where
     shut : {A : Type 0} → c .unlocked Lists ≡ true → A
     shut free = absurd (false-true (sym locked ∙ free))
 
-    by-verdict : (x : Command) (d : Deed) → Coded (byte p 0) x → Verdict (numbersOf p) (seenIn (u16At p 2) c) nc nm x d → Keeps d
+    by-verdict : (x : Command) (d : Deed) → Coded (byte p 0) x → Verdict (numbersOf p) (seenIn (u16At p 2) (byte p 4) c) nc nm x d → Keeps d
     unfolding stepIn
     by-verdict _ _ o (refused x r) = as-was
     by-verdict _ _ o connects = other 0xFF ff o
@@ -76,8 +77,8 @@ module _ (p : List ℕ) (c : Session) (cal meas : List ℕ) where
     by-verdict _ _ o (short-downloads free named long inside) = other-parts
     by-verdict _ _ o (clears free list still) = shut free
     by-verdict _ _ o (points free list odt entry) = shut free
-    by-verdict _ _ o (zeroes k e free w) = shut free
-    by-verdict _ _ o (writes k e free w some inside) = shut free
+    by-verdict _ _ o (zeroes l i e free w) = shut free
+    by-verdict _ _ o (writes l i e free w some inside) = shut free
     by-verdict _ _ o (modes free list event still) = shut free
     by-verdict _ _ o (stops free list) = shut free
     by-verdict _ _ o (starts free list still) = shut free
@@ -88,10 +89,14 @@ module _ (p : List ℕ) (c : Session) (cal meas : List ℕ) where
     by-verdict _ _ o (stops-some free) = shut free
     by-verdict _ _ o processor = as-was
     by-verdict _ _ o resolution = as-was
+    by-verdict _ _ o (frees free) = shut free
+    by-verdict _ _ o (allocs-lists free freed none some few) = shut free
+    by-verdict _ _ o (allocs-odts free list none unused some room) = shut free
+    by-verdict _ _ o (allocs-entries free odt none still some room) = shut free
 
     judged-keeps : Keeps (judgeIn p c nc nm)
     unfolding judgeIn
-    judged-keeps = by-verdict (commandOf (byte p 0)) _ (coded (byte p 0)) (found (numbersOf p) (seenIn (u16At p 2) c) nc nm)
+    judged-keeps = by-verdict (commandOf (byte p 0)) _ (coded (byte p 0)) (found (numbersOf p) (seenIn (u16At p 2) (byte p 4) c) nc nm)
 
   -- ---- the three that may end or renew it
   abbrev Shielded : Deed → Type 0
@@ -119,22 +124,17 @@ module _ (p : List ℕ) (c : Session) (cal meas : List ℕ) where
   ends-unlock : byte p 0 ≡ 0xF7 → (a : List ℕ) → endsSession p a ≡ wrong-answer a
   ends-unlock code a = rw code
 
-  -- by the command that a code names
-  by-code : (k : ℕ) (x : Command) → commandOf k ≡ x → byte p 0 ≡ k → (nc nm : ℕ) → Shielded (judgeBy x (numbersOf p) (seenIn (u16At p 2) c) nc nm) → Shielded (judgeIn p c nc nm)
-  unfolding judgeIn judge
-  by-code k x e code nc nm = subst (λ (y : Command). Shielded (judgeBy y (numbersOf p) (seenIn (u16At p 2) c) nc nm)) (sym (ap commandOf code ∙ e))
-
   connect-shields : byte p 0 ≡ 0xFF → (nc nm : ℕ) → Shielded (judgeIn p c nc nm)
   unfolding judgeBy judgeThe connectDeed commandOf stepIn replyIn
   connect-shields code nc nm =
-      by-code 0xFF command.Connect refl code nc nm
+      by-code Shielded p c 0xFF command.Connect refl code nc nm
       (cond-ind Shielded (ltb (length p) 2) (λ _. shield-kept done (ends-connect code) (Refuse TooShort) refl as-was) (λ _.
       cond-ind Shielded (eqb (byte p 1) 0) (λ _. shield-fresh done (ends-connect code) Connect refl (blank-fresh c (c .wrongKeys) true)) (λ _. shield-kept done (ends-connect code) (Refuse OutOfRange) refl as-was)))
 
   disconnect-shields : byte p 0 ≡ 0xFE → (nc nm : ℕ) → Shielded (judgeIn p c nc nm)
   unfolding judgeBy judgeThe commandOf stepIn replyIn
   disconnect-shields code nc nm =
-      by-code 0xFE command.Disconnect refl code nc nm
+      by-code Shielded p c 0xFE command.Disconnect refl code nc nm
       (cond-ind Shielded (ltb (length p) 1) (λ _. shield-kept done (ends-disconnect code) (Refuse TooShort) refl as-was) (λ _. shield-fresh done (ends-disconnect code) Disconnect refl (blank-fresh c (c .wrongKeys) false)))
 
   -- no mask is 25
@@ -147,7 +147,7 @@ module _ (p : List ℕ) (c : Session) (cal meas : List ℕ) where
   unlock-shields : byte p 0 ≡ 0xF7 → (nc nm : ℕ) → Shielded (judgeIn p c nc nm)
   unfolding judgeBy judgeThe commandOf stepIn replyIn unlockBy
   unlock-shields code nc nm =
-      by-code 0xF7 command.Unlock refl code nc nm
+      by-code Shielded p c 0xF7 command.Unlock refl code nc nm
       (cond-ind Shielded (ltb (length p) 2) (λ _. shield-kept wrong-answer (ends-unlock code) (Refuse TooShort) refl as-was) (λ _. go (c .seed))) where
         go : (x : Seed) → Shielded (unlockBy x (c .generator) (byte p 1) (length p) (u32At p 2))
         go None = shield-kept wrong-answer (ends-unlock code) (Refuse Sequence) refl as-was

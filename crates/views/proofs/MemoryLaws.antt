@@ -32,7 +32,7 @@ use Rattle.fields.proofs.Stores.{sets-in, put32-same}
 use Rattle.fields.proofs.Frames.{only-sets}
 use Rattle.model.specs.Model.{byte, Session}
 use Rattle.model.specs.Step.{withMta, stepIn}
-use Rattle.views.specs.Commands.{four, extensionNumber, memoryOf, sumFrom, TheGenerator, TheWrongKeys, Whether-open, TheLocks, TheSeed, TheMta, ThePointer, TheLists, AllBut, SET-MTA, Carries, UPLOAD, SHORT-UPLOAD, BUILD-CHECKSUM, Loads, DOWNLOAD, SHORT-DOWNLOAD}
+use Rattle.views.specs.Commands.{four, extensionNumber, memoryOf, sumFrom, TheGenerator, TheWrongKeys, Whether-open, TheLocks, TheSeed, TheMta, ThePointer, Whether-freed, HowManyLists, TheRound, TheLists, AllBut, SET-MTA, Carries, UPLOAD, SHORT-UPLOAD, BUILD-CHECKSUM, Loads, DOWNLOAD, SHORT-DOWNLOAD}
 use Rattle.model.proofs.Bounded.{either}
 use Rattle.views.proofs.Parts.{aside}
 use Rattle.views.proofs.Bytes.{bytes-cons, bytes-four}
@@ -46,6 +46,9 @@ but-mta c x TheLocks n = λ r. refl
 but-mta c x TheSeed n = refl
 but-mta c x TheMta n = absurd (n refl)
 but-mta c x ThePointer n = refl
+but-mta c x Whether-freed n = refl
+but-mta c x HowManyLists n = refl
+but-mta c x TheRound n = refl
 but-mta c x TheLists n = λ l. refl
 
 -- ---- blocks of bytes

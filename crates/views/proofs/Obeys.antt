@@ -7,22 +7,32 @@ use Rattle.model.specs.Model.{byte, Session}
 use Rattle.model.specs.Judge.{judgeIn}
 use Rattle.model.specs.Answers.{Done, commandIn}
 use Rattle.views.specs.Commands.{Way, Law, SYNCH, STAYS-SHUT, WRONG-KEY, Obeys}
+use Rattle.views.proofs.Listed.{Listed}
 use Rattle.views.proofs.Taken.{Taken, Leads}
 use Rattle.views.proofs.SessionLaws.{connect, disconnect, get-status, synch, get-seed, unlock-law, processor-info, resolution-info}
 use Rattle.views.proofs.WrongKeys.{stays-shut, wrong-key}
 use Rattle.views.proofs.MemoryLaws.{set-mta, upload, short-upload, build-checksum, download, short-download}
-use Rattle.views.proofs.ListLaws.{clear-daq-list, set-daq-ptr, write-daq, set-daq-list-mode, start-stop-daq-list, start-stop-synch}
+use Rattle.views.proofs.ListLaws.{clear-daq-list, set-daq-ptr, write-daq, set-daq-list-mode, start-stop-daq-list, start-stop-synch, free-daq, alloc-daq, alloc-odt, alloc-odt-entry}
 
--- what a way leads to is what the model does
-abbrev pub AsModel : Way → Type 0
-AsModel R = (p : List ℕ) (c : Session) (cal meas : List ℕ) (o : Done) → R p c cal meas o → o ≡ commandIn p c cal meas
+-- what a way leads to is what the model does, from a session with nothing beyond its lists
+pub record AsModel (R : Way) : Type 0 where
+  pub listed : (p : List ℕ) (c : Session) (cal meas : List ℕ) (o : Done) → R p c cal meas o → Listed c
+  pub same : (p : List ℕ) (c : Session) (cal meas : List ℕ) (o : Done) → R p c cal meas o → o ≡ commandIn p c cal meas
 
-module _ (R : Way) (same : AsModel R) where
+module _ (R : Way) (way : AsModel R) where
+  abbrev same : (p : List ℕ) (c : Session) (cal meas : List ℕ) (o : Done) → R p c cal meas o → o ≡ commandIn p c cal meas
+  same = way .same
+
+  listed-law : (code : ℕ) (W : Way)
+      → ((p : List ℕ) (c : Session) (cal meas : List ℕ) → Listed c → byte p 0 ≡ code → Taken p c cal meas (judgeIn p c (length cal) (length meas)) → Leads W p c cal meas (judgeIn p c (length cal) (length meas)))
+      → Law R code W
+  listed-law code W f p c cal meas o r e t =
+      subst (W p c cal meas) (sym (same p c cal meas o r)) (f p c cal meas (way .listed p c cal meas o r) e (ap (λ (x : Done). byte (x .answer) 0) (sym (same p c cal meas o r)) ∙ t))
+
   law : (code : ℕ) (W : Way)
       → ((p : List ℕ) (c : Session) (cal meas : List ℕ) → byte p 0 ≡ code → Taken p c cal meas (judgeIn p c (length cal) (length meas)) → Leads W p c cal meas (judgeIn p c (length cal) (length meas)))
       → Law R code W
-  law code W f p c cal meas o r e t =
-      subst (W p c cal meas) (sym (same p c cal meas o r)) (f p c cal meas e (ap (λ (x : Done). byte (x .answer) 0) (sym (same p c cal meas o r)) ∙ t))
+  law code W f = listed-law code W (λ p c cal meas _. f p c cal meas)
 
   pub obeys : Obeys R
   obeys = record {
@@ -50,4 +60,8 @@ module _ (R : Way) (same : AsModel R) where
     startStopSynch = law 0xDD _ start-stop-synch;
     getDaqProcessorInfo = law 0xDA _ processor-info;
     getDaqResolutionInfo = law 0xD9 _ resolution-info;
+    freeDaq = law 0xD6 _ free-daq;
+    allocDaq = law 0xD5 _ alloc-daq;
+    allocOdt = law 0xD4 _ alloc-odt;
+    allocOdtEntry = listed-law 0xD3 _ alloc-odt-entry;
   }

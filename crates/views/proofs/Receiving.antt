@@ -70,7 +70,7 @@ module _ (p s cal meas : List ℕ) (h : length s ≡ size) (w : Bytes p) (low : 
   -- a deed that is done can be done, and what it stores fits
   abbrev Done : Heeding → Type 0
   Done Dropped = Unit
-  Done (Obeyed d) = Doable d (length p) (length cal) (length meas) × Fit d (generatorOf s) (wrongKeysOf s)
+  Done (Obeyed d) = Doable d (sessionOf s) (length p) (length cal) (length meas) × Fit d (generatorOf s) (wrongKeysOf s)
   Done Ignored = Unit
 
   heeding-done : (waiting : Bool) → Done (heedingIn waiting p (sessionOf s) (length cal) (length meas))

@@ -3,9 +3,12 @@ use Prim.Native.Nat.{ℕ, zero, suc, _+_, _*_, _-_, _/_, _%_, _≤_, _<_}
 use mathlib.Core.Path.{_≡_, refl, sym, ap, _∙_}
 use mathlib.Core.Logic.{_≢_}
 use native.Mathlib.Omega.{arith}
-use native.Mathlib.Nat.{mod-lt, mod-eq-of-lt, mod-add-mod, mul-add-mod-self-left, div-add-mod, lt-of-not-le}
+use native.Mathlib.Nat.{mod-lt, mod-eq-of-lt, mod-add-mod, mod-self, mul-add-mod-self-left, div-add-mod, lt-of-not-le}
 use native.Mathlib.Decide.{decLe}
-use Rattle.model.specs.Calls.{orElse, roundFrom}
+use borrow.Author.Tests.{ltb-true, ltb-false}
+use lib.Dec.{ltb}
+use Rattle.line.proofs.Laws.{cond-ind}
+use Rattle.model.specs.Calls.{orElse, roundFrom, listAfter}
 use Rattle.model.specs.declared.Turn.{Turn}
 use Rattle.model.specs.declared.Turn.the-variants.{Nobody, Answer, Packet}
 
@@ -32,17 +35,17 @@ answer-some e = no (ap isAnswer e) where
   isAnswer : Turn → ℕ
   isAnswer Nobody = 0
   isAnswer Answer = 1
-  isAnswer (Packet k) = 0
+  isAnswer (Packet l o) = 0
 
   no : _≡_ {A = ℕ} 1 0 → ⊥
   no p = omega arith
 
-pub packet-some : (k : ℕ) → Packet k ≢ Nobody
-packet-some k e = no (ap isPacket e) where
+pub packet-some : (l o : ℕ) → Packet l o ≢ Nobody
+packet-some l o e = no (ap isPacket e) where
   isPacket : Turn → ℕ
   isPacket Nobody = 0
   isPacket Answer = 0
-  isPacket (Packet k) = 1
+  isPacket (Packet l o) = 1
 
   no : _≡_ {A = ℕ} 1 0 → ⊥
   no p = omega arith
@@ -56,7 +59,7 @@ round-finds L next l zero (suc n) h k = go (next (l % L)) refl where
     zero-on : (m : ℕ) → m + zero ≡ m
     zero-on m = omega arith
   go Answer e = here (sym e) answer-some
-  go (Packet j) e = here (sym e) (packet-some j)
+  go (Packet j o) e = here (sym e) (packet-some j o)
 round-finds L next l (suc d) (suc n) h k = go (next (l % L)) refl (round-finds L next (l + 1) d n (omega arith) (λ e. k (ap (λ m. next (m % L)) one-on ∙ e))) where
   one-on : l + suc d ≡ l + 1 + d
   one-on = omega arith
@@ -64,17 +67,16 @@ round-finds L next l (suc d) (suc n) h k = go (next (l % L)) refl (round-finds L
   go : (t : Turn) → next (l % L) ≡ t → Found L next (l + 1) d (roundFrom L next (l + 1) n) → Found L next l (suc d) (orElse t (roundFrom L next (l + 1) n))
   go Nobody e f = later f
   go Answer e f = here (sym e) answer-some
-  go (Packet j) e f = here (sym e) (packet-some j)
+  go (Packet j o) e f = here (sym e) (packet-some j o)
 
--- from any list, how many lists on list l is: 1 to L
+-- from any list, how many lists on list l is
 pub record Far (L from l : ℕ) : Type 0 where
   pub far : ℕ
-  pub some : 1 ≤ far
-  pub most : far ≤ L
+  pub few : far < L
   pub turn : (from + far) % L ≡ l
 
 pub far-of : (L from l : ℕ) → l < L → Far L from l
-far-of L from l h = elim (decLe l (from % L)) [ yes p ↦ behind p | no p ↦ ahead (lt-of-not-le p) ] where
+far-of L from l h = elim (decLe (from % L) l) [ yes p ↦ ahead p | no p ↦ behind (lt-of-not-le p) ] where
   whole : L * (from / L) + from % L ≡ from
   whole = div-add-mod from L
 
@@ -82,7 +84,7 @@ far-of L from l h = elim (decLe l (from % L)) [ yes p ↦ behind p | no p ↦ ah
   low = mod-lt from (omega arith)
 
   -- r is what is left of `from`, c the lists gone round
-  ahead-sum : (r c : ℕ) → c + r ≡ from → r < l → from + (l - r) ≡ c + l
+  ahead-sum : (r c : ℕ) → c + r ≡ from → r ≤ l → from + (l - r) ≡ c + l
   ahead-sum r c e q = omega arith
 
   behind-sum : (r c : ℕ) → c + r ≡ from → r < L → from + (l + L - r) ≡ c + L + l
@@ -91,24 +93,38 @@ far-of L from l h = elim (decLe l (from % L)) [ yes p ↦ behind p | no p ↦ ah
   once-more : (c : ℕ) → L * c + L ≡ L * suc c
   once-more c = omega arith
 
-  ahead : from % L < l → Far L from l
+  ahead : from % L ≤ l → Far L from l
   ahead q =
       record {
         far = l - from % L;
-        some = omega arith;
-        most = omega arith;
+        few = omega arith;
         turn = rw (ahead-sum (from % L) (L * (from / L)) whole q, mul-add-mod-self-left L (from / L) l, mod-eq-of-lt h);
       }
 
-  behind : l ≤ from % L → Far L from l
+  behind : l < from % L → Far L from l
   behind q =
       record {
         far = l + L - from % L;
-        some = omega (arith, low);
-        most = omega arith;
+        few = omega (arith, low);
         turn = rw (behind-sum (from % L) (L * (from / L)) whole low, once-more (from / L), mul-add-mod-self-left L (suc (from / L)) l, mod-eq-of-lt h);
       }
 
--- a list that the round finds before list l is nearer to it
-pub nearer : (L from l d i : ℕ) → (from + d) % L ≡ l → i ≤ d → ((from + i) % L + (d - i)) % L ≡ l
-nearer L from l d i e h = let s : from + i + (d - i) ≡ from + d = omega arith in mod-add-mod (from + i) L (d - i) ∙ rw s e
+-- ---- the round then begins with the list after the one that it found
+pub list-after : (L j : ℕ) → j < L → listAfter L j ≡ (j + 1) % L
+list-after L j h =
+    cond-ind (λ (m : ℕ). m ≡ (j + 1) % L) (ltb (j + 1) L)
+    (λ b. sym (mod-eq-of-lt (ltb-true (j + 1) L b)))
+    (λ b. let e : j + 1 ≡ L = omega (arith, ltb-false (j + 1) L b) in sym (ap (λ (m : ℕ). m % L) e ∙ mod-self L))
+
+-- list l is i + 1 lists nearer to it
+pub nearer : (L from l d i : ℕ) → 0 < L → (from + d) % L ≡ l → i < d → (listAfter L ((from + i) % L) + (d - (i + 1))) % L ≡ l
+nearer L from l d i some e h =
+    let s : from + i + 1 + (d - (i + 1)) ≡ from + d = omega arith in
+    ap (λ (m : ℕ). (m + (d - (i + 1))) % L) (list-after L ((from + i) % L) (mod-lt (from + i) some) ∙ mod-add-mod (from + i) L 1)
+    ∙ mod-add-mod (from + i + 1) L (d - (i + 1)) ∙ rw s e
+
+-- and after itself it is the last one
+pub last-round : (L l : ℕ) → l < L → (listAfter L l + (L - 1)) % L ≡ l
+last-round L l h =
+    let s : l + 1 + (L - 1) ≡ L * 1 + l = omega arith in
+    ap (λ (m : ℕ). (m + (L - 1)) % L) (list-after L l h) ∙ mod-add-mod (l + 1) L (L - 1) ∙ rw (s, mul-add-mod-self-left L 1 l, mod-eq-of-lt h)

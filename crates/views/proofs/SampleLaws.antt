@@ -10,7 +10,7 @@ use borrow.Author.Tests.{eqb-true, eqb-false, eq-eqb, ne-eqb, lt-ltb, le-ltb}
 use lib.Dec.{eqb}
 use lib.ListN.{length, length-append, List·getD-append}
 use lib.Seq.{getD-append-add}
-use Rattle.state.specs.Layout.{size, events, addressable, firstOdt, odtCount, entryCount, listOf}
+use Rattle.state.specs.Layout.{events, addressable}
 use Rattle.state.specs.Memory.{pick, reach, byteOf, bytesOf}
 use Rattle.state.specs.State.{consistent}
 use Rattle.lists.specs.Event.{eventOf}
@@ -91,44 +91,39 @@ module _ (y : Odt) (cal meas : List ℕ) where
       subst (R e) (sym (List·getD-append (blocks n) (block n) 0 (sizesBefore y e + j) first)) (blocks-byte n e j (omega arith) k))
 
 -- ---- the clock before them
-module _ (l clock : ℕ) where
-  first-lead : (o : ℕ) → o ≡ 0 → leadOf (firstOdt l + o) clock ≡ clock % 256 ∷ clock / 256 % 256 ∷ []
-  first-lead o z = let k : ℕ = firstOdt l + o in rw (eq-eqb (firstOdt (listOf k)) k (omega arith))
+module _ (clock : ℕ) where
+  first-lead : (o : ℕ) → o ≡ 0 → leadOf o clock ≡ clock % 256 ∷ clock / 256 % 256 ∷ []
+  first-lead o z = rw (eq-eqb o 0 z)
 
-  later-lead : (o : ℕ) → o ≢ 0 → o < odtCount l → leadOf (firstOdt l + o) clock ≡ []
-  later-lead o n h = let k : ℕ = firstOdt l + o in rw (ne-eqb (firstOdt (listOf k)) k (omega arith))
-
-  lead-long : (o : ℕ) → o < odtCount l → length (leadOf (firstOdt l + o) clock) ≡ leadSize o
-  lead-long zero h = ap length (first-lead zero refl)
-  lead-long (suc o) h = ap length (later-lead (suc o) (omega arith) h)
+  lead-long : (o : ℕ) → length (leadOf o clock) ≡ leadSize o
+  lead-long zero = refl
+  lead-long (suc o) = rw (ne-eqb (suc o) 0 (omega arith))
 
 -- behind m bytes
 behind-lead : (xs ys : List ℕ) (m t j : ℕ) → length xs ≡ m → byte (xs ++ ys) (m + t + j) ≡ byte ys (t + j)
 behind-lead xs ys m t j e = let place : m + t + j ≡ length xs + (t + j) = omega arith in ap (byte (xs ++ ys)) place ∙ getD-append-add xs ys (t + j) 0
 
-contents-from : (l o clock : ℕ) (cal meas : List ℕ) (y : Odt) → o < odtCount l → Captured l o clock cal meas y (contentsIn (firstOdt l + o) clock cal meas y)
+contents-from : (o clock : ℕ) (cal meas : List ℕ) (y : Odt) → Captured o clock cal meas y (contentsIn o clock cal meas y)
 unfolding contentsIn
-contents-from l o clock cal meas y h =
-    let k : ℕ = firstOdt l + o in
-    let lead : List ℕ = leadOf k clock in
-    let rest : List ℕ = blocksIn y cal meas (entryCount k) in
+contents-from o clock cal meas y =
+    let lead : List ℕ = leadOf o clock in
+    let rest : List ℕ = blocksIn y cal meas (y .entries) in
     record {
-      long = omega (arith, length-append lead rest, lead-long l clock o h, blocks-long y cal meas (entryCount k));
-      low = λ z. ap (λ (xs : List ℕ). byte (xs ++ rest) 0) (first-lead l clock o z);
-      high = λ z. ap (λ (xs : List ℕ). byte (xs ++ rest) 1) (first-lead l clock o z);
-      bytes = λ e j e4 n. subst (ReadAs (memoryOf (y .entry e .extension) cal meas) (y .entry e .address + j))
-          (sym (behind-lead lead rest (leadSize o) (sizesBefore y e) j (lead-long l clock o h))) (blocks-byte y cal meas (entryCount k) e j e4 n);
+      long = omega (arith, length-append lead rest, lead-long clock o, blocks-long y cal meas (y .entries));
+      low = λ z. ap (λ (xs : List ℕ). byte (xs ++ rest) 0) (first-lead clock o z);
+      high = λ z. ap (λ (xs : List ℕ). byte (xs ++ rest) 1) (first-lead clock o z);
+      bytes = λ e j there n. subst (ReadAs (memoryOf (y .entry e .extension) cal meas) (y .entry e .address + j))
+          (sym (behind-lead lead rest (leadSize o) (sizesBefore y e) j (lead-long clock o))) (blocks-byte y cal meas (y .entries) e j there n);
     }
 
 -- ---- a list sampled
-pub samples-from : (l clock : ℕ) (cal meas : List ℕ) (x : DaqList) → Samples l clock cal meas x (sampled l clock cal meas x)
-samples-from l clock cal meas x o h =
-    subst (Captured l o clock cal meas (x .odt o)) (sym (rw (lt-ltb o (odtCount l) h))) (contents-from l o clock cal meas (x .odt o) h)
+pub samples-from : (clock : ℕ) (cal meas : List ℕ) (x : DaqList) → Samples clock cal meas x (sampled clock cal meas x)
+samples-from clock cal meas x o h = subst (Captured o clock cal meas (x .odt o)) (sym (rw (lt-ltb o (x .odts) h))) (contents-from o clock cal meas (x .odt o))
 
 -- ---- of the bytes: what an event leaves in the stores of a list that it samples
 pub event-samples : (s cal meas : List ℕ) (event clock l : ℕ) → consistent s ≡ true → event < events → samplingIn (sessionOf s) l event ≡ Sampled
-    → Samples l clock cal meas (sessionOf s .list l) (sessionOf (eventOf s cal meas event clock .state) .list l)
+    → Samples clock cal meas (sessionOf s .list l) (sessionOf (eventOf s cal meas event clock .state) .list l)
 unfolding sampledAs
 event-samples s cal meas event clock l c h e =
     let x : DaqList = sessionOf s .list l in
-    subst (Samples l clock cal meas x) (sym (ap (λ (d : Session). d .list l) (event-session s cal meas event clock c h) ∙ ap (λ (y : Sampling). sampledAs y l clock cal meas x) e)) (samples-from l clock cal meas x)
+    subst (Samples clock cal meas x) (sym (ap (λ (d : Session). d .list l) (event-session s cal meas event clock c h) ∙ ap (λ (y : Sampling). sampledAs y clock cal meas x) e)) (samples-from clock cal meas x)

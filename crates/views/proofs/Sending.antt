@@ -13,7 +13,9 @@ use Rattle.line.specs.declared.Written.the-variants.{Frame}
 use Rattle.line.proofs.Laws.{cond-ind}
 use Rattle.line.proofs.Numbers.{byte-serial}
 use Rattle.line.proofs.Writing.{write-good}
-use Rattle.state.specs.Layout.{size, odtCount}
+use Rattle.state.specs.Layout.{size, allOdts}
+use Rattle.state.specs.Pool.{listCount, firstOdt, odtCount}
+use Rattle.state.proofs.Allocated.{odt-most}
 use Rattle.state.specs.State.{consistent, ctrOf, answerOf}
 use Rattle.state.specs.Lists.{storedLength}
 use Rattle.state.proofs.Consistent.{consistent-size}
@@ -38,7 +40,7 @@ module _ (v : Slave) where
   abbrev Waits : Turn → Type 0
   Waits Nobody = Unit
   Waits Answer = 1 ≤ length (v .answer)
-  Waits (Packet k) = Unit
+  Waits (Packet l o) = Unit
 
   first-waits : (l : ℕ) (x : DaqList) (o n : ℕ) → Waits (firstPacket l x o n)
   unfolding firstPacket
@@ -47,7 +49,7 @@ module _ (v : Slave) where
 
   packet-waits : (l : ℕ) → Waits (packetIn (v .session) l)
   unfolding packetIn
-  packet-waits l = cond-ind Waits (runsIn (v .session) l) (λ _. first-waits l (v .session .list l) 0 (odtCount l)) (λ _. tt)
+  packet-waits l = cond-ind Waits (runsIn (v .session) l) (λ _. first-waits l (v .session .list l) 0 (v .session .list l .odts)) (λ _. tt)
 
   turn-waits : Waits (turnIn v)
   turn-waits = turn-holds Waits v tt (λ l _. packet-waits l) (λ w. ltb-true 0 (length (v .answer)) w)
@@ -59,21 +61,25 @@ written = write-good byteForm byte-serial
 
 -- ---- the slot
 module _ (s out : List ℕ) (h : length s ≡ size) (fits : room ≤ length out) where
-  view-sent : (t : Turn) → Waits (viewOf s) t → Within t → slotShown (sentBy t s out) ≡ sentIn t (viewOf s) out
+  view-sent : (t : Turn) → Waits (viewOf s) t → Within s t → slotShown (sentBy t s out) ≡ sentIn t (viewOf s) out
   unfolding sentBy sentIn viewOf
   view-sent Nobody y w = refl
   view-sent Answer y w =
       rw (written (answerOf s) (ctrOf s) out y (omega (arith, answer-long s h, answer-most s)) fits) (ap (packetGoes (answerOf s) (ctrOf s) out) (view-answerSent s h))
-  view-sent (Packet k) y w =
-      let n : length (packetOf s k) ≡ suc (storedLength s k) = ap length (packet-by s k w) ∙ ap suc (stored-long s k h w) in
-      rw (written (packetOf s k) (ctrOf s) out (omega arith) (omega (arith, n, stored-most s k)) fits) (ap (packetGoes (packetOf s k) (ctrOf s) out) (view-packetSent s k h w))
+  view-sent (Packet l o) y w =
+      let there : l < listCount s = w .0 in
+      let its : o < odtCount s l = w .1 in
+      let k : ℕ = firstOdt s l + o in
+      let few : k < allOdts = omega (arith, odt-most s l) in
+      let n : length (packetOf s l o) ≡ suc (storedLength s k) = ap length (packet-by s l o there its) ∙ ap suc (stored-long s k h few) in
+      rw (written (packetOf s l o) (ctrOf s) out (omega arith) (omega (arith, n, stored-most s k)) fits) (ap (packetGoes (packetOf s l o) (ctrOf s) out) (view-packetSent s l o h there its))
 
 pub view-slot : (s out : List ℕ) → consistent s ≡ true → slotShown (slotOf s out) ≡ slotIn (viewOf s) out
 unfolding slotOf slotIn
 view-slot s out c =
     rw c
     (cond-ind (λ (o : Slot). slotShown o ≡ slotIn (viewOf s) out) (ltb (length out) room) (λ b. rw b)
-    (λ b. rw b (view-sent s out (consistent-size s c) (ltb-false (length out) room b) (turnOf s) (turn-waits (viewOf s)) (turn-within (viewOf s)))))
+    (λ b. rw b (view-sent s out (consistent-size s c) (ltb-false (length out) room b) (turnOf s) (turn-waits (viewOf s)) (turn-within s))))
 
 -- ---- power-up
 -- a start of more than four bytes would not be stored whole

@@ -9,7 +9,6 @@ use borrow.Author.Tests.{leb-false, eqb-true, eqb-false, le-ltb, ne-eqb}
 use lib.Dec.{eqb, ltb, lit<}
 use lib.ListN.{length}
 use Rattle.line.proofs.Stuffed.{false-true}
-use Rattle.state.specs.Layout.{lists}
 use Rattle.state.specs.Bytes.{u32At, bytes32}
 use Rattle.state.specs.Generator.{nextOf, startOf, keyOf, staysShut}
 use Rattle.state.specs.State.{bitOf}
@@ -29,7 +28,7 @@ use Rattle.model.specs.Model.{byte, Session, blank, runsIn, someRuns}
 use Rattle.model.specs.Step.{unlock, withGenerator, withLock, withSeed, stepIn}
 use Rattle.model.specs.Calls.{poweredUp}
 use Rattle.views.specs.PoweredUp.{PowerUpLeaves}
-use Rattle.views.specs.Commands.{resourceNumber, maskFor, TheGenerator, TheWrongKeys, Whether-open, TheLocks, TheSeed, TheMta, ThePointer, TheLists, AllButBoth, Fresh, CONNECT, DISCONNECT, GET-STATUS, SYNCH, Seeds, GET-SEED, UNLOCK, GET-DAQ-PROCESSOR-INFO, GET-DAQ-RESOLUTION-INFO}
+use Rattle.views.specs.Commands.{resourceNumber, maskFor, TheGenerator, TheWrongKeys, Whether-open, TheLocks, TheSeed, TheMta, ThePointer, Whether-freed, HowManyLists, TheRound, TheLists, AllButBoth, Fresh, CONNECT, DISCONNECT, GET-STATUS, SYNCH, Seeds, GET-SEED, UNLOCK, GET-DAQ-PROCESSOR-INFO, GET-DAQ-RESOLUTION-INFO}
 use Rattle.model.proofs.Bounded.{either}
 use Rattle.views.proofs.Taken.{four-is, fe-ff, Taken, unless, provided, branch, judged, Leads}
 use Rattle.views.proofs.Bytes.{bytes-cons, bytes-four}
@@ -43,14 +42,11 @@ blank-fresh c n o = record {
   noSeed = refl;
   noMta = refl;
   noPointer = refl;
-  modes = λ l. refl;
-  deselected = λ l. refl;
-  stopped = λ l. refl;
-  noEntries = λ l k e. refl;
-  noSamples = λ l k. refl;
+  unfreed = refl;
+  noLists = refl;
+  nothing = λ l. refl;
 }
 
--- ---- FD GET_STATUS
 -- ---- power-up
 pub powered-up : (start : ℕ) → PowerUpLeaves start (poweredUp start)
 unfolding startOf
@@ -61,12 +57,12 @@ powered-up start = record {
   default = λ e. rw e;
   wrongKeys = refl;
   ctr = refl;
-  served = refl;
   lastAnswer = refl;
   answer = refl;
   place = refl;
 }
 
+-- ---- FD GET_STATUS
 mask-is : (a b : Bool) → cond a 0 (bitOf Calibration) + cond b 0 (bitOf Lists) ≡ maskFor a b
 mask-is true true = refl
 mask-is false true = refl
@@ -90,10 +86,10 @@ module _ (c : Session) where
   none-run zero f = refl
   none-run (suc n) f = rw (none-run n (λ l h. f l (omega arith)), f n (omega arith))
 
-  status-on : someRuns c lists ≡ true → _≡_ {A = ℕ} (cond (someRuns c lists) 0x40 0x00) 0x40
+  status-on : someRuns c (c .lists) ≡ true → _≡_ {A = ℕ} (cond (someRuns c (c .lists)) 0x40 0x00) 0x40
   status-on e = rw e
 
-  status-off : someRuns c lists ≡ false → _≡_ {A = ℕ} (cond (someRuns c lists) 0x40 0x00) 0x00
+  status-off : someRuns c (c .lists) ≡ false → _≡_ {A = ℕ} (cond (someRuns c (c .lists)) 0x40 0x00) 0x00
   status-off e = rw e
 
 -- ---- F8 GET_SEED, F7 UNLOCK: what is left
@@ -105,6 +101,9 @@ but-seed c g x TheLocks n m = λ r. refl
 but-seed c g x TheSeed n m = absurd (m refl)
 but-seed c g x TheMta n m = refl
 but-seed c g x ThePointer n m = refl
+but-seed c g x Whether-freed n m = refl
+but-seed c g x HowManyLists n m = refl
+but-seed c g x TheRound n m = refl
 but-seed c g x TheLists n m = λ l. refl
 
 but-locks : (c : Session) (r : Resource) (x : Seed) → AllButBoth TheLocks TheSeed c (withSeed (withLock c r) x)
@@ -115,6 +114,9 @@ but-locks c r x TheLocks n m = absurd (n refl)
 but-locks c r x TheSeed n m = absurd (m refl)
 but-locks c r x TheMta n m = refl
 but-locks c r x ThePointer n m = refl
+but-locks c r x Whether-freed n m = refl
+but-locks c r x HowManyLists n m = refl
+but-locks c r x TheRound n m = refl
 but-locks c r x TheLists n m = λ l. refl
 
 opens-own : (r : Resource) (f : Resource → Bool) → unlock r f r ≡ true
@@ -144,9 +146,9 @@ module _ (p : List ℕ) (c : Session) (cal meas : List ℕ) where
   get-status code =
       judged p c cal meas (Leads GET-STATUS p c cal meas) 0xFD command.GetStatus refl code
       (λ _. record {
-        tells = record { session = refl; memory = refl; answer = ap (λ (m : ℕ). 0xFF ∷ cond (someRuns c lists) 0x40 0x00 ∷ m ∷ 0x00 ∷ 0x00 ∷ 0x00 ∷ []) (mask-is (c .unlocked Calibration) (c .unlocked Lists)) };
-        running = λ l h e. status-on c (some-runs c lists l h e);
-        none = λ f. status-off c (none-run c lists f);
+        tells = record { session = refl; memory = refl; answer = ap (λ (m : ℕ). 0xFF ∷ cond (someRuns c (c .lists)) 0x40 0x00 ∷ m ∷ 0x00 ∷ 0x00 ∷ 0x00 ∷ []) (mask-is (c .unlocked Calibration) (c .unlocked Lists)) };
+        running = λ l h e. status-on c (some-runs c (c .lists) l h e);
+        none = λ f. status-off c (none-run c (c .lists) f);
       })
 
   -- ---- FC SYNCH: a byte that is not 0 is there

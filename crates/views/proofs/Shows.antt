@@ -1,5 +1,5 @@
 -- What each writer of the state shows: the slave with that one part changed. Assumes nothing.
-use Prim.Native.Nat.{ℕ, _+_, _%_, _^_, _≤_, _<_}
+use Prim.Native.Nat.{ℕ, suc, _+_, _*_, _%_, _^_, _≤_, _<_}
 use mathlib.Core.Path.{_≡_, refl, sym, ap, _∙_, fun-ext}
 use mathlib.Core.Logic.{_≢_}
 use mathlib.Core.Bool.{true, false}
@@ -9,12 +9,14 @@ use native.Mathlib.Omega.{arith}
 use borrow.Author.Tests.{le-ltb}
 use lib.Dec.{eqb}
 use lib.ListN.{length, getD, set, length-set}
-use lib.Seq.{getD-set-same}
-use Rattle.state.specs.Layout.{size, lists, firstOdt, odtCount, allOdts, entryCount, listOf, events, listSize, entrySize, entryMost, addressable, modeAt, selectedAt, runningAt, usedAt, entriesAt, entryAt, sampleAt}
+use lib.Seq.{getD-set-same, getD-set-other}
+use Rattle.state.specs.Layout.{size, lists, allOdts, events, listSize, entrySize, entryMost, addressable, modeAt, selectedAt, runningAt, entriesAt, sampleAt}
+use Rattle.state.specs.Pool.{listCount, firstOdt, odtCount, entryCount, entryAt}
 use Rattle.state.specs.Bytes.{cleared}
 use Rattle.state.specs.State.{flagOf, generatorOf, setGenerator, wrongKeysOf, countedWrong, openOf, unlockedOf, lockAt, setSeed, setMta, setPointer, Pointed, dropped, closed, fresh}
-use Rattle.state.specs.Lists.{usedOf, modeOf}
-use Rattle.lists.specs.Lists.{switched, listCleared, modeSet, entryReached, headOf, entrySet}
+use Rattle.state.specs.Lists.{modeOf}
+use Rattle.state.proofs.Allocated.{lists-most, odt-most, entry-most}
+use Rattle.lists.specs.Lists.{switched, entriesOfList, listCleared, modeSet, headOf, entrySet}
 use Rattle.state.specs.Generator.{oneWrongMore}
 use Rattle.words.specs.declared.Resource.{Resource}
 use Rattle.words.specs.declared.Resource.the-variants.{Calibration, Lists}
@@ -24,15 +26,15 @@ use Rattle.words.specs.declared.Mta.{Mta}
 use Rattle.words.specs.declared.Pointer.{Pointer}
 use Rattle.state.proofs.Xorshift.{start-same}
 use Rattle.fields.proofs.Stores.{cleared-in}
-use Rattle.fields.proofs.Fields.{Addressed, mta-same, pointer-same, Given, wrongKeys-counted, seed-same, generator-same, lock-same, lock-other, Bare, bare-locked, bare-seed, bare-mta, bare-pointer, empty-stored, dropped-empty, closed-open, closed-bare, counted-bare, fresh-open, fresh-bare}
-use Rattle.fields.proofs.Frames.{Only, only-generator, only-counted, only-set, only-cleared, only-dropped, only-seed, only-mta, only-pointer, only-lock, only-closed, only-fresh}
-use Rattle.fields.proofs.Readers.{Same, same-then, apart, flag-reads, generator-reads, wrongKeys-reads, open-reads, seed-reads, mta-reads, pointer-reads, entries-own, store-own}
-use Rattle.model.specs.Model.{put, Entry, noEntry, noOdt, DaqList, noList, blank}
-use Rattle.model.specs.Step.{unlock, withGenerator, withLock, withSeed, withMta, withPointer, emptied, switch, select, unset, clear, setMode, withEntry, setEntry, odtIn}
+use Rattle.fields.proofs.Fields.{Addressed, mta-same, pointer-same, Given, wrongKeys-counted, seed-same, generator-same, lock-same, lock-other, Bare, bare-locked, bare-seed, bare-mta, bare-pointer, bare-freed, bare-lists, no-round, empty-stored, dropped-empty, closed-open, closed-bare, counted-bare, fresh-open, fresh-bare}
+use Rattle.fields.proofs.Frames.{Only, only-then, only-generator, only-counted, only-set, only-cleared, only-dropped, only-seed, only-mta, only-pointer, only-lock, only-closed, only-fresh}
+use Rattle.fields.proofs.Readers.{apart, flag-reads, generator-reads, wrongKeys-reads, open-reads, seed-reads, mta-reads, listCount-reads, odtCount-reads, entryCount-reads, firstEntry-reads, round-reads, pointer-reads, entries-own, store-own}
+use Rattle.model.specs.Model.{put, noOdt, DaqList, noList, blank}
+use Rattle.model.specs.Step.{unlock, withGenerator, withLock, withSeed, withMta, withPointer, emptied, switch, select, unset, clear, setMode, withEntry, setEntry}
 use Rattle.model.specs.View.{odtOf, daqOf, listsOf, sessionOf}
 use Rattle.model.proofs.Bounded.{upTo-at, upTo-is, upTo-map, upTo-put}
-use Rattle.views.proofs.Parts.{Misses, spared, both, odt-from, list-from, mode-own, odt-own, odts-own, own-one, own-both, list-own, lists-reads, in-generator, in-seed, in-mta, in-pointer}
-use Rattle.views.proofs.Reached.{reached-long, reached-beside, reached-used, reached-entries, only-entry, entry-put}
+use Rattle.views.proofs.Parts.{spared, both, odt-from, list-from, Stays, mode-own, odt-own, odts-as, odts-own, odts-apart, entriesFrom, in-pool, in-list, lists-apart, own-one, own-both, list-own, lists-reads, freed-reads, in-generator, in-seed, in-mta, in-pointer}
+use Rattle.views.proofs.EntryStored.{entry-put, entries-zero}
 
 -- ---- single fields
 module _ (s : List ℕ) (h : length s ≡ size) where
@@ -45,7 +47,7 @@ module _ (s : List ℕ) (h : length s ≡ size) where
   pub shows-mta : (m : Mta) → Addressed m → sessionOf (setMta s m) ≡ withMta (sessionOf s) m
   shows-mta m a = in-mta (only-mta s m) ∙ ap (withMta (sessionOf s)) (mta-same s m h a)
 
-  pub shows-pointer : (p : Pointer) → Pointed p → sessionOf (setPointer s p) ≡ withPointer (sessionOf s) p
+  pub shows-pointer : (p : Pointer) → Pointed s p → sessionOf (setPointer s p) ≡ withPointer (sessionOf s) p
   shows-pointer p a = in-pointer (only-pointer s p) ∙ ap (withPointer (sessionOf s)) (pointer-same s p h a)
 
   pub shows-lock : (r : Resource) → sessionOf (set s (lockAt r) 1) ≡ withLock (sessionOf s) r
@@ -59,6 +61,9 @@ module _ (s : List ℕ) (h : length s ≡ size) where
         seed = seed-reads (apart tt w) (apart tt w) i;
         mta = mta-reads (apart tt w) i;
         pointer = pointer-reads (apart tt w) i;
+        freed = freed-reads (apart tt w) i;
+        lists = listCount-reads (apart tt w) i;
+        round = round-reads (apart tt w) (apart tt w) i;
         list = lists-reads (apart tt w) i;
       } where
         locks : (r x : Resource) → unlockedOf (set s (lockAt r) 1) x ≡ unlock r (unlockedOf s) x
@@ -79,25 +84,12 @@ flag-zero s i e = rw e
 pub store-empty : (s : List ℕ) (k : ℕ) → getD s (sampleAt k) 0 ≡ 0 → odtOf s k .store ≡ []
 store-empty s k e = rw (empty-stored s k e)
 
--- no entry is in use
-unused : (s : List ℕ) (k : ℕ) → getD s (usedAt k) 0 ≡ 0 → odtOf s k .entry ≡ λ e. noEntry
-unfolding usedOf
-unused s k z = rw z (upTo-is 0 noEntry (λ e p. absurd (omega arith)) (λ e p. refl))
-
 -- ---- a session with nothing set
+pub no-lists : (s : List ℕ) → listCount s ≡ 0 → listsOf s ≡ λ l. noList
+unfolding listsOf
+no-lists s e = rw e (upTo-is 0 noList (λ l p. absurd (omega arith)) (λ l p. refl))
+
 module _ (s : List ℕ) (z : Bare s) where
-  bare-list : (l : ℕ) → l < lists → daqOf s l ≡ noList
-  unfolding modeOf
-  bare-list l p =
-      list-from (simp (z .nought (modeAt l) (omega arith) (omega arith))) (flag-zero s (selectedAt l) (z .nought (selectedAt l) (omega arith) (omega arith)))
-      (flag-zero s (runningAt l) (z .nought (runningAt l) (omega arith) (omega arith)))
-      (upTo-is (odtCount l) noOdt (λ o q. odt-from (unused s (firstOdt l + o) (z .nought (usedAt (firstOdt l + o)) (omega arith) (omega arith)))
-      (store-empty s (firstOdt l + o) (z .stores (firstOdt l + o) (omega arith)))) (λ o q. refl))
-
-  bare-lists : listsOf s ≡ λ l. noList
-  unfolding listsOf
-  bare-lists = upTo-is lists noList bare-list (λ l p. refl)
-
   pub bare-session : sessionOf s ≡ blank (generatorOf s) (wrongKeysOf s) (openOf s)
   unfolding sessionOf
   bare-session = λ i. record {
@@ -108,7 +100,10 @@ module _ (s : List ℕ) (z : Bare s) where
     seed = bare-seed s z i;
     mta = bare-mta s z i;
     pointer = bare-pointer s z i;
-    list = bare-lists i;
+    freed = bare-freed s z i;
+    lists = bare-lists s z i;
+    round = no-round s (bare-lists s z) i;
+    list = no-lists s (bare-lists s z) i;
   }
 
 pub shows-closed : (s : List ℕ) → length s ≡ size → sessionOf (closed s) ≡ blank (generatorOf s) (wrongKeysOf s) false
@@ -134,38 +129,49 @@ shows-counted s h =
 abbrev pub Changes : ℕ → (DaqList → DaqList) → List ℕ → List ℕ → Type 0
 Changes l f s t = listsOf t ≡ put l (f (listsOf s l)) (listsOf s)
 
-pub changes : (l : ℕ) (f : DaqList → DaqList) (s t : List ℕ) → l < lists → daqOf t l ≡ f (daqOf s l) → ((j : ℕ) → j < lists → j ≢ l → daqOf t j ≡ daqOf s j) → Changes l f s t
+pub changes : (l : ℕ) (f : DaqList → DaqList) (s t : List ℕ) → Stays s t → l < listCount s → daqOf t l ≡ f (daqOf s l) → ((j : ℕ) → j < lists → j ≢ l → daqOf t j ≡ daqOf s j) → Changes l f s t
 unfolding listsOf
-changes l f s t l4 e h = upTo-put lists noList l4 (e ∙ ap f (sym (upTo-at lists l noList (daqOf s) l4))) h
+changes l f s t stays there e h =
+    rw (listCount-reads stays)
+    (upTo-put (listCount s) noList there (e ∙ ap f (sym (upTo-at (listCount s) l noList (daqOf s) there))) (λ j p n. h j (omega (arith, lists-most s)) n))
 
-module _ (s : List ℕ) (l : ℕ) (h : length s ≡ size) (l4 : l < lists) where
+module _ (s : List ℕ) (l : ℕ) (h : length s ≡ size) (there : l < listCount s) where
+  few : l < lists
+  few = omega (arith, lists-most s)
+
+  odt-few : (o : ℕ) → o < odtCount s l → firstOdt s l + o < allOdts
+  odt-few o p = omega (arith, odt-most s l)
+
   pub changes-switched : (on : ℕ) → Changes l (switch (eqb on 1)) s (switched s l on)
   unfolding switched
   changes-switched on =
       let s₁ : List ℕ = set s (runningAt l) on in
-      let t : List ℕ = dropped s₁ (firstOdt l) (odtCount l) in
+      let t : List ℕ = dropped s₁ (firstOdt s l) (odtCount s l) in
       let w : Only (runningAt l) (runningAt l + 1) s s₁ = only-set s (runningAt l) on (omega arith) (omega arith) in
-      let v : Only (sampleAt (firstOdt l)) (sampleAt (firstOdt l + odtCount l)) s₁ t = only-dropped s₁ (firstOdt l) (odtCount l) in
-      changes l (switch (eqb on 1)) s t l4
-      (list-from (mode-own l (both w v (omega arith))) (flag-reads (selectedAt l) (both w v (omega arith)))
-      (flag-reads (runningAt l) (spared v (omega arith)) ∙ flag-set s (runningAt l) on (omega arith))
-      (upTo-map (odtCount l) noOdt emptied refl (λ o p. odt-from (entries-own (firstOdt l + o) (both w v (omega arith)) (both w v (omega arith)))
-      (store-empty t (firstOdt l + o) (dropped-empty s₁ (firstOdt l) (odtCount l) o (w .long ∙ h) (omega arith) p)))))
-      (λ j p n. list-own j (own-both w v (omega arith)))
+      let v : Only (sampleAt (firstOdt s l)) (sampleAt (firstOdt s l + odtCount s l)) s₁ t = only-dropped s₁ (firstOdt s l) (odtCount s l) in
+      let stays : Stays s t = both w v (omega arith) in
+      changes l (switch (eqb on 1)) s t stays there
+      (list-from (mode-own l (both w v (omega (arith, few)))) (flag-reads (selectedAt l) (both w v (omega (arith, few))))
+      (flag-reads (runningAt l) (spared v (omega (arith, few))) ∙ flag-set s (runningAt l) on (omega (arith, few))) (odtCount-reads stays l few)
+      (odts-as stays l few ∙ upTo-map (odtCount s l) noOdt emptied refl (λ o p. let k : ℕ = firstOdt s l + o in
+      odt-from (entryCount-reads stays k (odt-few o p)) (entries-own stays k (odt-few o p) (both w v (omega (arith, few, entry-most s k))))
+      (store-empty t k (dropped-empty s₁ (firstOdt s l) (odtCount s l) o (w .long ∙ h) (odt-most s l) p)))))
+      (λ j p n. list-own j p (own-both w v (omega (arith, few, lists-apart s j l n, in-pool s j, in-pool s l))))
 
   pub changes-selected : (on : ℕ) → Changes l (select (eqb on 1)) s (set s (selectedAt l) on)
   changes-selected on =
       let t : List ℕ = set s (selectedAt l) on in
       let w : Only (selectedAt l) (selectedAt l + 1) s t = only-set s (selectedAt l) on (omega arith) (omega arith) in
-      changes l (select (eqb on 1)) s t l4
-      (list-from (mode-own l (spared w (omega arith))) (flag-set s (selectedAt l) on (omega arith)) (flag-reads (runningAt l) (spared w (omega arith))) (odts-own l (spared w (omega arith)) (spared w (omega arith)) (spared w (omega arith))))
-      (λ j p n. list-own j (own-one w (omega arith)))
+      let stays : Stays s t = spared w (omega arith) in
+      changes l (select (eqb on 1)) s t stays there
+      (list-from (mode-own l (spared w (omega arith))) (flag-set s (selectedAt l) on (omega (arith, few))) (flag-reads (runningAt l) (spared w (omega arith))) (odtCount-reads stays l few) (odts-own l few stays (spared w (omega (arith, few))) (spared w (omega (arith, few)))))
+      (λ j p n. list-own j p (own-one w (omega (arith, few, in-pool s j))))
 
   mode-set : (event : ℕ) → event < events → modeOf (set s (modeAt l) ((event + 1) % 256)) l ≡ event + 1
   unfolding modeOf
   mode-set event e2 =
       let m : (event + 1) % 256 ≡ event + 1 = mod-eq-of-lt (omega arith) in
-      rw (getD-set-same s (modeAt l) ((event + 1) % 256) 0 (omega arith), m) (rw (le-ltb events (event + 1) (omega arith)))
+      rw (getD-set-same s (modeAt l) ((event + 1) % 256) 0 (omega (arith, few)), m) (rw (le-ltb events (event + 1) (omega arith)))
 
   pub changes-mode : (event : ℕ) → event < events → Changes l (setMode event) s (modeSet s l event)
   unfolding modeSet
@@ -174,65 +180,58 @@ module _ (s : List ℕ) (l : ℕ) (h : length s ≡ size) (l4 : l < lists) where
       let s₂ : List ℕ = set s₁ (runningAt l) 0 in
       let w : Only (modeAt l) (modeAt l + 1) s s₁ = only-set s (modeAt l) ((event + 1) % 256) (omega arith) (omega arith) in
       let v : Only (runningAt l) (runningAt l + 1) s₁ s₂ = only-set s₁ (runningAt l) 0 (omega arith) (omega arith) in
-      changes l (setMode event) s s₂ l4
-      (list-from (mode-own l (spared v (omega arith)) ∙ mode-set event e2) (flag-reads (selectedAt l) (both w v (omega arith))) (flag-set s₁ (runningAt l) 0 (rw length-set (omega arith)))
-      (odts-own l (both w v (omega arith)) (both w v (omega arith)) (both w v (omega arith))))
-      (λ j p n. list-own j (own-both w v (omega arith)))
+      let stays : Stays s s₂ = both w v (omega arith) in
+      changes l (setMode event) s s₂ stays there
+      (list-from (mode-own l (spared v (omega arith)) ∙ mode-set event e2) (flag-reads (selectedAt l) (both w v (omega arith))) (flag-set s₁ (runningAt l) 0 (rw length-set (omega (arith, few))))
+      (odtCount-reads stays l few) (odts-own l few stays (both w v (omega (arith, few))) (both w v (omega (arith, few)))))
+      (λ j p n. list-own j p (own-both w v (omega (arith, few))))
 
   pub changes-cleared : Changes l clear s (listCleared s l)
   unfolding listCleared modeOf
   changes-cleared =
       let s₁ : List ℕ = cleared s (modeAt l) listSize in
-      let s₂ : List ℕ = cleared s₁ (usedAt (firstOdt l)) (odtCount l) in
+      let i : ℕ = entriesAt (entriesFrom s l) in
+      let s₂ : List ℕ = cleared s₁ i (entrySize * entriesOfList s l) in
       let w : Only (modeAt l) (modeAt (l + 1)) s s₁ = only-cleared s (modeAt l) listSize (omega arith) (omega arith) in
-      let v : Only (usedAt (firstOdt l)) (usedAt (firstOdt l + odtCount l)) s₁ s₂ = only-cleared s₁ (usedAt (firstOdt l)) (odtCount l) (omega arith) (omega arith) in
-      let z : (i : ℕ) → modeAt l ≤ i → i < modeAt (l + 1) → getD s₂ i 0 ≡ 0 =
-      λ i p q. spared {a = i} {b = i + 1} v (omega arith) .byte i (omega arith) (omega arith) ∙ cleared-in s (modeAt l) listSize i (omega arith) p (omega arith) in
-      changes l clear s s₂ l4
+      let v : Only i (entriesAt (entriesFrom s (suc l))) s₁ s₂ = only-cleared s₁ i (entrySize * entriesOfList s l) (omega arith) (omega (arith, in-pool s l)) in
+      let stays : Stays s s₂ = both w v (omega arith) in
+      let z : (j : ℕ) → modeAt l ≤ j → j < modeAt (l + 1) → getD s₂ j 0 ≡ 0 =
+      λ j p q. spared {a = j} {b = j + 1} v (omega (arith, few)) .byte j (omega arith) (omega arith) ∙ cleared-in s (modeAt l) listSize j (omega (arith, few)) p (omega arith) in
+      changes l clear s s₂ stays there
       (list-from (simp (z (modeAt l) (omega arith) (omega arith))) (flag-zero s₂ (selectedAt l) (z (selectedAt l) (omega arith) (omega arith))) (flag-zero s₂ (runningAt l) (z (runningAt l) (omega arith) (omega arith)))
-      (upTo-map (odtCount l) noOdt unset refl (λ o p. odt-from
-      (unused s₂ (firstOdt l + o) (cleared-in s₁ (usedAt (firstOdt l)) (odtCount l) (usedAt (firstOdt l + o)) (rw (w .long) (omega arith)) (omega arith) (omega arith)))
-      (store-own (firstOdt l + o) (both w v (omega arith))))))
-      (λ j p n. list-own j (own-both w v (omega arith)))
+      (odtCount-reads stays l few)
+      (odts-as stays l few ∙ upTo-map (odtCount s l) noOdt unset refl (λ o p. let k : ℕ = firstOdt s l + o in
+      odt-from (entryCount-reads stays k (odt-few o p))
+      (entries-zero s₂ k (λ j a b. cleared-in s₁ i (entrySize * entriesOfList s l) j (rw (w .long) (omega (arith, in-pool s l)))
+      (omega (arith, firstEntry-reads stays k (omega (arith, odt-few o p)), in-list s l o p))
+      (omega (arith, firstEntry-reads stays k (omega (arith, odt-few o p)), entryCount-reads stays k (odt-few o p), in-list s l o p, in-pool s l))))
+      (store-own k (both w v (omega (arith, few, in-pool s l)))))))
+      (λ j p n. list-own j p (own-both w v (omega (arith, few, lists-apart s j l n, in-pool s j, in-pool s l))))
 
--- ---- an entry
--- what is neither whether list l was started, nor how many entries of ODT k are in use, nor one of them
-pub record Beside (l k a b : ℕ) : Type 0 where
-  pub started : Misses (runningAt l) (runningAt l + 1) a b
-  pub used : Misses (usedAt k) (usedAt k + 1) a b
-  pub entered : Misses (entriesAt k) (entriesAt (k + 1)) a b
-
--- entry e of an ODT is x: its list no longer counts as started, and all else is as it was
-module _ (s t : List ℕ) (l o e : ℕ) (x : Entry) (l4 : l < lists) (o2 : o < odtCount l) (off : flagOf t (runningAt l) ≡ false)
-    (rest : (a b : ℕ) → Beside l (firstOdt l + o) a b → Same a b s t) (q : odtOf t (firstOdt l + o) .entry ≡ put e x (odtOf s (firstOdt l + o) .entry)) where
-  changes-entry : Changes l (setEntry o e x) s t
-  changes-entry =
-      changes l (setEntry o e x) s t l4
-      (list-from (mode-own l (rest _ _ (omega arith))) (flag-reads (selectedAt l) (rest _ _ (omega arith))) off
-      (upTo-put (odtCount l) noOdt o2
-      (odt-from q (store-own (firstOdt l + o) (rest _ _ (omega arith))) ∙ ap (withEntry e x) (sym (upTo-at (odtCount l) o noOdt (λ o. odtOf s (firstOdt l + o)) o2)))
-      (λ j p n. odt-own (firstOdt l + j) (rest _ _ (omega arith)) (rest _ _ (omega arith)) (rest _ _ (omega arith)))))
-      (λ j p n. list-own j (record { head = rest _ _ (omega arith); used = rest _ _ (omega arith); entered = rest _ _ (omega arith); stores = rest _ _ (omega arith) }))
-
--- ODT k is that one of its list
-pub as-odt : (k : ℕ) → firstOdt (listOf k) + odtIn k ≡ k
-as-odt k = omega arith
-
-module _ (s : List ℕ) (k e n a : ℕ) (x : Extension) (h : length s ≡ size) (k8 : k < allOdts) (few : e < entryCount k) (n4 : n ≤ entryMost) (low : a < addressable) where
-  pub changes-entrySet : Changes (listOf k) (setEntry (odtIn k) e (record { size = n; extension = x; address = a })) s (entrySet s (listOf k) k e n x a)
-  unfolding entrySet
-  changes-entrySet =
-      let l : ℕ = listOf k in
-      let s₁ : List ℕ = set s (runningAt l) 0 in
-      let s₂ : List ℕ = entryReached s₁ k e in
-      let t : List ℕ = set (set s₂ (entryAt k e) (headOf n x a)) (entryAt k e + 1) (a % 256) in
-      let w : Only (runningAt l) (runningAt l + 1) s s₁ = only-set s (runningAt l) 0 (omega arith) (omega arith) in
-      let long : length s₁ ≡ size = w .long ∙ h in
-      let v : Only (entryAt k e) (entryAt k e + entrySize) s₂ t = only-entry s₂ k e (headOf n x a) (a % 256) in
-      let rest : (a b : ℕ) → Beside l k a b → Same a b s t =
-      λ a b m. same-then (spared w (m .started)) (same-then (reached-beside s₁ k e long k8 few a b (m .used) (m .entered)) (spared v (λ i p q r. let y : entriesAt (k + 1) ≤ i = m .entered i p q (omega arith) in omega arith))) in
-      changes-entry s t l (odtIn k) e _ (omega arith) (omega arith)
-      (flag-reads (runningAt l) (same-then (reached-beside s₁ k e long k8 few (runningAt l) (runningAt l + 1) (omega arith) (omega arith)) (spared v (omega arith))) ∙ flag-set s (runningAt l) 0 (omega arith))
-      (rw (as-odt k) rest)
-      (rw (as-odt k) (entry-put s₂ k e n a x (reached-long s₁ k e ∙ long) k8 (reached-used s₁ k e long k8 few) few n4 low
-      ∙ ap (put e (record { size = n; extension = x; address = a })) (reached-entries s₁ k e long k8 few ∙ entries-own k (spared w (omega arith)) (spared w (omega arith)))))
+  -- ---- an entry that there is: its list no longer counts as started, and all else is as it was
+  module _ (o e n a : ℕ) (x : Extension) (its : o < odtCount s l) (entry : e < entryCount s (firstOdt s l + o)) (n4 : n ≤ entryMost) (low : a < addressable) where
+    pub changes-entrySet : Changes l (setEntry o e (record { size = n; extension = x; address = a })) s (entrySet s l (firstOdt s l + o) e n x a)
+    unfolding entrySet
+    changes-entrySet =
+        let k : ℕ = firstOdt s l + o in
+        let i : ℕ = entryAt s k e in
+        let s₁ : List ℕ = set s (runningAt l) 0 in
+        let s₂ : List ℕ = set s₁ i (headOf n x a) in
+        let t : List ℕ = set s₂ (i + 1) (a % 256) in
+        let w : Only (runningAt l) (runningAt l + 1) s s₁ = only-set s (runningAt l) 0 (omega arith) (omega arith) in
+        let v : Only i (i + entrySize) s₁ t = only-then (only-set s₁ i (headOf n x a) (omega arith) (omega arith)) (only-set s₂ (i + 1) (a % 256) (omega arith) (omega arith)) in
+        let long₁ : length s₁ ≡ size = w .long ∙ h in
+        let long₂ : length s₂ ≡ size = length-set s₁ i (headOf n x a) ∙ long₁ in
+        let stays : Stays s t = both w v (omega arith) in
+        let first : getD t i 0 ≡ headOf n x a = getD-set-other s₂ (i + 1) i (a % 256) 0 (omega arith) ∙ getD-set-same s₁ i (headOf n x a) 0 (omega (arith, entry-most s k)) in
+        let second : getD t (i + 1) 0 ≡ a % 256 = getD-set-same s₂ (i + 1) (a % 256) 0 (omega (arith, entry-most s k)) in
+        changes l (setEntry o e (record { size = n; extension = x; address = a })) s t stays there
+        (list-from (mode-own l (both w v (omega (arith, few)))) (flag-reads (selectedAt l) (both w v (omega (arith, few))))
+        (flag-reads (runningAt l) (spared v (omega (arith, few))) ∙ flag-set s (runningAt l) 0 (omega (arith, few))) (odtCount-reads stays l few)
+        (odts-as stays l few ∙ upTo-put (odtCount s l) noOdt its
+        (odt-from (entryCount-reads stays k (odt-few o its))
+        (entry-put k e n a x stays (odt-few o its) entry n4 low first second (λ j p m. both w v (omega (arith, few))))
+        (store-own k (both w v (omega (arith, few, entry-most s k))))
+        ∙ ap (withEntry e (record { size = n; extension = x; address = a })) (sym (upTo-at (odtCount s l) o noOdt (λ o. odtOf s (firstOdt s l + o)) its)))
+        (λ j p m. odt-own stays (firstOdt s l + j) (odt-few j p) (both w v (omega (arith, few, odts-apart s (firstOdt s l + j) k (λ q. m (omega arith))))) (both w v (omega (arith, few, entry-most s k))))))
+        (λ j p m. list-own j p (own-both w v (omega (arith, few, lists-apart s j l m, in-list s l o its, in-pool s j, in-pool s l))))

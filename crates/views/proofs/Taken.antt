@@ -14,7 +14,7 @@ use Rattle.words.specs.declared.Command.{Command}
 use Rattle.words.specs.declared.Extension.{Extension}
 use Rattle.words.specs.declared.Reason.{Reason}
 use Rattle.words.specs.declared.Reason.the-variants.{TooShort, Locked}
-use Rattle.model.specs.Seen.{Seen, numbersOf}
+use Rattle.model.specs.Seen.{numbersOf}
 use Rattle.model.specs.Judge.{extensionFrom, lockedBy, judgeThe, judgeBy, judge, seenIn, judgeIn}
 use Rattle.model.specs.declared.Deed.{Deed}
 use Rattle.model.specs.declared.Deed.the-variants.{Refuse}
@@ -35,6 +35,12 @@ named-by n few =
 -- ---- checks
 pub fe-ff : _≡_ {A = ℕ} 0xFE 0xFF → ⊥
 fe-ff e = omega arith
+
+-- by the command that a code names
+pub by-code : (P : Deed → Type 0) (p : List ℕ) (c : Session) (k : ℕ) (x : Command) → commandOf k ≡ x → byte p 0 ≡ k → (nc nm : ℕ)
+    → P (judgeBy x (numbersOf p) (seenIn (u16At p 2) (byte p 4) c) nc nm) → P (judgeIn p c nc nm)
+unfolding judgeIn judge
+by-code P p c k x e code nc nm = subst (λ (y : Command). P (judgeBy y (numbersOf p) (seenIn (u16At p 2) (byte p 4) c) nc nm)) (sym (ap commandOf code ∙ e))
 
 module _ (p : List ℕ) (c : Session) (cal meas : List ℕ) where
   -- a deed that is answered FF
@@ -58,14 +64,12 @@ module _ (p : List ℕ) (c : Session) (cal meas : List ℕ) where
     branch false f g t = g refl t
 
     pub judged : (k : ℕ) (x : Command) → commandOf k ≡ x → byte p 0 ≡ k
-        → (Taken (judgeThe x (numbersOf p) (seenIn (u16At p 2) c) (length cal) (length meas)) → P (judgeThe x (numbersOf p) (seenIn (u16At p 2) c) (length cal) (length meas)))
+        → (Taken (judgeThe x (numbersOf p) (seenIn (u16At p 2) (byte p 4) c) (length cal) (length meas)) → P (judgeThe x (numbersOf p) (seenIn (u16At p 2) (byte p 4) c) (length cal) (length meas)))
         → Taken (judgeIn p c (length cal) (length meas)) → P (judgeIn p c (length cal) (length meas))
-    unfolding judgeIn judge judgeBy
+    unfolding judgeBy
     judged k x e code f =
-        let v : Seen = seenIn (u16At p 2) c in
-        subst (λ (y : Command). Taken (judgeBy y (numbersOf p) v (length cal) (length meas)) → P (judgeBy y (numbersOf p) v (length cal) (length meas)))
-        (sym (ap commandOf code ∙ e))
-        (unless (ltb (length p) (fewest x)) TooShort (λ _. unless (lockedBy (needsOf x) v) Locked (λ _. f)))
+        by-code (λ (d : Deed). Taken d → P d) p c k x e code (length cal) (length meas)
+        (unless (ltb (length p) (fewest x)) TooShort (λ _. unless (lockedBy (needsOf x) (seenIn (u16At p 2) (byte p 4) c)) Locked (λ _. f)))
 
 -- a deed that is done leads to what W says
 abbrev pub Leads : Way → List ℕ → Session → List ℕ → List ℕ → Deed → Type 0

@@ -1,14 +1,13 @@
 -- Whose turn it is goes by document 01's rule: the answer and the lists by turns, the lists round and round, a list's ODTs in their order. Assumes
 -- nothing.
-use Prim.Native.Nat.{ℕ, zero, suc, _+_, _-_, _%_, _≤_, _<_}
-use mathlib.Core.Path.{_≡_, sym, ap, subst, _∙_}
+use Prim.Native.Nat.{ℕ, zero, suc, _+_, _%_, _<_}
+use mathlib.Core.Path.{_≡_, refl, sym, subst, _∙_}
 use mathlib.Core.Bool.{true, false}
 use mathlib.Core.List.{[]}
 use native.Mathlib.Omega.{arith}
 use borrow.Author.Tests.{ltb-true}
 use lib.ListN.{length}
 use Rattle.line.proofs.Laws.{cond-ind, false-true}
-use Rattle.state.specs.Layout.{lists, odtCount, firstOdt}
 use Rattle.model.specs.Model.{DaqList, Session, Slave, runsIn, hasAnswer, hasPacket}
 use Rattle.model.specs.Calls.{firstPacket, packetIn, orElse, roundFrom, roundIn, turnIn}
 use Rattle.model.specs.declared.Turn.{Turn}
@@ -22,7 +21,7 @@ use Rattle.views.proofs.Waits.{Empty, no-packet}
 -- what it has: nothing, or the packet of its first ODT that has one
 pub data Has (c : Session) (l : ℕ) : Turn → Type 0 where
   none : NoPacket c l → Has c l Nobody
-  some : (o : ℕ) → NextPacket c l o → Has c l (Packet (firstOdt l + o))
+  some : (o : ℕ) → NextPacket c l o → Has c l (Packet l o)
 
 module _ (c : Session) (l : ℕ) where
   abbrev x : DaqList
@@ -35,7 +34,7 @@ module _ (c : Session) (l : ℕ) where
       (λ e. let m : 0 + i ≡ d = omega arith in subst (λ (o : ℕ). x .odt o .store ≡ []) (sym m) (no-packet (x .odt d .store) a))
       (λ other. empty i (omega arith))
 
-  from : runsIn c l ≡ true → (d n : ℕ) → d + n ≡ odtCount l → Empty x 0 d → Has c l (firstPacket l x d n)
+  from : runsIn c l ≡ true → (d n : ℕ) → d + n ≡ x .odts → Empty x 0 d → Has c l (firstPacket l x d n)
   unfolding firstPacket
   from r d zero e empty = none (λ _ o h. let m : 0 + o ≡ o = omega arith in subst (λ (i : ℕ). x .odt i .store ≡ []) m (empty o (omega arith)))
   from r d (suc n) e empty =
@@ -51,19 +50,19 @@ module _ (c : Session) (l : ℕ) where
   pub has : Has c l (packetIn c l)
   unfolding packetIn
   has =
-      cond-ind (Has c l) (runsIn c l) (λ r. from r 0 (odtCount l) (omega arith) (λ i z. absurd (nothing-below i z))) (λ r. none (λ s o h. absurd (false-true (sym r ∙ s))))
+      cond-ind (Has c l) (runsIn c l) (λ r. from r 0 (x .odts) (omega arith) (λ i z. absurd (nothing-below i z))) (λ r. none (λ s o h. absurd (false-true (sym r ∙ s))))
     where
       nothing-below : (i : ℕ) → i < 0 → ⊥
       nothing-below i z = omega arith
 
 -- ---- the round: the first of the n lists from l on that has a packet, or none of them has
 data Found (c : Session) (l n : ℕ) : Turn → Type 0 where
-  nowhere : ((i : ℕ) → i < n → NoPacket c ((l + i) % lists)) → Found c l n Nobody
-  there : (i o : ℕ) → i < n → ((j : ℕ) → j < i → NoPacket c ((l + j) % lists)) → NextPacket c ((l + i) % lists) o → Found c l n (Packet (firstOdt ((l + i) % lists) + o))
+  nowhere : ((i : ℕ) → i < n → NoPacket c ((l + i) % c .lists)) → Found c l n Nobody
+  there : (i o : ℕ) → i < n → ((j : ℕ) → j < i → NoPacket c ((l + j) % c .lists)) → NextPacket c ((l + i) % c .lists) o → Found c l n (Packet ((l + i) % c .lists) o)
 
 module _ (c : Session) where
   abbrev No : ℕ → Type 0
-  No m = NoPacket c (m % lists)
+  No m = NoPacket c (m % c .lists)
 
   step : (l j : ℕ) → l + 1 + j ≡ l + suc j
   step l j = omega arith
@@ -76,70 +75,51 @@ module _ (c : Session) where
   later-found : (l n : ℕ) (t : Turn) → No l → Found c (l + 1) n t → Found c l (suc n) t
   later-found l n _ here (nowhere f) = nowhere (all-from l n here f)
   later-found l n _ here (there i o h f p) =
-      subst (λ (m : ℕ). Found c l (suc n) (Packet (firstOdt (m % lists) + o))) (sym (step l i))
-      (there (suc i) o (omega arith) (all-from l i here f) (subst (λ (m : ℕ). NextPacket c (m % lists) o) (step l i) p))
+      subst (λ (m : ℕ). Found c l (suc n) (Packet (m % c .lists) o)) (sym (step l i))
+      (there (suc i) o (omega arith) (all-from l i here f) (subst (λ (m : ℕ). NextPacket c (m % c .lists) o) (step l i) p))
 
-  round-found : (l n : ℕ) → Found c l n (roundFrom lists (packetIn c) l n)
+  round-found : (l n : ℕ) → Found c l n (roundFrom (c .lists) (packetIn c) l n)
   unfolding roundFrom
   round-found l zero = nowhere (λ i h. absurd (below i h)) where
     below : (i : ℕ) → i < 0 → ⊥
     below i h = omega arith
-  round-found l (suc n) = go (packetIn c (l % lists)) (has c (l % lists)) (round-found (l + 1) n) where
+  round-found l (suc n) = go (packetIn c (l % c .lists)) (has c (l % c .lists)) (round-found (l + 1) n) where
     here : l ≡ l + 0
     here = omega arith
 
     below : (j : ℕ) → j < 0 → No (l + j)
     below j h = absurd (let k : j < 0 = h in omega arith)
 
-    go : (t : Turn) → Has c (l % lists) t → Found c (l + 1) n (roundFrom lists (packetIn c) (l + 1) n) → Found c l (suc n) (orElse t (roundFrom lists (packetIn c) (l + 1) n))
-    go _ (none f) r = later-found l n (roundFrom lists (packetIn c) (l + 1) n) f r
+    go : (t : Turn) → Has c (l % c .lists) t → Found c (l + 1) n (roundFrom (c .lists) (packetIn c) (l + 1) n) → Found c l (suc n) (orElse t (roundFrom (c .lists) (packetIn c) (l + 1) n))
+    go _ (none f) r = later-found l n (roundFrom (c .lists) (packetIn c) (l + 1) n) f r
     go _ (some o p) r =
-        subst (λ (m : ℕ). Found c l (suc n) (Packet (firstOdt (m % lists) + o))) (sym here) (there 0 o (omega arith) below (subst (λ (m : ℕ). NextPacket c (m % lists) o) here p))
+        subst (λ (m : ℕ). Found c l (suc n) (Packet (m % c .lists) o)) (sym here) (there 0 o (omega arith) below (subst (λ (m : ℕ). NextPacket c (m % c .lists) o) here p))
 
--- ---- from the list served last
+-- ---- from the list with which it begins
 module _ (v : Slave) where
-  on-from : (i : ℕ) → v .served + 1 + i ≡ v .served + suc i
-  on-from i = omega arith
+  abbrev c : Session
+  c = v .session
 
-  no-list : ((i : ℕ) → i < lists → NoPacket (v .session) ((v .served + 1 + i) % lists)) → NoList v
-  no-list f l h =
-      let w : Far lists (v .served) l = far-of lists (v .served) l h in
-      let e : (v .served + 1 + (w .far - 1)) % lists ≡ l = ap (λ (m : ℕ). m % lists) (back (w .far) (w .some)) ∙ w .turn in
-      subst (NoPacket (v .session)) e (f (w .far - 1) (low (w .far) (w .some) (w .most))) where
-        back : (d : ℕ) → 1 ≤ d → v .served + 1 + (d - 1) ≡ v .served + d
-        back d h = omega arith
+  no-list : ((i : ℕ) → i < c .lists → NoPacket c ((c .round + i) % c .lists)) → NoList v
+  no-list f l h = let w : Far (c .lists) (c .round) l = far-of (c .lists) (c .round) l h in subst (NoPacket c) (w .turn) (f (w .far) (w .few))
 
-        low : (d : ℕ) → 1 ≤ d → d ≤ lists → d - 1 < lists
-        low d h k = omega arith
-
-  next-list : (i o : ℕ) → i < lists → ((j : ℕ) → j < i → NoPacket (v .session) ((v .served + 1 + j) % lists)) → NextPacket (v .session) ((v .served + 1 + i) % lists) o
-      → NextList v ((v .served + 1 + i) % lists) o
-  next-list i o h f p =
-      record {
-        on = suc i;
-        some = omega arith;
-        most = omega arith;
-        round = ap (λ (m : ℕ). m % lists) (on-from i);
-        passed = passed;
-        packet = p;
-      } where
-        passed : (j : ℕ) → 1 ≤ j → j < suc i → NoPacket (v .session) ((v .served + j) % lists)
-        passed zero a b = absurd (let k : 1 ≤ 0 = a in omega arith)
-        passed (suc j) a b = subst (λ (m : ℕ). NoPacket (v .session) (m % lists)) (on-from j) (f j (omega arith))
+  next-list : (i o : ℕ) → i < c .lists → ((j : ℕ) → j < i → NoPacket c ((c .round + j) % c .lists)) → NextPacket c ((c .round + i) % c .lists) o
+      → NextList v ((c .round + i) % c .lists) o
+  next-list i o h f p = record { on = i; few = h; round = refl; passed = f; packet = p }
 
   -- an answer waits, and the last frame was one: a list's packet, or else the answer
-  or-answer : hasAnswer v ≡ true → v .lastAnswer ≡ true → (t : Turn) → Found (v .session) (v .served + 1) lists t → Goes v (orElse t Answer)
+  or-answer : hasAnswer v ≡ true → v .lastAnswer ≡ true → (t : Turn) → Found c (c .round) (c .lists) t → Goes v (orElse t Answer)
   or-answer w f _ (nowhere n) = answer-else w f (no-list n)
-  or-answer w f _ (there i o h n p) = list-next (λ _. f) ((v .served + 1 + i) % lists) o (next-list i o h n p)
+  or-answer w f _ (there i o h n p) = list-next (λ _. f) ((c .round + i) % c .lists) o (next-list i o h n p)
 
-  no-answer : hasAnswer v ≡ false → (t : Turn) → Found (v .session) (v .served + 1) lists t → Goes v t
+  no-answer : hasAnswer v ≡ false → (t : Turn) → Found c (c .round) (c .lists) t → Goes v t
   no-answer w _ (nowhere n) = nobody w (no-list n)
-  no-answer w _ (there i o h n p) = list-next (λ e. absurd (false-true (sym w ∙ e))) ((v .served + 1 + i) % lists) o (next-list i o h n p)
+  no-answer w _ (there i o h n p) = list-next (λ e. absurd (false-true (sym w ∙ e))) ((c .round + i) % c .lists) o (next-list i o h n p)
 
   pub turn-goes : Goes v (turnIn v)
   unfolding turnIn
   turn-goes =
-      let found = round-found (v .session) (v .served + 1) lists in
+      let found = round-found c (c .round) (c .lists) in
       cond-ind (Goes v) (hasAnswer v)
-      (λ w. cond-ind (Goes v) (v .lastAnswer) (λ f. or-answer w f (roundIn (v .session) (v .served)) found) (λ f. answer-first w f))
-      (λ w. no-answer w (roundIn (v .session) (v .served)) found)
+      (λ w. cond-ind (Goes v) (v .lastAnswer) (λ f. or-answer w f (roundIn c) found) (λ f. answer-first w f))
+      (λ w. no-answer w (roundIn c) found)

@@ -4,17 +4,18 @@ use Prim.Native.Nat.{ℕ, _+_, _≤_, _<_}
 use mathlib.Core.Path.{_≡_, refl, ap, _∙_}
 use mathlib.Core.Logic.{_≢_}
 use mathlib.Core.Bool.{Bool, true, false}
+use native.Mathlib.Omega.{arith}
 use borrow.Author.Tests.{eqb-true, eqb-false, ltb-false, leb-false, not-false}
 use lib.Dec.{eqb, ltb, leb}
 use Rattle.line.proofs.Laws.{cond-ind}
-use Rattle.state.specs.Layout.{lists, odtCount, firstOdt, entryCount, events, entryMost, uploadMost, downloadFrom, downloadMost, shortDownloadFrom, shortDownloadMost, addressable}
+use Rattle.state.specs.Layout.{lists, allOdts, allEntries, events, entryMost, uploadMost, downloadFrom, downloadMost, shortDownloadFrom, shortDownloadMost, addressable}
 use Rattle.state.specs.Generator.{keyOf, staysShut}
 use Rattle.state.specs.Memory.{pick, insideOf}
 use Rattle.words.specs.Command.{commandOf, fewest, needsOf}
-use Rattle.model.specs.Judge.{extensionFrom, connectDeed, seedDeed, getSeedDeed, unlockBy, setMtaDeed, uploadDeed, shortUploadDeed, checksumDeed, downloadTo, downloadDeed, shortDownloadDeed, clearDeed, pointerDeed, writeBlock, writeDeed, modeDeed, startDeed, startStopDeed, synchDeed, lockedBy, judgeThe, judgeBy, judge}
+use Rattle.model.specs.Judge.{extensionFrom, connectDeed, seedDeed, getSeedDeed, unlockBy, setMtaDeed, uploadDeed, shortUploadDeed, checksumDeed, downloadTo, downloadDeed, shortDownloadDeed, clearDeed, pointerDeed, writeBlock, writeDeed, modeDeed, startDeed, startStopDeed, synchDeed, allocListsDeed, allocOdtsDeed, allocEntriesDeed, lockedBy, judgeThe, judgeBy, judge}
 use Rattle.judge.specs.Doable.{Inside}
 use Rattle.words.specs.declared.Command.{Command}
-use Rattle.words.specs.declared.Command.the-variants.{Unknown, Connect, Disconnect, GetStatus, Synch, GetSeed, Unlock, SetMta, Upload, ShortUpload, BuildChecksum, Download, ShortDownload, ClearDaqList, SetDaqPtr, WriteDaq, SetDaqListMode, StartStopDaqList, StartStopSynch, GetDaqProcessorInfo, GetDaqResolutionInfo}
+use Rattle.words.specs.declared.Command.the-variants.{Unknown, Connect, Disconnect, GetStatus, Synch, GetSeed, Unlock, SetMta, Upload, ShortUpload, BuildChecksum, Download, ShortDownload, ClearDaqList, SetDaqPtr, WriteDaq, SetDaqListMode, StartStopDaqList, StartStopSynch, GetDaqProcessorInfo, GetDaqResolutionInfo, FreeDaq, AllocDaq, AllocOdt, AllocOdtEntry}
 use Rattle.words.specs.declared.Reason.{Reason}
 use Rattle.words.specs.declared.Resource.{Resource}
 use Rattle.words.specs.declared.Resource.the-variants.{Calibration, Lists}
@@ -37,8 +38,8 @@ pub record Keyed (p : Packet) (v : Seen) (r : Resource) : Type 0 where
   pub long : 6 ≤ p .n
 
 -- the entry that is pointed to, of a list that does not run
-pub record Pointing (v : Seen) (k e : ℕ) : Type 0 where
-  pub here : v .pointer ≡ Entry k e
+pub record Pointing (v : Seen) (l o e : ℕ) : Type 0 where
+  pub here : v .pointer ≡ Entry l o e
   pub still : v .pointed ≡ false
 
 -- of command c
@@ -61,21 +62,34 @@ pub data Verdict (p : Packet) (v : Seen) (nc nm : ℕ) : Command → Deed → Ty
       → Verdict p v nc nm Download (deed.Download downloadFrom a (p .b1))
   short-downloads : v .calibration ≡ true → extensionFrom (p .b3) ≡ CalibrationMemory → p .b1 + shortDownloadFrom ≤ p .n → Inside shortDownloadMost (p .d4) (p .b1) nc
       → Verdict p v nc nm ShortDownload (deed.Download shortDownloadFrom (p .d4) (p .b1))
-  clears : v .lists ≡ true → p .w2 < lists → v .runs ≡ false → Verdict p v nc nm ClearDaqList (deed.ClearList (p .w2))
-  points : v .lists ≡ true → p .w2 < lists → p .b4 < odtCount (p .w2) → p .b5 < entryCount (firstOdt (p .w2) + p .b4) → Verdict p v nc nm SetDaqPtr (deed.SetPointer (firstOdt (p .w2) + p .b4) (p .b5))
-  zeroes : (k e : ℕ) → v .lists ≡ true → Pointing v k e → Verdict p v nc nm WriteDaq (deed.ClearEntry k e)
-  writes : (k e : ℕ) → v .lists ≡ true → Pointing v k e → p .b2 ≢ 0 → Inside entryMost (p .d4) (p .b2) (pick (extensionFrom (p .b3)) nc nm)
-      → Verdict p v nc nm WriteDaq (deed.WriteEntry k e (p .b2) (extensionFrom (p .b3)) (p .d4))
-  modes : v .lists ≡ true → p .w2 < lists → p .w4 < events → v .runs ≡ false → Verdict p v nc nm SetDaqListMode (deed.SetMode (p .w2) (p .w4))
-  stops : v .lists ≡ true → p .w2 < lists → Verdict p v nc nm StartStopDaqList (deed.Stop (p .w2))
-  starts : v .lists ≡ true → p .w2 < lists → v .runs ≡ false → Verdict p v nc nm StartStopDaqList (deed.Start (p .w2))
-  goes-on : v .lists ≡ true → p .w2 < lists → Verdict p v nc nm StartStopDaqList (deed.KeepRunning (p .w2))
-  selects : v .lists ≡ true → p .w2 < lists → Verdict p v nc nm StartStopDaqList (deed.Select (p .w2))
+  clears : v .lists ≡ true → p .w2 < v .present → v .runs ≡ false → Verdict p v nc nm ClearDaqList (deed.ClearList (p .w2))
+  points : v .lists ≡ true → p .w2 < v .present → p .b4 < v .odts → p .b5 < v .entries → Verdict p v nc nm SetDaqPtr (deed.SetPointer (p .w2) (p .b4) (p .b5))
+  zeroes : (l o e : ℕ) → v .lists ≡ true → Pointing v l o e → Verdict p v nc nm WriteDaq (deed.ClearEntry l o e)
+  writes : (l o e : ℕ) → v .lists ≡ true → Pointing v l o e → p .b2 ≢ 0 → Inside entryMost (p .d4) (p .b2) (pick (extensionFrom (p .b3)) nc nm)
+      → Verdict p v nc nm WriteDaq (deed.WriteEntry l o e (p .b2) (extensionFrom (p .b3)) (p .d4))
+  modes : v .lists ≡ true → p .w2 < v .present → p .w4 < events → v .runs ≡ false → Verdict p v nc nm SetDaqListMode (deed.SetMode (p .w2) (p .w4))
+  stops : v .lists ≡ true → p .w2 < v .present → Verdict p v nc nm StartStopDaqList (deed.Stop (p .w2))
+  starts : v .lists ≡ true → p .w2 < v .present → v .runs ≡ false → Verdict p v nc nm StartStopDaqList (deed.Start (p .w2))
+  goes-on : v .lists ≡ true → p .w2 < v .present → Verdict p v nc nm StartStopDaqList (deed.KeepRunning (p .w2))
+  selects : v .lists ≡ true → p .w2 < v .present → Verdict p v nc nm StartStopDaqList (deed.Select (p .w2))
   stops-all : v .lists ≡ true → Verdict p v nc nm StartStopSynch deed.StopAll
   starts-all : v .lists ≡ true → Verdict p v nc nm StartStopSynch deed.StartSelected
   stops-some : v .lists ≡ true → Verdict p v nc nm StartStopSynch deed.StopSelected
   processor : Verdict p v nc nm GetDaqProcessorInfo deed.ProcessorInfo
   resolution : Verdict p v nc nm GetDaqResolutionInfo deed.ResolutionInfo
+  frees : v .lists ≡ true → Verdict p v nc nm FreeDaq deed.FreeLists
+  allocs-lists : v .lists ≡ true → v .freed ≡ true → v .present ≡ 0 → p .w2 ≢ 0 → p .w2 ≤ lists → Verdict p v nc nm AllocDaq (deed.AllocLists (p .w2))
+  allocs-odts : v .lists ≡ true → p .w2 < v .present → v .odts ≡ 0 → v .entriesTaken ≡ 0 → p .b4 ≢ 0 → v .odtsTaken + p .b4 ≤ allOdts
+      → Verdict p v nc nm AllocOdt (deed.AllocOdts (p .w2) (p .b4))
+  allocs-entries : v .lists ≡ true → p .b4 < v .odts → v .entries ≡ 0 → v .runs ≡ false → p .b5 ≢ 0 → v .entriesTaken + p .b5 ≤ allEntries
+      → Verdict p v nc nm AllocOdtEntry (deed.AllocEntries (p .w2) (p .b4) (p .b5))
+
+-- what a test found to be none, and to be some
+pub no-more : (n : ℕ) → ltb 0 n ≡ false → n ≡ 0
+no-more n none = omega (arith, ltb-false 0 n none)
+
+pub at-least : (n : ℕ) → n ≢ 0 → 1 ≤ n
+at-least n some = omega arith
 
 module _ (p : Packet) (v : Seen) (nc nm : ℕ) where
   abbrev Led : Command → Deed → Type 0
@@ -163,53 +177,53 @@ module _ (p : Packet) (v : Seen) (nc nm : ℕ) where
 
   -- ---- the lists, which are unlocked
   module _ (free : v .lists ≡ true) where
-    clear-found : Led ClearDaqList (clearDeed (v .runs) (p .w2))
+    clear-found : Led ClearDaqList (clearDeed (v .present) (v .runs) (p .w2))
     unfolding clearDeed
     clear-found =
-        cond-ind (Led ClearDaqList) (leb lists (p .w2)) (λ _. refused ClearDaqList _) (λ list.
-        cond-ind (Led ClearDaqList) (v .runs) (λ _. refused ClearDaqList _) (λ still. clears free (leb-false lists (p .w2) list) still))
+        cond-ind (Led ClearDaqList) (leb (v .present) (p .w2)) (λ _. refused ClearDaqList _) (λ list.
+        cond-ind (Led ClearDaqList) (v .runs) (λ _. refused ClearDaqList _) (λ still. clears free (leb-false (v .present) (p .w2) list) still))
 
-    pointer-found : Led SetDaqPtr (pointerDeed (p .w2) (p .b4) (p .b5))
+    pointer-found : Led SetDaqPtr (pointerDeed (v .present) (v .odts) (v .entries) (p .w2) (p .b4) (p .b5))
     unfolding pointerDeed
     pointer-found =
-        cond-ind (Led SetDaqPtr) (leb lists (p .w2)) (λ _. refused SetDaqPtr _) (λ list.
-        cond-ind (Led SetDaqPtr) (leb (odtCount (p .w2)) (p .b4)) (λ _. refused SetDaqPtr _) (λ odt.
-        cond-ind (Led SetDaqPtr) (leb (entryCount (firstOdt (p .w2) + p .b4)) (p .b5)) (λ _. refused SetDaqPtr _) (λ entry.
-        points free (leb-false lists (p .w2) list) (leb-false (odtCount (p .w2)) (p .b4) odt) (leb-false (entryCount (firstOdt (p .w2) + p .b4)) (p .b5) entry))))
+        cond-ind (Led SetDaqPtr) (leb (v .present) (p .w2)) (λ _. refused SetDaqPtr _) (λ list.
+        cond-ind (Led SetDaqPtr) (leb (v .odts) (p .b4)) (λ _. refused SetDaqPtr _) (λ odt.
+        cond-ind (Led SetDaqPtr) (leb (v .entries) (p .b5)) (λ _. refused SetDaqPtr _) (λ entry.
+        points free (leb-false (v .present) (p .w2) list) (leb-false (v .odts) (p .b4) odt) (leb-false (v .entries) (p .b5) entry))))
 
     write-found : (at : Pointer) → v .pointer ≡ at → Led WriteDaq (writeDeed at (v .pointed) (p .b1) (p .b2) (p .b3) (p .d4) nc nm)
     unfolding writeDeed writeBlock
     write-found NoEntry here = refused WriteDaq _
-    write-found (Entry k e) here =
+    write-found (Entry l o e) here =
         cond-ind (Led WriteDaq) (eqb (p .b1) 0xFF) (λ _.
         cond-ind (Led WriteDaq) (ltb entryMost (p .b2)) (λ _. refused WriteDaq _) (λ few.
         cond-ind (Led WriteDaq) (ltb 1 (p .b3)) (λ _. refused WriteDaq _) (λ _.
         cond-ind (Led WriteDaq) (v .pointed) (λ _. refused WriteDaq _) (λ still.
-        cond-ind (Led WriteDaq) (eqb (p .b2) 0) (λ _. zeroes k e free (record { here = here; still = still })) (λ some.
+        cond-ind (Led WriteDaq) (eqb (p .b2) 0) (λ _. zeroes l o e free (record { here = here; still = still })) (λ some.
         cond-ind (Led WriteDaq) (insideOf (p .d4) (p .b2) (pick (extensionFrom (p .b3)) nc nm))
-        (λ inside. writes k e free (record { here = here; still = still }) (eqb-false (p .b2) 0 some) (ltb-false entryMost (p .b2) few, inside)) (λ _. refused WriteDaq _)))))) (λ _. refused WriteDaq _)
+        (λ inside. writes l o e free (record { here = here; still = still }) (eqb-false (p .b2) 0 some) (ltb-false entryMost (p .b2) few, inside)) (λ _. refused WriteDaq _)))))) (λ _. refused WriteDaq _)
 
-    mode-found : Led SetDaqListMode (modeDeed (v .runs) (p .b1) (p .w2) (p .w4) (p .b6) (p .b7))
+    mode-found : Led SetDaqListMode (modeDeed (v .present) (v .runs) (p .b1) (p .w2) (p .w4) (p .b6) (p .b7))
     unfolding modeDeed
     mode-found =
         cond-ind (Led SetDaqListMode) (eqb (p .b1) 0x10) (λ _.
-        cond-ind (Led SetDaqListMode) (leb lists (p .w2)) (λ _. refused SetDaqListMode _) (λ list.
+        cond-ind (Led SetDaqListMode) (leb (v .present) (p .w2)) (λ _. refused SetDaqListMode _) (λ list.
         cond-ind (Led SetDaqListMode) (leb events (p .w4)) (λ _. refused SetDaqListMode _) (λ event.
         cond-ind (Led SetDaqListMode) (eqb (p .b6) 1) (λ _.
         cond-ind (Led SetDaqListMode) (eqb (p .b7) 0) (λ _.
         cond-ind (Led SetDaqListMode) (v .runs) (λ _. refused SetDaqListMode _) (λ still.
-        modes free (leb-false lists (p .w2) list) (leb-false events (p .w4) event) still)) (λ _. refused SetDaqListMode _)) (λ _. refused SetDaqListMode _)))) (λ _. refused SetDaqListMode _)
+        modes free (leb-false (v .present) (p .w2) list) (leb-false events (p .w4) event) still)) (λ _. refused SetDaqListMode _)) (λ _. refused SetDaqListMode _)))) (λ _. refused SetDaqListMode _)
 
-    start-stop-found : Led StartStopDaqList (startStopDeed (v .runs) (v .fits) (p .b1) (p .w2))
+    start-stop-found : Led StartStopDaqList (startStopDeed (v .present) (v .runs) (v .fits) (p .b1) (p .w2))
     unfolding startStopDeed startDeed
     start-stop-found =
         cond-ind (Led StartStopDaqList) (ltb 2 (p .b1)) (λ _. refused StartStopDaqList _) (λ _.
-        cond-ind (Led StartStopDaqList) (leb lists (p .w2)) (λ _. refused StartStopDaqList _) (λ list.
-        cond-ind (Led StartStopDaqList) (eqb (p .b1) 0) (λ _. stops free (leb-false lists (p .w2) list)) (λ _.
+        cond-ind (Led StartStopDaqList) (leb (v .present) (p .w2)) (λ _. refused StartStopDaqList _) (λ list.
+        cond-ind (Led StartStopDaqList) (eqb (p .b1) 0) (λ _. stops free (leb-false (v .present) (p .w2) list)) (λ _.
         cond-ind (Led StartStopDaqList) (eqb (p .b1) 1) (λ _.
-        cond-ind (Led StartStopDaqList) (v .runs) (λ _. goes-on free (leb-false lists (p .w2) list)) (λ still.
-        cond-ind (Led StartStopDaqList) (v .fits) (λ _. starts free (leb-false lists (p .w2) list) still) (λ _. refused StartStopDaqList _)))
-        (λ _. selects free (leb-false lists (p .w2) list)))))
+        cond-ind (Led StartStopDaqList) (v .runs) (λ _. goes-on free (leb-false (v .present) (p .w2) list)) (λ still.
+        cond-ind (Led StartStopDaqList) (v .fits) (λ _. starts free (leb-false (v .present) (p .w2) list) still) (λ _. refused StartStopDaqList _)))
+        (λ _. selects free (leb-false (v .present) (p .w2) list)))))
 
     synch-found : Led StartStopSynch (synchDeed (v .ready) (p .b1))
     unfolding synchDeed
@@ -218,6 +232,41 @@ module _ (p : Packet) (v : Seen) (nc nm : ℕ) where
         cond-ind (Led StartStopSynch) (eqb (p .b1) 0) (λ _. stops-all free) (λ _.
         cond-ind (Led StartStopSynch) (eqb (p .b1) 1) (λ _.
         cond-ind (Led StartStopSynch) (v .ready) (λ _. starts-all free) (λ _. refused StartStopSynch _)) (λ _. stops-some free)))
+
+    -- ---- the pool
+    alloc-lists-found : Led AllocDaq (allocListsDeed (v .freed) (v .present) (p .w2))
+    unfolding allocListsDeed
+    alloc-lists-found =
+        cond-ind (Led AllocDaq) (v .freed) (λ freed.
+        cond-ind (Led AllocDaq) (ltb 0 (v .present)) (λ _. refused AllocDaq _) (λ none.
+        cond-ind (Led AllocDaq) (eqb (p .w2) 0) (λ _. refused AllocDaq _) (λ some.
+        cond-ind (Led AllocDaq) (ltb lists (p .w2)) (λ _. refused AllocDaq _) (λ few.
+        allocs-lists free freed (no-more (v .present) none) (eqb-false (p .w2) 0 some) (ltb-false lists (p .w2) few))))) (λ _. refused AllocDaq _)
+
+    alloc-odts-found : Led AllocOdt (allocOdtsDeed (v .present) (v .odts) (v .odtsTaken) (v .entriesTaken) (v .runs) (p .w2) (p .b4))
+    unfolding allocOdtsDeed
+    alloc-odts-found =
+        cond-ind (Led AllocOdt) (eqb (v .present) 0) (λ _. refused AllocOdt _) (λ _.
+        cond-ind (Led AllocOdt) (ltb 0 (v .entriesTaken)) (λ _. refused AllocOdt _) (λ unused.
+        cond-ind (Led AllocOdt) (ltb 0 (v .odts)) (λ _. refused AllocOdt _) (λ none.
+        cond-ind (Led AllocOdt) (leb (v .present) (p .w2)) (λ _. refused AllocOdt _) (λ list.
+        cond-ind (Led AllocOdt) (eqb (p .b4) 0) (λ _. refused AllocOdt _) (λ some.
+        cond-ind (Led AllocOdt) (v .runs) (λ _. refused AllocOdt _) (λ _.
+        cond-ind (Led AllocOdt) (ltb allOdts (v .odtsTaken + p .b4)) (λ _. refused AllocOdt _) (λ room.
+        allocs-odts free (leb-false (v .present) (p .w2) list) (no-more (v .odts) none) (no-more (v .entriesTaken) unused) (eqb-false (p .b4) 0 some)
+        (ltb-false allOdts (v .odtsTaken + p .b4) room))))))))
+
+    alloc-entries-found : Led AllocOdtEntry (allocEntriesDeed (v .odts) (v .entries) (v .odtsTaken) (v .entriesTaken) (v .runs) (p .w2) (p .b4) (p .b5))
+    unfolding allocEntriesDeed
+    alloc-entries-found =
+        cond-ind (Led AllocOdtEntry) (eqb (v .odtsTaken) 0) (λ _. refused AllocOdtEntry _) (λ _.
+        cond-ind (Led AllocOdtEntry) (ltb 0 (v .entries)) (λ _. refused AllocOdtEntry _) (λ none.
+        cond-ind (Led AllocOdtEntry) (leb (v .odts) (p .b4)) (λ _. refused AllocOdtEntry _) (λ odt.
+        cond-ind (Led AllocOdtEntry) (eqb (p .b5) 0) (λ _. refused AllocOdtEntry _) (λ some.
+        cond-ind (Led AllocOdtEntry) (v .runs) (λ _. refused AllocOdtEntry _) (λ still.
+        cond-ind (Led AllocOdtEntry) (ltb allEntries (v .entriesTaken + p .b5)) (λ _. refused AllocOdtEntry _) (λ room.
+        allocs-entries free (leb-false (v .odts) (p .b4) odt) (no-more (v .entries) none) still (eqb-false (p .b5) 0 some)
+        (ltb-false allEntries (v .entriesTaken + p .b5) room)))))))
 
   -- ---- a command whose lock is open
   the-found : (c : Command) → lockedBy (needsOf c) v ≡ false → Led c (judgeThe c p v nc nm)
@@ -243,6 +292,10 @@ module _ (p : Packet) (v : Seen) (nc nm : ℕ) where
   the-found StartStopSynch free = synch-found (not-false (v .lists) free)
   the-found GetDaqProcessorInfo free = processor
   the-found GetDaqResolutionInfo free = resolution
+  the-found FreeDaq free = frees (not-false (v .lists) free)
+  the-found AllocDaq free = alloc-lists-found (not-false (v .lists) free)
+  the-found AllocOdt free = alloc-odts-found (not-false (v .lists) free)
+  the-found AllocOdtEntry free = alloc-entries-found (not-false (v .lists) free)
 
   by-found : (c : Command) → Led c (judgeBy c p v nc nm)
   unfolding judgeBy

@@ -1,6 +1,6 @@
 -- F8 and F7 where keys were wrong: GET_SEED that stays shut, or is too short for that; UNLOCK with a wrong key. Assumes nothing.
 use Prim.Native.Nat.{ℕ, _+_, _≤_, _<_}
-use mathlib.Core.Path.{_≡_, refl, sym, ap, subst, _∙_}
+use mathlib.Core.Path.{_≡_, refl, sym, subst, _∙_}
 use mathlib.Core.Bool.{false}
 use mathlib.Core.List.{List, [], _∷_}
 use native.Mathlib.Omega.{arith}
@@ -8,24 +8,22 @@ use borrow.Author.Tests.{eqb-false, lt-ltb, le-ltb, lt-leb, le-leb}
 use lib.Dec.{eqb, ltb}
 use lib.ListN.{length}
 use Rattle.line.proofs.Laws.{cond-ind}
-use Rattle.state.specs.Bytes.{u16At, u32At}
+use Rattle.state.specs.Bytes.{u32At}
 use Rattle.state.specs.Generator.{keyOf, oneWrongMore}
 use Rattle.words.specs.Command.{commandOf}
-use Rattle.words.specs.declared.Command.{Command}
 use Rattle.words.specs.declared.Command.the-variants as command
 use Rattle.words.specs.declared.Resource.{Resource}
 use Rattle.words.specs.declared.Seed.{Seed}
 use Rattle.words.specs.declared.Seed.the-variants.{None, For}
 use Rattle.words.specs.declared.Reason.the-variants.{TooShort, Locked, Sequence}
-use Rattle.model.specs.Seen.{numbersOf}
-use Rattle.model.specs.Judge.{getSeedDeed, unlockBy, judgeThe, judgeBy, judge, seenIn, judgeIn}
+use Rattle.model.specs.Judge.{getSeedDeed, unlockBy, judgeThe, judgeBy, judge, judgeIn}
 use Rattle.model.specs.declared.Deed.{Deed}
 use Rattle.model.specs.declared.Deed.the-variants.{Refuse, WrongKey}
 use Rattle.model.specs.Model.{byte, Session}
 use Rattle.model.specs.Step.{stepIn}
 use Rattle.model.specs.Answers.{replyIn, doneBy, writes}
 use Rattle.views.specs.Commands.{Tells, STAYS-SHUT, WRONG-KEY}
-use Rattle.views.proofs.Taken.{four-is, Leads}
+use Rattle.views.proofs.Taken.{four-is, by-code, Leads}
 use Rattle.views.proofs.SessionLaws.{blank-fresh}
 
 -- one wrong key more, and the most
@@ -76,9 +74,9 @@ module _ (p : List ℕ) (c : Session) (cal meas : List ℕ) where
       (λ _ _ t. absurd (omega arith))
 
   pub told-wrong : byte p 0 ≡ 0xF7 → Told (judgeIn p c (length cal) (length meas))
-  unfolding judgeIn judge judgeBy judgeThe commandOf replyIn
+  unfolding judgeBy judgeThe commandOf replyIn
   told-wrong code =
-      subst (λ (x : Command). Told (judgeBy x (numbersOf p) (seenIn (u16At p 2) c) (length cal) (length meas))) (sym (ap commandOf code))
+      by-code Told p c 0xF7 command.Unlock refl code (length cal) (length meas)
       (cond-ind Told (ltb (length p) 2) (λ _ _ t. absurd (omega arith)) (λ _. by-seed (c .seed) refl))
 
   counted : (r : Resource) → c .seed ≡ For r → eqb (u32At p 2) (keyOf r (c .generator)) ≡ false → Leads WRONG-KEY p c cal meas WrongKey

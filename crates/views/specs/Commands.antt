@@ -6,7 +6,6 @@ use mathlib.Core.Logic.{_≢_}
 use mathlib.Core.Bool.{Bool, true, false}
 use mathlib.Core.List.{List, [], _∷_}
 use lib.ListN.{length}
-use Rattle.state.specs.Layout.{lists, odtCount, entryCount, firstOdt}
 use Rattle.state.specs.Generator.{nextOf, keyOf}
 use Rattle.words.specs.declared.Resource.{Resource}
 use Rattle.words.specs.declared.Resource.the-variants.{Calibration, Lists}
@@ -15,7 +14,7 @@ use Rattle.words.specs.declared.Extension.the-variants.{Calibration as Calibrat
 use Rattle.words.specs.declared.Seed.the-variants.{None, For}
 use Rattle.words.specs.declared.Mta.the-variants.{Unset, At}
 use Rattle.words.specs.declared.Pointer.the-variants.{Unset as NoEntry, At as Points}
-use Rattle.model.specs.Model.{byte, Bytes, DaqList, Session, runsIn}
+use Rattle.model.specs.Model.{byte, Bytes, noEntry, noOdt, DaqList, noList, Session, firstOf, odtsTaken, entriesTaken, runsIn}
 use Rattle.model.specs.Answers.{Done}
 
 -- ---- the packet's numbers: two bytes from i, and four, lowest byte first
@@ -60,6 +59,9 @@ pub data Part : Type 0 where
   TheSeed : Part
   TheMta : Part
   ThePointer : Part
+  Whether-freed : Part
+  HowManyLists : Part
+  TheRound : Part
   TheLists : Part
 
 -- a part of d is as it is in c
@@ -71,6 +73,9 @@ Kept TheLocks c d = (r : Resource) → d .unlocked r ≡ c .unlocked r
 Kept TheSeed c d = d .seed ≡ c .seed
 Kept TheMta c d = d .mta ≡ c .mta
 Kept ThePointer c d = d .pointer ≡ c .pointer
+Kept Whether-freed c d = d .freed ≡ c .freed
+Kept HowManyLists c d = d .lists ≡ c .lists
+Kept TheRound c d = d .round ≡ c .round
 Kept TheLists c d = (l : ℕ) → d .list l ≡ c .list l
 
 -- every part but one; every part but two
@@ -87,11 +92,9 @@ pub record Fresh (c d : Session) : Type 0 where
   pub noSeed : d .seed ≡ None
   pub noMta : d .mta ≡ Unset
   pub noPointer : d .pointer ≡ NoEntry
-  pub modes : (l : ℕ) → d .list l .mode ≡ 0
-  pub deselected : (l : ℕ) → d .list l .selected ≡ false
-  pub stopped : (l : ℕ) → d .list l .started ≡ false
-  pub noEntries : (l o e : ℕ) → d .list l .odt o .entry e ≡ record { size = 0; extension = CalibrationMemory; address = 0 }
-  pub noSamples : (l o : ℕ) → d .list l .odt o .store ≡ []
+  pub unfreed : d .freed ≡ false
+  pub noLists : d .lists ≡ 0
+  pub nothing : (l : ℕ) → d .list l ≡ noList
 
 -- nothing changes but that the answer waits
 pub record Tells (c : Session) (cal : List ℕ) (o : Done) (answer′ : List ℕ) : Type 0 where
@@ -118,8 +121,8 @@ pub record DISCONNECT (p : List ℕ) (c : Session) (cal meas : List ℕ) (o : Do
 -- ---- FD GET_STATUS: 40 if a list runs
 pub record GET-STATUS (p : List ℕ) (c : Session) (cal meas : List ℕ) (o : Done) : Type 0 where
   pub tells : Tells c cal o (0xFF ∷ byte (o .answer) 1 ∷ maskFor (c .unlocked Calibration) (c .unlocked Lists) ∷ 0x00 ∷ 0x00 ∷ 0x00 ∷ [])
-  pub running : (l : ℕ) → l < lists → runsIn c l ≡ true → byte (o .answer) 1 ≡ 0x40
-  pub none : ((l : ℕ) → l < lists → runsIn c l ≡ false) → byte (o .answer) 1 ≡ 0x00
+  pub running : (l : ℕ) → l < c .lists → runsIn c l ≡ true → byte (o .answer) 1 ≡ 0x40
+  pub none : ((l : ℕ) → l < c .lists → runsIn c l ≡ false) → byte (o .answer) 1 ≡ 0x00
 
 -- ---- FC SYNCH
 abbrev pub SYNCH : List ℕ → Session → List ℕ → List ℕ → Done → Type 0
@@ -234,10 +237,13 @@ pub record SHORT-DOWNLOAD (p : List ℕ) (c : Session) (cal meas : List ℕ) (o 
 
 -- ---- E3 CLEAR_DAQ_LIST
 pub record CLEAR-DAQ-LIST (p : List ℕ) (c : Session) (cal meas : List ℕ) (o : Done) : Type 0 where
+  pub there : two p 2 < c .lists
   pub entries : (k e : ℕ) → o .session .list (two p 2) .odt k .entry e ≡ record { size = 0; extension = CalibrationMemory; address = 0 }
   pub mode : o .session .list (two p 2) .mode ≡ 0
   pub selected : o .session .list (two p 2) .selected ≡ false
   pub stopped : o .session .list (two p 2) .started ≡ false
+  pub odts : o .session .list (two p 2) .odts ≡ c .list (two p 2) .odts
+  pub counts : (k : ℕ) → o .session .list (two p 2) .odt k .entries ≡ c .list (two p 2) .odt k .entries
   pub others : (l : ℕ) → l ≢ two p 2 → o .session .list l ≡ c .list l
   pub rest : AllBut TheLists c (o .session)
   pub memory : o .memory ≡ cal
@@ -245,8 +251,10 @@ pub record CLEAR-DAQ-LIST (p : List ℕ) (c : Session) (cal meas : List ℕ) (o 
 
 -- ---- E2 SET_DAQ_PTR
 pub record SET-DAQ-PTR (p : List ℕ) (c : Session) (cal meas : List ℕ) (o : Done) : Type 0 where
-  pub inList : byte p 4 < odtCount (two p 2)
-  pub pointer : o .session .pointer ≡ Points (firstOdt (two p 2) + byte p 4) (byte p 5)
+  pub there : two p 2 < c .lists
+  pub inList : byte p 4 < c .list (two p 2) .odts
+  pub inOdt : byte p 5 < c .list (two p 2) .odt (byte p 4) .entries
+  pub pointer : o .session .pointer ≡ Points (two p 2) (byte p 4) (byte p 5)
   pub rest : AllBut ThePointer c (o .session)
   pub memory : o .memory ≡ cal
   pub answer : o .answer ≡ 0xFF ∷ []
@@ -256,8 +264,7 @@ pub record WRITE-DAQ (p : List ℕ) (c : Session) (cal meas : List ℕ) (o : Don
   pub list : ℕ
   pub odt : ℕ
   pub entry : ℕ
-  pub inList : odt < odtCount list
-  pub pointed : c .pointer ≡ Points (firstOdt list + odt) entry
+  pub pointed : c .pointer ≡ Points list odt entry
   pub extension : Extension
   pub named : byte p 3 ≡ extensionNumber extension
   pub here : byte p 2 ≢ 0 → o .session .list list .odt odt .entry entry ≡ record { size = byte p 2; extension = extension; address = four p 4 }
@@ -267,18 +274,22 @@ pub record WRITE-DAQ (p : List ℕ) (c : Session) (cal meas : List ℕ) (o : Don
   pub selected : (l : ℕ) → o .session .list l .selected ≡ c .list l .selected
   pub stopped : o .session .list list .started ≡ false
   pub started : (l : ℕ) → l ≢ list → o .session .list l .started ≡ c .list l .started
+  pub odts : (l : ℕ) → o .session .list l .odts ≡ c .list l .odts
+  pub counts : (l k : ℕ) → o .session .list l .odt k .entries ≡ c .list l .odt k .entries
   pub samples : (l k : ℕ) → o .session .list l .odt k .store ≡ c .list l .odt k .store
-  pub next : entry + 1 ≢ entryCount (firstOdt list + odt) → o .session .pointer ≡ Points (firstOdt list + odt) (entry + 1)
-  pub last : entry + 1 ≡ entryCount (firstOdt list + odt) → o .session .pointer ≡ NoEntry
+  pub next : entry + 1 ≢ c .list list .odt odt .entries → o .session .pointer ≡ Points list odt (entry + 1)
+  pub last : entry + 1 ≡ c .list list .odt odt .entries → o .session .pointer ≡ NoEntry
   pub rest : AllButBoth ThePointer TheLists c (o .session)
   pub memory : o .memory ≡ cal
   pub answer : o .answer ≡ 0xFF ∷ []
 
 -- ---- E0 SET_DAQ_LIST_MODE: a mode is one more than its event
 pub record SET-DAQ-LIST-MODE (p : List ℕ) (c : Session) (cal meas : List ℕ) (o : Done) : Type 0 where
+  pub there : two p 2 < c .lists
   pub mode : o .session .list (two p 2) .mode ≡ two p 4 + 1
   pub selected : o .session .list (two p 2) .selected ≡ c .list (two p 2) .selected
   pub stopped : o .session .list (two p 2) .started ≡ false
+  pub has : o .session .list (two p 2) .odts ≡ c .list (two p 2) .odts
   pub odts : (k : ℕ) → o .session .list (two p 2) .odt k ≡ c .list (two p 2) .odt k
   pub others : (l : ℕ) → l ≢ two p 2 → o .session .list l ≡ c .list l
   pub rest : AllBut TheLists c (o .session)
@@ -290,6 +301,8 @@ pub record SET-DAQ-LIST-MODE (p : List ℕ) (c : Session) (cal meas : List ℕ) 
 pub record Switched (on : Bool) (x y : DaqList) : Type 0 where
   pub mode : y .mode ≡ x .mode
   pub started : y .started ≡ on
+  pub has : y .odts ≡ x .odts
+  pub counts : (k : ℕ) → y .odt k .entries ≡ x .odt k .entries
   pub entries : (k e : ℕ) → y .odt k .entry e ≡ x .odt k .entry e
   pub dropped : (k : ℕ) → y .odt k .store ≡ []
 
@@ -297,10 +310,13 @@ pub record Switched (on : Bool) (x y : DaqList) : Type 0 where
 pub record Unswitched (x y : DaqList) : Type 0 where
   pub mode : y .mode ≡ x .mode
   pub started : y .started ≡ x .started
+  pub has : y .odts ≡ x .odts
   pub odts : (k : ℕ) → y .odt k ≡ x .odt k
 
--- mode 0 stops, 1 starts unless it runs, 2 selects; in an open session a list that is started runs; the answer has the number of the list's first ODT
+-- mode 0 stops, 1 starts unless it runs, 2 selects; in an open session a list that is started runs; the answer has the number of its first ODT: that
+-- of the ODTs of the lists before it
 pub record START-STOP-DAQ-LIST (p : List ℕ) (c : Session) (cal meas : List ℕ) (o : Done) : Type 0 where
+  pub there : two p 2 < c .lists
   pub stops : byte p 1 ≡ 0 → Switched false (c .list (two p 2)) (o .session .list (two p 2))
   pub starts : byte p 1 ≡ 1 → runsIn c (two p 2) ≡ false → Switched true (c .list (two p 2)) (o .session .list (two p 2))
   pub keeps : byte p 1 ≡ 1 → runsIn c (two p 2) ≡ true → o .session ≡ c
@@ -312,7 +328,7 @@ pub record START-STOP-DAQ-LIST (p : List ℕ) (c : Session) (cal meas : List ℕ
   pub others : (l : ℕ) → l ≢ two p 2 → o .session .list l ≡ c .list l
   pub rest : AllBut TheLists c (o .session)
   pub memory : o .memory ≡ cal
-  pub answer : o .answer ≡ 0xFF ∷ firstOdt (two p 2) ∷ []
+  pub answer : o .answer ≡ 0xFF ∷ firstOf c (two p 2) ∷ []
 
 -- mode 0 stops all, 1 starts the selected that do not run, 2 stops the selected; then none is selected. In an open session every list that was selected
 -- runs once they are started
@@ -322,7 +338,7 @@ pub record START-STOP-SYNCH (p : List ℕ) (c : Session) (cal meas : List ℕ) (
   pub keeps : byte p 1 ≡ 1 → (l : ℕ) → c .list l .selected ≡ true → runsIn c l ≡ true → Unswitched (c .list l) (o .session .list l)
   pub stops : byte p 1 ≡ 2 → (l : ℕ) → c .list l .selected ≡ true → Switched false (c .list l) (o .session .list l)
   pub others : byte p 1 ≢ 0 → (l : ℕ) → c .list l .selected ≡ false → Unswitched (c .list l) (o .session .list l)
-  pub running : c .opened ≡ true → byte p 1 ≡ 1 → (l : ℕ) → l < lists → c .list l .selected ≡ true → runsIn (o .session) l ≡ true
+  pub running : c .opened ≡ true → byte p 1 ≡ 1 → (l : ℕ) → l < c .lists → c .list l .selected ≡ true → runsIn (o .session) l ≡ true
   pub restingAll : byte p 1 ≡ 0 → (l : ℕ) → runsIn (o .session) l ≡ false
   pub resting : byte p 1 ≡ 2 → (l : ℕ) → c .list l .selected ≡ true → runsIn (o .session) l ≡ false
   pub deselected : (l : ℕ) → o .session .list l .selected ≡ false
@@ -332,10 +348,76 @@ pub record START-STOP-SYNCH (p : List ℕ) (c : Session) (cal meas : List ℕ) (
 
 -- ---- DA, D9
 abbrev pub GET-DAQ-PROCESSOR-INFO : List ℕ → Session → List ℕ → List ℕ → Done → Type 0
-GET-DAQ-PROCESSOR-INFO p c cal meas o = Tells c cal o (0xFF ∷ 0x10 ∷ 0x04 ∷ 0x00 ∷ 0x02 ∷ 0x00 ∷ 0x00 ∷ 0x00 ∷ [])
+GET-DAQ-PROCESSOR-INFO p c cal meas o = Tells c cal o (0xFF ∷ 0x11 ∷ c .lists ∷ 0x00 ∷ 0x02 ∷ 0x00 ∷ 0x00 ∷ 0x00 ∷ [])
 
 abbrev pub GET-DAQ-RESOLUTION-INFO : List ℕ → Session → List ℕ → List ℕ → Done → Type 0
 GET-DAQ-RESOLUTION-INFO p c cal meas o = Tells c cal o (0xFF ∷ 0x01 ∷ 0x04 ∷ 0x00 ∷ 0x00 ∷ 0x6A ∷ 0x01 ∷ 0x00 ∷ [])
+
+-- ---- D6 FREE_DAQ: no lists, the pointer unset, the round begins at list 0
+pub record FREE-DAQ (p : List ℕ) (c : Session) (cal meas : List ℕ) (o : Done) : Type 0 where
+  pub freed : o .session .freed ≡ true
+  pub none : o .session .lists ≡ 0
+  pub nothing : (l : ℕ) → o .session .list l ≡ noList
+  pub pointer : o .session .pointer ≡ NoEntry
+  pub round : o .session .round ≡ 0
+  pub generator : o .session .generator ≡ c .generator
+  pub wrongKeys : o .session .wrongKeys ≡ c .wrongKeys
+  pub opened : o .session .opened ≡ c .opened
+  pub locks : (r : Resource) → o .session .unlocked r ≡ c .unlocked r
+  pub seed : o .session .seed ≡ c .seed
+  pub mta : o .session .mta ≡ c .mta
+  pub memory : o .memory ≡ cal
+  pub answer : o .answer ≡ 0xFF ∷ []
+
+-- ---- D5 ALLOC_DAQ: after FREE_DAQ, and once; so many lists, of which nothing is set and which have no ODTs
+pub record ALLOC-DAQ (p : List ℕ) (c : Session) (cal meas : List ℕ) (o : Done) : Type 0 where
+  pub freed : c .freed ≡ true
+  pub none : c .lists ≡ 0
+  pub some : 1 ≤ two p 2
+  pub most : two p 2 ≤ 8
+  pub count : o .session .lists ≡ two p 2
+  pub nothing : (l : ℕ) → o .session .list l ≡ noList
+  pub rest : AllButBoth HowManyLists TheLists c (o .session)
+  pub memory : o .memory ≡ cal
+  pub answer : o .answer ≡ 0xFF ∷ []
+
+-- ---- D4 ALLOC_ODT: once for a list, and before any entries; so many ODTs, and none of any list has entries or a packet
+pub record ALLOC-ODT (p : List ℕ) (c : Session) (cal meas : List ℕ) (o : Done) : Type 0 where
+  pub there : two p 2 < c .lists
+  pub none : c .list (two p 2) .odts ≡ 0
+  pub noEntries : entriesTaken c ≡ 0
+  pub some : 1 ≤ byte p 4
+  pub most : odtsTaken c + byte p 4 ≤ 16
+  pub count : o .session .list (two p 2) .odts ≡ byte p 4
+  pub others : (l : ℕ) → l ≢ two p 2 → o .session .list l .odts ≡ c .list l .odts
+  pub nothing : (l k : ℕ) → o .session .list l .odt k ≡ noOdt
+  pub modes : (l : ℕ) → o .session .list l .mode ≡ c .list l .mode
+  pub selected : (l : ℕ) → o .session .list l .selected ≡ c .list l .selected
+  pub started : (l : ℕ) → o .session .list l .started ≡ c .list l .started
+  pub rest : AllBut TheLists c (o .session)
+  pub memory : o .memory ≡ cal
+  pub answer : o .answer ≡ 0xFF ∷ []
+
+-- ---- D3 ALLOC_ODT_ENTRY: once for an ODT, of a list that does not run; so many entries, each of size 0
+pub record ALLOC-ODT-ENTRY (p : List ℕ) (c : Session) (cal meas : List ℕ) (o : Done) : Type 0 where
+  pub there : two p 2 < c .lists
+  pub inList : byte p 4 < c .list (two p 2) .odts
+  pub none : c .list (two p 2) .odt (byte p 4) .entries ≡ 0
+  pub still : runsIn c (two p 2) ≡ false
+  pub some : 1 ≤ byte p 5
+  pub most : entriesTaken c + byte p 5 ≤ 128
+  pub count : o .session .list (two p 2) .odt (byte p 4) .entries ≡ byte p 5
+  pub empty : (e : ℕ) → o .session .list (two p 2) .odt (byte p 4) .entry e ≡ noEntry
+  pub sample : o .session .list (two p 2) .odt (byte p 4) .store ≡ c .list (two p 2) .odt (byte p 4) .store
+  pub otherOdts : (k : ℕ) → k ≢ byte p 4 → o .session .list (two p 2) .odt k ≡ c .list (two p 2) .odt k
+  pub mode : o .session .list (two p 2) .mode ≡ c .list (two p 2) .mode
+  pub selected : o .session .list (two p 2) .selected ≡ c .list (two p 2) .selected
+  pub started : o .session .list (two p 2) .started ≡ c .list (two p 2) .started
+  pub odts : o .session .list (two p 2) .odts ≡ c .list (two p 2) .odts
+  pub others : (l : ℕ) → l ≢ two p 2 → o .session .list l ≡ c .list l
+  pub rest : AllBut TheLists c (o .session)
+  pub memory : o .memory ≡ cal
+  pub answer : o .answer ≡ 0xFF ∷ []
 
 -- ---- all of them: of a way to do commands, in which R p c cal meas o says that packet p, in session c and with these memories, leads to o
 abbrev pub Way : Type 1
@@ -368,3 +450,7 @@ pub record Obeys (R : Way) : Type 0 where
   pub startStopSynch : Law R 0xDD START-STOP-SYNCH
   pub getDaqProcessorInfo : Law R 0xDA GET-DAQ-PROCESSOR-INFO
   pub getDaqResolutionInfo : Law R 0xD9 GET-DAQ-RESOLUTION-INFO
+  pub freeDaq : Law R 0xD6 FREE-DAQ
+  pub allocDaq : Law R 0xD5 ALLOC-DAQ
+  pub allocOdt : Law R 0xD4 ALLOC-ODT
+  pub allocOdtEntry : Law R 0xD3 ALLOC-ODT-ENTRY

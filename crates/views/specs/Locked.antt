@@ -8,12 +8,16 @@ use Rattle.model.specs.Model.{byte, Session}
 use Rattle.model.specs.Answers.{Done}
 use Rattle.views.specs.Commands.{Fresh}
 
--- in d the pointer, and of every list mode, selection, running flag and entries, are as in c; samples come and go
+-- in d the pointer, the lists that there are, and of every list mode, selection, running flag, ODTs and entries, are as in c; samples come and go
 pub record SettingsKept (c d : Session) : Type 0 where
   pub pointer : d .pointer ≡ c .pointer
+  pub freed : d .freed ≡ c .freed
+  pub lists : d .lists ≡ c .lists
   pub modes : (l : ℕ) → d .list l .mode ≡ c .list l .mode
   pub selected : (l : ℕ) → d .list l .selected ≡ c .list l .selected
   pub started : (l : ℕ) → d .list l .started ≡ c .list l .started
+  pub odts : (l : ℕ) → d .list l .odts ≡ c .list l .odts
+  pub counts : (l o : ℕ) → d .list l .odt o .entries ≡ c .list l .odt o .entries
   pub entries : (l o e : ℕ) → d .list l .odt o .entry e ≡ c .list l .odt o .entry e
 
 -- CONNECT or DISCONNECT that is answered FF, or UNLOCK that is answered FE 25, a wrong key

@@ -8,8 +8,8 @@ use Rattle.line.specs.declared.Place.the-variants.{Outside}
 use Rattle.model.specs.Model.{Slave}
 use Rattle.views.specs.Commands.{Fresh}
 
--- no session is open; the generator has its start, of which 0 becomes the default; no key was wrong; the CTR is 0, list 3 counts as last served, the
--- last frame as no answer; no answer waits, and the reader waits for SYNC
+-- no session is open; the generator has its start, of which 0 becomes the default; no key was wrong; the CTR is 0, the last frame
+-- counts as no answer; no answer waits, and the reader waits for SYNC
 pub record PowerUpLeaves (start : ℕ) (v : Slave) : Type 0 where
   pub closed : v .session .opened ≡ false
   pub fresh : Fresh (v .session) (v .session)
@@ -17,7 +17,6 @@ pub record PowerUpLeaves (start : ℕ) (v : Slave) : Type 0 where
   pub default : start ≡ 0 → v .session .generator ≡ 0x2545F491
   pub wrongKeys : v .session .wrongKeys ≡ 0
   pub ctr : v .ctr ≡ 0
-  pub served : v .served ≡ 3
   pub lastAnswer : v .lastAnswer ≡ false
   pub answer : v .answer ≡ []
   pub place : v .place ≡ Outside

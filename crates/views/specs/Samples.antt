@@ -4,7 +4,6 @@ use Prim.Native.Nat.{ℕ, zero, suc, _+_, _%_, _/_, _≤_, _<_}
 use mathlib.Core.Path.{_≡_}
 use mathlib.Core.List.{List}
 use lib.ListN.{length}
-use Rattle.state.specs.Layout.{firstOdt, odtCount, entryCount}
 use Rattle.model.specs.Model.{byte, Odt, DaqList}
 use Rattle.views.specs.Commands.{memoryOf}
 
@@ -24,15 +23,15 @@ pub record ReadAs (mem : List ℕ) (a b : ℕ) : Type 0 where
   pub behind : length mem ≤ a → b ≡ 0
   pub beyond : 4096 ≤ a → b ≡ 0
 
--- ODT o of list l, which is y, captured in bytes bs: the clock, lowest byte first, before those of the first ODT; then entry by entry, and in each
+-- ODT o of a list, which is y, captured in bytes bs: the clock, lowest byte first, before those of the first ODT; then entry by entry, and in each
 -- from its address on
-pub record Captured (l o clock : ℕ) (cal meas : List ℕ) (y : Odt) (bs : List ℕ) : Type 0 where
-  pub long : length bs ≡ leadSize o + sizesBefore y (entryCount (firstOdt l + o))
+pub record Captured (o clock : ℕ) (cal meas : List ℕ) (y : Odt) (bs : List ℕ) : Type 0 where
+  pub long : length bs ≡ leadSize o + sizesBefore y (y .entries)
   pub low : o ≡ 0 → byte bs 0 ≡ clock % 256
   pub high : o ≡ 0 → byte bs 1 ≡ clock / 256 % 256
-  pub bytes : (e j : ℕ) → e < entryCount (firstOdt l + o) → j < y .entry e .size
+  pub bytes : (e j : ℕ) → e < y .entries → j < y .entry e .size
       → ReadAs (memoryOf (y .entry e .extension) cal meas) (y .entry e .address + j) (byte bs (leadSize o + sizesBefore y e + j))
 
--- list l, which is x, sampled: z then has in store what was captured of each ODT, whose entries are x's
-abbrev pub Samples : ℕ → ℕ → List ℕ → List ℕ → DaqList → DaqList → Type 0
-Samples l clock cal meas x z = (o : ℕ) → o < odtCount l → Captured l o clock cal meas (x .odt o) (z .odt o .store)
+-- a list, which is x, sampled: z then has in store what was captured of each ODT, whose entries are x's
+abbrev pub Samples : ℕ → List ℕ → List ℕ → DaqList → DaqList → Type 0
+Samples clock cal meas x z = (o : ℕ) → o < x .odts → Captured o clock cal meas (x .odt o) (z .odt o .store)

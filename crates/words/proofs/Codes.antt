@@ -1,4 +1,4 @@
--- Every code but the twenty known ones is unknown. Assumes nothing.
+-- Every code but the twenty-four known ones is unknown. Assumes nothing.
 use mathlib.Core.Path.{_≡_}
 use mathlib.Core.List.{List, [], _∷_}
 use Prim.Native.Nat.{ℕ}
@@ -13,7 +13,7 @@ NoneOf (k ∷ ks) n = NoneOf ks n × (n ≡ k → ⊥)
 
 abbrev pub known : List ℕ
 known =
-    0xD9 ∷ 0xDA ∷ 0xDD ∷ 0xDE ∷ 0xE0 ∷ 0xE1 ∷ 0xE2 ∷ 0xE3 ∷ 0xED ∷ 0xF0 ∷ 0xF3 ∷ 0xF4 ∷ 0xF5 ∷ 0xF6 ∷ 0xF7 ∷ 0xF8 ∷ 0xFC ∷ 0xFD ∷ 0xFE ∷ 0xFF ∷ []
+    0xD3 ∷ 0xD4 ∷ 0xD5 ∷ 0xD6 ∷ 0xD9 ∷ 0xDA ∷ 0xDD ∷ 0xDE ∷ 0xE0 ∷ 0xE1 ∷ 0xE2 ∷ 0xE3 ∷ 0xED ∷ 0xF0 ∷ 0xF3 ∷ 0xF4 ∷ 0xF5 ∷ 0xF6 ∷ 0xF7 ∷ 0xF8 ∷ 0xFC ∷ 0xFD ∷ 0xFE ∷ 0xFF ∷ []
 
 pub every-other : (code : ℕ) → NoneOf known code → commandOf code ≡ Unknown
 unfolding commandOf
@@ -38,12 +38,16 @@ every-other code h = simp (
   ne-eqb _ _ (h .0 .0 .0 .0 .0 .0 .0 .0 .0 .0 .0 .0 .0 .0 .0 .0 .0 .1),
   ne-eqb _ _ (h .0 .0 .0 .0 .0 .0 .0 .0 .0 .0 .0 .0 .0 .0 .0 .0 .0 .0 .1),
   ne-eqb _ _ (h .0 .0 .0 .0 .0 .0 .0 .0 .0 .0 .0 .0 .0 .0 .0 .0 .0 .0 .0 .1),
+  ne-eqb _ _ (h .0 .0 .0 .0 .0 .0 .0 .0 .0 .0 .0 .0 .0 .0 .0 .0 .0 .0 .0 .0 .1),
+  ne-eqb _ _ (h .0 .0 .0 .0 .0 .0 .0 .0 .0 .0 .0 .0 .0 .0 .0 .0 .0 .0 .0 .0 .0 .1),
+  ne-eqb _ _ (h .0 .0 .0 .0 .0 .0 .0 .0 .0 .0 .0 .0 .0 .0 .0 .0 .0 .0 .0 .0 .0 .0 .1),
+  ne-eqb _ _ (h .0 .0 .0 .0 .0 .0 .0 .0 .0 .0 .0 .0 .0 .0 .0 .0 .0 .0 .0 .0 .0 .0 .0 .1),
 )
 
 -- the codes that the dispatch names one by one, its last one first: 0xDF too, which is unknown as every other
 abbrev named : List ℕ
 named =
-    0xD9 ∷ 0xDA ∷ 0xDD ∷ 0xDE ∷ 0xDF ∷ 0xE0 ∷ 0xE1 ∷ 0xE2 ∷ 0xE3 ∷ 0xED ∷ 0xF0 ∷ 0xF3 ∷ 0xF4 ∷ 0xF5 ∷ 0xF6 ∷ 0xF7 ∷ 0xF8 ∷ 0xFC ∷ 0xFD ∷ 0xFE ∷ 0xFF ∷ []
+    0xD3 ∷ 0xD4 ∷ 0xD5 ∷ 0xD6 ∷ 0xD9 ∷ 0xDA ∷ 0xDD ∷ 0xDE ∷ 0xDF ∷ 0xE0 ∷ 0xE1 ∷ 0xE2 ∷ 0xE3 ∷ 0xED ∷ 0xF0 ∷ 0xF3 ∷ 0xF4 ∷ 0xF5 ∷ 0xF6 ∷ 0xF7 ∷ 0xF8 ∷ 0xFC ∷ 0xFD ∷ 0xFE ∷ 0xFF ∷ []
 
 pub unknown : (code : ℕ) → NoneOf named code → commandOf code ≡ Unknown
-unknown code h = every-other code ((((h .0 .0 .0 .0 .0, h .0 .0 .0 .1), h .0 .0 .1), h .0 .1), h .1)
+unknown code h = every-other code ((((((((h .0 .0 .0 .0 .0 .0 .0 .0 .0, h .0 .0 .0 .0 .0 .0 .0 .1), h .0 .0 .0 .0 .0 .0 .1), h .0 .0 .0 .0 .0 .1), h .0 .0 .0 .0 .1), h .0 .0 .0 .1), h .0 .0 .1), h .0 .1), h .1)

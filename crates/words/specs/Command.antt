@@ -3,12 +3,12 @@ use Prim.Native.Nat.{ℕ}
 use mathlib.Core.Bool.{cond}
 use lib.Dec.{eqb}
 use Rattle.words.specs.declared.Command.{Command}
-use Rattle.words.specs.declared.Command.the-variants.{Unknown, Connect, Disconnect, GetStatus, Synch, GetSeed, Unlock, SetMta, Upload, ShortUpload, BuildChecksum, Download, ShortDownload, ClearDaqList, SetDaqPtr, WriteDaq, SetDaqListMode, StartStopDaqList, StartStopSynch, GetDaqProcessorInfo, GetDaqResolutionInfo}
+use Rattle.words.specs.declared.Command.the-variants.{Unknown, Connect, Disconnect, GetStatus, Synch, GetSeed, Unlock, SetMta, Upload, ShortUpload, BuildChecksum, Download, ShortDownload, ClearDaqList, SetDaqPtr, WriteDaq, SetDaqListMode, StartStopDaqList, StartStopSynch, GetDaqProcessorInfo, GetDaqResolutionInfo, FreeDaq, AllocDaq, AllocOdt, AllocOdtEntry}
 use Rattle.words.specs.declared.Needs.{Needs}
 use Rattle.words.specs.declared.Needs.the-variants.{Nothing, Unlocked}
 use Rattle.words.specs.declared.Resource.the-variants.{Calibration, Lists}
 use Rattle.words.specs.declared.Reason.{Reason}
-use Rattle.words.specs.declared.Reason.the-variants.{Unknown as UnknownCode, TooShort, Locked, Sequence, OutOfRange, DataMissing, ListRuns, ReadOnly, NotInside, CannotStart, WrongKey}
+use Rattle.words.specs.declared.Reason.the-variants.{Unknown as UnknownCode, TooShort, Locked, Sequence, OutOfRange, DataMissing, ListRuns, ReadOnly, NotInside, CannotStart, PoolFull, WrongKey}
 
 -- every other code is unknown
 unfoldable pub commandOf : ℕ → Command
@@ -33,7 +33,11 @@ commandOf code =
     (cond (eqb code 0xDD) StartStopSynch
     (cond (eqb code 0xDA) GetDaqProcessorInfo
     (cond (eqb code 0xD9) GetDaqResolutionInfo
-    Unknown)))))))))))))))))))
+    (cond (eqb code 0xD6) FreeDaq
+    (cond (eqb code 0xD5) AllocDaq
+    (cond (eqb code 0xD4) AllocOdt
+    (cond (eqb code 0xD3) AllocOdtEntry
+    Unknown)))))))))))))))))))))))
 
 -- an unknown command is never too short
 abbrev pub fewest : Command → ℕ
@@ -58,8 +62,12 @@ fewest StartStopDaqList = 4
 fewest StartStopSynch = 2
 fewest GetDaqProcessorInfo = 1
 fewest GetDaqResolutionInfo = 1
+fewest FreeDaq = 1
+fewest AllocDaq = 4
+fewest AllocOdt = 5
+fewest AllocOdtEntry = 6
 
--- F0 and ED need calibration, E3 to D9 need lists
+-- F0 and ED need calibration, E3 to D3 need lists
 abbrev pub needsOf : Command → Needs
 needsOf Unknown = Nothing
 needsOf Connect = Nothing
@@ -82,6 +90,10 @@ needsOf StartStopDaqList = Unlocked Lists
 needsOf StartStopSynch = Unlocked Lists
 needsOf GetDaqProcessorInfo = Unlocked Lists
 needsOf GetDaqResolutionInfo = Unlocked Lists
+needsOf FreeDaq = Unlocked Lists
+needsOf AllocDaq = Unlocked Lists
+needsOf AllocOdt = Unlocked Lists
+needsOf AllocOdtEntry = Unlocked Lists
 
 -- the code of each reason; 0x21 and 0x25 have two each
 abbrev pub codeOf : Reason → ℕ
@@ -95,4 +107,5 @@ codeOf ListRuns = 0x11
 codeOf ReadOnly = 0x23
 codeOf NotInside = 0x24
 codeOf CannotStart = 0x2A
+codeOf PoolFull = 0x30
 codeOf WrongKey = 0x25

@@ -36,6 +36,11 @@ pub fn command(code: u8) -> Command
         0xDB..=0xDC => Command::Unknown,
         0xDA => Command::GetDaqProcessorInfo,
         0xD9 => Command::GetDaqResolutionInfo,
+        0xD7..=0xD8 => Command::Unknown,
+        0xD6 => Command::FreeDaq,
+        0xD5 => Command::AllocDaq,
+        0xD4 => Command::AllocOdt,
+        0xD3 => Command::AllocOdtEntry,
         _ => Command::Unknown,
     }
 }
@@ -66,6 +71,10 @@ pub fn fewest(command: Command) -> u8
         Command::StartStopSynch => 2,
         Command::GetDaqProcessorInfo => 1,
         Command::GetDaqResolutionInfo => 1,
+        Command::FreeDaq => 1,
+        Command::AllocDaq => 4,
+        Command::AllocOdt => 5,
+        Command::AllocOdtEntry => 6,
     }
 }
 
@@ -95,5 +104,9 @@ pub fn needs(command: Command) -> Needs
         Command::StartStopSynch => Needs::Unlocked(Resource::Lists),
         Command::GetDaqProcessorInfo => Needs::Unlocked(Resource::Lists),
         Command::GetDaqResolutionInfo => Needs::Unlocked(Resource::Lists),
+        Command::FreeDaq => Needs::Unlocked(Resource::Lists),
+        Command::AllocDaq => Needs::Unlocked(Resource::Lists),
+        Command::AllocOdt => Needs::Unlocked(Resource::Lists),
+        Command::AllocOdtEntry => Needs::Unlocked(Resource::Lists),
     }
 }

@@ -22,10 +22,10 @@ pub enum Mta {
     At(Extension, u32),
 }
 
-// The entry that WRITE_DAQ writes next, by its ODT's absolute number.
+// The entry that WRITE_DAQ writes next.
 pub enum Pointer {
     Unset,
-    At { odt: u8, entry: u8 },
+    At { list: u8, odt: u8, entry: u8 },
 }
 
 // The resource of the seed that is out; its value is the generator's state.
@@ -56,6 +56,10 @@ pub enum Command {
     StartStopSynch,
     GetDaqProcessorInfo,
     GetDaqResolutionInfo,
+    FreeDaq,
+    AllocDaq,
+    AllocOdt,
+    AllocOdtEntry,
 }
 
 // The lock that must be open for a command.
@@ -76,6 +80,7 @@ pub enum Reason {
     ReadOnly,
     NotInside,
     CannotStart,
+    PoolFull,
     WrongKey,
 }
 

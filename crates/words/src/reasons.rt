@@ -17,6 +17,7 @@ pub fn code(reason: Reason) -> u8
         Reason::ReadOnly => 0x23,
         Reason::NotInside => 0x24,
         Reason::CannotStart => 0x2A,
+        Reason::PoolFull => 0x30,
         Reason::WrongKey => 0x25,
     }
 }

@@ -226,6 +226,45 @@ enum-told-20 c = search needs
 enum-told-21 : tie.Need-enum-told-21
 enum-told-21 c = search needs
 
+enum-told-22 : tie.Need-enum-told-22
+enum-told-22 c = search needs
+
+enum-told-23 : tie.Need-enum-told-23
+enum-told-23 c = search needs
+
+get16-requires-6 : tie.Need-get16-requires-6
+get16-requires-6 c κs = search needs
+
+alloc-lists-requires : tie.Need-alloc-lists-requires
+alloc-lists-requires c κs = search needs
+
+enum-told-24 : tie.Need-enum-told-24
+enum-told-24 c = search needs
+
+get16-requires-7 : tie.Need-get16-requires-7
+get16-requires-7 c κs = search needs
+
+get-requires-22 : tie.Need-get-requires-22
+get-requires-22 c κs = search needs
+
+alloc-odts-requires : tie.Need-alloc-odts-requires
+alloc-odts-requires c κs = search needs
+
+enum-told-25 : tie.Need-enum-told-25
+enum-told-25 c = search needs
+
+get16-requires-8 : tie.Need-get16-requires-8
+get16-requires-8 c κs = search needs
+
+get-requires-23 : tie.Need-get-requires-23
+get-requires-23 c κs = search needs
+
+get-requires-24 : tie.Need-get-requires-24
+get-requires-24 c κs = search needs
+
+alloc-entries-requires : tie.Need-alloc-entries-requires
+alloc-entries-requires c κs = search needs
+
 returns : tie.Need-returns
 unfolding judgeThe
 returns c = rw (c .enum-told .given .1)
@@ -310,6 +349,22 @@ returns-21 : tie.Need-returns-21
 unfolding judgeThe
 returns-21 c = rw (c .enum-told21 .given .1)
 
+returns-22 : tie.Need-returns-22
+unfolding judgeThe
+returns-22 c = rw (c .enum-told22 .given .1)
+
+returns-23 : tie.Need-returns-23
+unfolding judgeThe
+returns-23 c = rw (c .before .before .enum-told23 .given .1) (c .alloc-lists .ensures ∙ rw (c .before .get166 .ensures))
+
+returns-24 : tie.Need-returns-24
+unfolding judgeThe
+returns-24 c = rw (c .before .before .before .enum-told24 .given .1) (c .alloc-odts .ensures ∙ rw (c .before .before .get167 .ensures, c .before .get23 .ensures))
+
+returns-25 : tie.Need-returns-25
+unfolding judgeThe
+returns-25 c = rw (c .before .before .before .before .enum-told25 .given .1) (c .alloc-entries .ensures ∙ rw (c .before .before .before .get168 .ensures, c .before .before .get24 .ensures, c .before .get25 .ensures))
+
 pub judge-the-spec : {M : Type 1} → statement M
 judge-the-spec =
     tie.close
@@ -388,6 +443,19 @@ judge-the-spec =
     start-stop-synch-requires
     enum-told-20
     enum-told-21
+    enum-told-22
+    enum-told-23
+    get16-requires-6
+    alloc-lists-requires
+    enum-told-24
+    get16-requires-7
+    get-requires-22
+    alloc-odts-requires
+    enum-told-25
+    get16-requires-8
+    get-requires-23
+    get-requires-24
+    alloc-entries-requires
     returns
     returns-2
     returns-3
@@ -408,4 +476,8 @@ judge-the-spec =
     returns-18
     returns-19
     returns-20
-    returns-21)
+    returns-21
+    returns-22
+    returns-23
+    returns-24
+    returns-25)

@@ -1,4 +1,4 @@
-use borrow.Author.Tests.{eq-eqb, ne-eqb, le-ltb, lt-ltb, le-leb, lt-leb}
+use borrow.Author.Tests.{eq-eqb, le-leb, lt-leb, ne-eqb}
 use Rattle.model.specs.Judge.{modeDeed}
 use borrow.Author.Needs.{needs}
 use Rattle.judge.proofs.checks.set_mode.Statement.{statement}
@@ -28,11 +28,11 @@ returns-6 : tie.Need-returns-6
 unfolding modeDeed
 returns-6 c = simp (eq-eqb _ _ (c .before .before .before .before .before .if1 .left), lt-leb _ _ (c .before .before .before .before .if2 .left), lt-leb _ _ (c .before .before .before .if3 .left), eq-eqb _ _ (c .before .before .if4 .left), eq-eqb _ _ (c .before .if5 .left), c .if6 .taken)
 
-cast-t14 : tie.Need-cast-t14
-cast-t14 c = search needs
+cast-t16 : tie.Need-cast-t16
+cast-t16 c = search needs
 
-cast-t15 : tie.Need-cast-t15
-cast-t15 c = search needs
+cast-t17 : tie.Need-cast-t17
+cast-t17 c = search needs
 
 returns-7 : tie.Need-returns-7
 unfolding modeDeed
@@ -48,6 +48,6 @@ set-mode-spec =
     returns-4
     returns-5
     returns-6
-    cast-t14
-    cast-t15
+    cast-t16
+    cast-t17
     returns-7)

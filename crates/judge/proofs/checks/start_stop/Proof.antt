@@ -1,4 +1,4 @@
-use borrow.Author.Tests.{eq-eqb, ne-eqb, le-ltb, lt-ltb, le-leb, lt-leb}
+use borrow.Author.Tests.{eq-eqb, le-leb, le-ltb, lt-leb, lt-ltb, ne-eqb}
 use Rattle.model.specs.Judge.{startStopDeed}
 use borrow.Author.Needs.{needs}
 use Rattle.judge.proofs.checks.start_stop.Statement.{statement}
@@ -12,8 +12,8 @@ returns-2 : tie.Need-returns-2
 unfolding startStopDeed
 returns-2 c = simp (le-ltb _ _ (c .before .if1 .left), le-leb _ _ (c .if2 .taken))
 
-cast-t8 : tie.Need-cast-t8
-cast-t8 c = search needs
+cast-t10 : tie.Need-cast-t10
+cast-t10 c = search needs
 
 returns-3 : tie.Need-returns-3
 unfolding startStopDeed
@@ -29,8 +29,8 @@ returns-4 : tie.Need-returns-4
 unfolding startStopDeed
 returns-4 c = simp (le-ltb _ _ (c .before .before .before .before .if1 .left), lt-leb _ _ (c .before .before .before .if2 .left), ne-eqb _ _ (c .before .before .if3 .left), eq-eqb _ _ (c .before .if4 .taken)) (c .start .ensures)
 
-cast-t10 : tie.Need-cast-t10
-cast-t10 c = search needs
+cast-t12 : tie.Need-cast-t12
+cast-t12 c = search needs
 
 returns-5 : tie.Need-returns-5
 unfolding startStopDeed
@@ -42,10 +42,10 @@ start-stop-spec =
     (tie.spec
     returns
     returns-2
-    cast-t8
+    cast-t10
     returns-3
     cast-start
     start-requires
     returns-4
-    cast-t10
+    cast-t12
     returns-5)

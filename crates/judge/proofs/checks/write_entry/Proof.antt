@@ -1,4 +1,4 @@
-use borrow.Author.Tests.{eq-eqb, ne-eqb, le-ltb, lt-ltb, le-leb, lt-leb}
+use borrow.Author.Tests.{eq-eqb, le-ltb, lt-ltb, ne-eqb}
 use Rattle.model.specs.Judge.{writeDeed}
 use borrow.Author.Needs.{needs}
 use Rattle.judge.proofs.checks.write_entry.Statement.{statement}

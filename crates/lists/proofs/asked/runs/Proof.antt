@@ -1,3 +1,4 @@
+use Rattle.state.proofs.Allocated.{lists-most}
 use mathlib.Core.Path.{sym, _∙_}
 use native.Mathlib.Omega.{arith}
 use Rattle.lists.proofs.Named.{list-there, nothing-named}
@@ -11,7 +12,7 @@ is-list-requires : tie.Need-is-list-requires
 is-list-requires c κs = search needs
 
 cast-runs : tie.Need-cast-runs
-cast-runs c = omega (arith, list-there (c .before .before .before .args .s .now) (c .before .before .before .args .l) (sym (c .before .is-list .ensures) ∙ c .if1 .taken) .1)
+cast-runs c = omega (arith, lists-most (c .before .before .before .args .s .now), list-there (c .before .before .before .args .s .now) (c .before .before .before .args .l) (sym (c .before .is-list .ensures) ∙ c .if1 .taken) .1)
 
 runs-requires : tie.Need-runs-requires
 runs-requires c κs = list-there (c .before .before .before .args .s .now) (c .before .before .before .args .l) (sym (c .before .is-list .ensures) ∙ c .if1 .taken)

@@ -1,26 +1,33 @@
-use mathlib.Core.Path.{_≡_, refl, _∙_}
 use Prim.Native.Nat.{_-_, _≤_}
+use mathlib.Core.Path.{_≡_, refl, _∙_}
 use native.Mathlib.Numerals.{add-one}
 use native.Mathlib.Omega.{arith}
 use lib.ListN.{length}
-use Rattle.state.specs.Layout.{lists}
+use Rattle.state.specs.Pool.{listCount}
 use Rattle.lists.specs.Lists.{startSelected}
+use Rattle.lists.proofs.Steady.{start-lists}
 use borrow.Author.Needs.{needs}
 use Rattle.lists.proofs.changes.start_each.Statement.{statement}
 use Rattle.lists.proofs.changes.start_each.Tie as tie
+use Rattle.lists.proofs.changes.select.Reads as select-reads
+use Rattle.lists.proofs.changes.start_one.Reads as start-one-reads
+use Rattle.state.proofs.pool.list_count.Reads as list-count-reads
 
 abbrev Inv-loop : tie.InvT-loop
-Inv-loop s₀ l₀ s l = (l ≤ lists) × (s ≡ startSelected s₀ l) × (length s ≡ length s₀)
+Inv-loop s₀ n l₀ s l = (l ≤ n) × (s ≡ startSelected s₀ l) × (length s ≡ length s₀)
 
 abbrev μ-loop : tie.MeasureT-loop
-μ-loop s₀ l₀ s l = lists - l
+μ-loop s₀ n l₀ s l = n - l
+
+list-count-requires : tie.Need-list-count-requires Inv-loop μ-loop
+list-count-requires c κs = search needs
 
 loop-holds : tie.Need-loop-holds Inv-loop μ-loop
 unfolding startSelected
 loop-holds c = (omega arith, refl, refl)
 
 start-one-requires : tie.Need-start-one-requires Inv-loop μ-loop
-start-one-requires c κs = search needs
+start-one-requires c κs = (c .before .before .loop .inv .2 ∙ c .before .before .before .before .before .before .pre, rw (c .before .before .loop .inv .1, start-lists (c .before .before .before .before .before .before .args .s .now) (c .before .before .loop .l)) (omega (arith, c .before .before .before .list-count .ensures .0)))
 
 select-requires : tie.Need-select-requires Inv-loop μ-loop
 select-requires c κs = search needs
@@ -39,7 +46,7 @@ same-length : tie.Need-same-length Inv-loop μ-loop
 same-length c = c .before .loop .inv .2
 
 returns : tie.Need-returns Inv-loop μ-loop
-returns c = let e : c .before .loop .l ≡ lists = omega arith in rw e at (c .before .loop .inv .1)
+returns c = let e : c .before .loop .l ≡ listCount (c .before .before .before .before .before .args .s .now) = omega (arith, c .before .before .list-count .ensures .0) in rw e at (c .before .loop .inv .1)
 
 pub start-each-spec : {M : Type 1} → statement M
 start-each-spec =
@@ -47,6 +54,7 @@ start-each-spec =
     (tie.spec
     Inv-loop
     μ-loop
+    list-count-requires
     loop-holds
     start-one-requires
     select-requires

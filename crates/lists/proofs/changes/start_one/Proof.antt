@@ -1,3 +1,5 @@
+use Rattle.state.proofs.Allocated.{lists-most}
+use native.Mathlib.Omega.{arith}
 use mathlib.Core.Path.{sym, _∙_}
 use borrow.Author.Tests.{not-true, not-false}
 use borrow.Author.Needs.{needs}
@@ -5,7 +7,7 @@ use Rattle.lists.proofs.changes.start_one.Statement.{statement}
 use Rattle.lists.proofs.changes.start_one.Tie as tie
 
 selected-requires : tie.Need-selected-requires
-selected-requires c κs = search needs
+selected-requires c κs = (c .before .before .pre .0, omega (arith, c .before .before .pre .1, lists-most (c .before .before .args .s .now)))
 
 runs-requires : tie.Need-runs-requires
 runs-requires c κs = search needs

@@ -1,56 +1,60 @@
-use mathlib.Core.Path.{_≡_, refl, _∙_}
-use Prim.Native.Nat.{_+_, _-_, _≤_}
-use native.Mathlib.Numerals.{add-one}
+use Prim.Native.Nat.{ℕ, suc, _+_, _-_, _≤_}
+use mathlib.Core.Path.{_≡_, refl, sym, ap, _∙_}
 use native.Mathlib.Omega.{arith}
+use native.Mathlib.Numerals.{add-one}
+use native.Mathlib.Nat.{add-zero}
 use lib.ListN.{length}
-use Rattle.state.specs.Layout.{odts, firstOdt}
+use Rattle.state.specs.Layout.{allEntries}
+use Rattle.state.specs.Pool.{firstEntry, entryCount, firstOdt, odtCount}
+use Rattle.model.specs.View.{sessionOf}
+use Rattle.state.proofs.Allocated.{entry-next}
 use Rattle.lists.specs.Event.{capturedOdts}
-use Rattle.lists.proofs.Fitting.{fit-each}
-use Rattle.lists.proofs.Entries.{bytes-alike, contents-alike}
+use Rattle.lists.proofs.Fitting.{fits-each, fit-each}
+use Rattle.lists.proofs.Entries.{start-alike, counts-alike, bytes-alike, contents-alike}
 use Rattle.lists.proofs.Gathered.{captured-alike}
-use Prim.Native.Nat.{_<_}
-use Rattle.state.specs.Layout.{allOdts}
 use borrow.Author.Needs.{needs}
 use Rattle.lists.proofs.events.capture.Statement.{statement}
 use Rattle.lists.proofs.events.capture.Tie as tie
+use Rattle.lists.proofs.events.capture_odt.Reads as capture-odt-reads
+use Rattle.lists.proofs.list.entries_in.Reads as entries-in-reads
 
 abbrev Inv-loop : tie.InvT-loop
-Inv-loop s₀ cal meas l clock k j₀ s j = (j ≤ odts) × (s ≡ capturedOdts s₀ (firstOdt l) clock cal meas j) × (length s ≡ length s₀)
+Inv-loop s₀ cal meas l span clock first₀ o₀ s first o = (o ≤ span .odts) × (first ≡ firstEntry s₀ (span .odt + o)) × (first ≤ allEntries) × (s ≡ capturedOdts s₀ (span .odt) clock cal meas o) × (length s ≡ length s₀)
 
 abbrev μ-loop : tie.MeasureT-loop
-μ-loop s₀ cal meas l clock k j₀ s j = odts - j
-
-first-odt-requires : tie.Need-first-odt-requires Inv-loop μ-loop
-first-odt-requires c κs = search needs
+μ-loop s₀ cal meas l span clock first₀ o₀ s first o = span .odts - o
 
 loop-holds : tie.Need-loop-holds Inv-loop μ-loop
 unfolding capturedOdts
-loop-holds c = (omega arith, refl, refl)
+loop-holds c = (omega arith, rw add-zero (c .before .before .before .pre .3 .entered), c .before .before .before .pre .3 .few, refl, refl)
 
-cast-capture-odt : tie.Need-cast-capture-odt Inv-loop μ-loop
-cast-capture-odt c = search needs
+add-entries-in : tie.Need-add-entries-in Inv-loop μ-loop
+add-entries-in c = omega (arith, c .before .before .before .before .before .before .before .before .pre .3 .inside)
 
-add-capture-odt : tie.Need-add-capture-odt Inv-loop μ-loop
-add-capture-odt c = search needs
+entries-in-requires : tie.Need-entries-in-requires Inv-loop μ-loop
+entries-in-requires c κs = (c .before .before .before .before .loop .inv .4 ∙ c .before .before .before .before .before .before .before .before .pre .0, omega (arith, c .before .before .before .before .before .before .before .before .pre .3 .inside), c .before .before .before .before .loop .inv .1 ∙ sym (rw (c .before .before .before .before .loop .inv .3) (start-alike (capturedOdts (c .before .before .before .before .before .before .before .before .args .s .now) (c .before .before .before .before .before .before .before .before .args .span .odt) (c .before .before .before .before .before .before .before .before .args .clock) (c .before .before .before .before .before .before .before .before .args .cal .now) (c .before .before .before .before .before .before .before .before .args .meas .now) (c .before .before .before .before .loop .o)) (c .before .before .before .before .before .before .before .before .args .s .now) (captured-alike (c .before .before .before .before .before .before .before .before .args .s .now) (c .before .before .before .before .before .before .before .before .args .span .odt) (c .before .before .before .before .before .before .before .before .args .clock) (c .before .before .before .before .before .before .before .before .args .cal .now) (c .before .before .before .before .before .before .before .before .args .meas .now) (c .before .before .before .before .loop .o)) (c .before .before .before .before .before .before .before .before .args .span .odt + c .before .before .before .before .loop .o) (omega (arith, c .before .before .before .before .before .before .before .before .pre .3 .inside)))), c .before .before .before .before .loop .inv .2)
 
 capture-odt-requires : tie.Need-capture-odt-requires Inv-loop μ-loop
-capture-odt-requires c κs = let odt : firstOdt (c .before .before .before .before .before .before .before .args .l) + c .before .before .loop .j < allOdts = omega arith in (c .before .before .loop .inv .2 ∙ c .before .before .before .before .before .before .before .pre .0, omega (arith, c .before .before .before .first-odt .ensures), rw (c .before .before .before .first-odt .ensures, c .before .before .loop .inv .1, bytes-alike (capturedOdts (c .before .before .before .before .before .before .before .args .s .now) (firstOdt (c .before .before .before .before .before .before .before .args .l)) (c .before .before .before .before .before .before .before .args .clock) (c .before .before .before .before .before .before .before .args .cal .now) (c .before .before .before .before .before .before .before .args .meas .now) (c .before .before .loop .j)) (c .before .before .before .before .before .before .before .args .s .now) (captured-alike (c .before .before .before .before .before .before .before .args .s .now) (firstOdt (c .before .before .before .before .before .before .before .args .l)) (c .before .before .before .before .before .before .before .args .clock) (c .before .before .before .before .before .before .before .args .cal .now) (c .before .before .before .before .before .before .before .args .meas .now) (c .before .before .loop .j)) (firstOdt (c .before .before .before .before .before .before .before .args .l) + c .before .before .loop .j) odt) (fit-each (c .before .before .before .before .before .before .before .args .s .now) (c .before .before .before .before .before .before .before .args .l) (c .before .before .loop .j) (c .before .before .before .before .before .before .before .pre .1) (c .before .before .before .before .before .before .before .pre .2) (omega arith)))
+capture-odt-requires c κs = let m : c .before .entries-in .result ≡ entryCount (c .before .before .before .before .before .before .before .before .before .before .args .s .now) (c .before .before .before .before .before .before .before .before .before .before .args .span .odt + c .before .before .before .before .before .before .loop .o) = c .before .entries-in .ensures .0 ∙ rw (c .before .before .before .before .before .before .loop .inv .3) (counts-alike (capturedOdts (c .before .before .before .before .before .before .before .before .before .before .args .s .now) (c .before .before .before .before .before .before .before .before .before .before .args .span .odt) (c .before .before .before .before .before .before .before .before .before .before .args .clock) (c .before .before .before .before .before .before .before .before .before .before .args .cal .now) (c .before .before .before .before .before .before .before .before .before .before .args .meas .now) (c .before .before .before .before .before .before .loop .o)) (c .before .before .before .before .before .before .before .before .before .before .args .s .now) (captured-alike (c .before .before .before .before .before .before .before .before .before .before .args .s .now) (c .before .before .before .before .before .before .before .before .before .before .args .span .odt) (c .before .before .before .before .before .before .before .before .before .before .args .clock) (c .before .before .before .before .before .before .before .before .before .before .args .cal .now) (c .before .before .before .before .before .before .before .before .before .before .args .meas .now) (c .before .before .before .before .before .before .loop .o)) (c .before .before .before .before .before .before .before .before .before .before .args .span .odt + c .before .before .before .before .before .before .loop .o) (omega (arith, c .before .before .before .before .before .before .before .before .before .before .pre .3 .inside))) in (c .before .before .before .before .before .before .loop .inv .4 ∙ c .before .before .before .before .before .before .before .before .before .before .pre .0, omega (arith, c .before .before .before .before .before .before .before .before .before .before .pre .3 .inside), c .before .before .before .before .before .before .loop .inv .1 ∙ sym (rw (c .before .before .before .before .before .before .loop .inv .3) (start-alike (capturedOdts (c .before .before .before .before .before .before .before .before .before .before .args .s .now) (c .before .before .before .before .before .before .before .before .before .before .args .span .odt) (c .before .before .before .before .before .before .before .before .before .before .args .clock) (c .before .before .before .before .before .before .before .before .before .before .args .cal .now) (c .before .before .before .before .before .before .before .before .before .before .args .meas .now) (c .before .before .before .before .before .before .loop .o)) (c .before .before .before .before .before .before .before .before .before .before .args .s .now) (captured-alike (c .before .before .before .before .before .before .before .before .before .before .args .s .now) (c .before .before .before .before .before .before .before .before .before .before .args .span .odt) (c .before .before .before .before .before .before .before .before .before .before .args .clock) (c .before .before .before .before .before .before .before .before .before .before .args .cal .now) (c .before .before .before .before .before .before .before .before .before .before .args .meas .now) (c .before .before .before .before .before .before .loop .o)) (c .before .before .before .before .before .before .before .before .before .before .args .span .odt + c .before .before .before .before .before .before .loop .o) (omega (arith, c .before .before .before .before .before .before .before .before .before .before .pre .3 .inside)))), c .before .entries-in .ensures .0, c .before .entries-in .ensures .1, rw (c .before .before .before .before .before .before .loop .inv .3, bytes-alike (capturedOdts (c .before .before .before .before .before .before .before .before .before .before .args .s .now) (c .before .before .before .before .before .before .before .before .before .before .args .span .odt) (c .before .before .before .before .before .before .before .before .before .before .args .clock) (c .before .before .before .before .before .before .before .before .before .before .args .cal .now) (c .before .before .before .before .before .before .before .before .before .before .args .meas .now) (c .before .before .before .before .before .before .loop .o)) (c .before .before .before .before .before .before .before .before .before .before .args .s .now) (captured-alike (c .before .before .before .before .before .before .before .before .before .before .args .s .now) (c .before .before .before .before .before .before .before .before .before .before .args .span .odt) (c .before .before .before .before .before .before .before .before .before .before .args .clock) (c .before .before .before .before .before .before .before .before .before .before .args .cal .now) (c .before .before .before .before .before .before .before .before .before .before .args .meas .now) (c .before .before .before .before .before .before .loop .o)) (c .before .before .before .before .before .before .before .before .before .before .args .span .odt + c .before .before .before .before .before .before .loop .o) (omega (arith, c .before .before .before .before .before .before .before .before .before .before .pre .3 .inside)), c .before .before .before .before .before .before .before .before .before .before .pre .3 .first) (fit-each (c .before .before .before .before .before .before .before .before .before .before .args .s .now) (c .before .before .before .before .before .before .before .before .before .before .args .l) (c .before .before .before .before .before .before .loop .o) (c .before .before .before .before .before .before .before .before .before .before .pre .1) (fits-each (sessionOf (c .before .before .before .before .before .before .before .before .before .before .args .s .now) .list (c .before .before .before .before .before .before .before .before .before .before .args .l)) (c .before .before .before .before .before .before .before .before .before .before .pre .2)) (omega (arith, c .before .before .before .before .before .before .before .before .before .before .pre .3 .count))))
 
-add-j : tie.Need-add-j Inv-loop μ-loop
-add-j c = search needs
+add-first : tie.Need-add-first Inv-loop μ-loop
+add-first c = omega (arith, c .before .before .before .before .entries-in .ensures .1)
+
+add-o : tie.Need-add-o Inv-loop μ-loop
+add-o c = search needs
 
 loop-less : tie.Need-loop-less Inv-loop μ-loop
 loop-less c = search needs
 
 loop-again : tie.Need-loop-again Inv-loop μ-loop
 unfolding capturedOdts
-loop-again c = let odt : firstOdt (c .before .before .before .before .before .before .before .before .before .before .args .l) + c .before .before .before .before .before .loop .j < allOdts = omega arith in (omega arith, c .before .before .capture-odt .ensures ∙ rw (c .before .before .before .before .before .before .first-odt .ensures, add-one (c .before .before .before .before .before .loop .j), c .before .before .before .before .before .loop .inv .1, contents-alike (capturedOdts (c .before .before .before .before .before .before .before .before .before .before .args .s .now) (firstOdt (c .before .before .before .before .before .before .before .before .before .before .args .l)) (c .before .before .before .before .before .before .before .before .before .before .args .clock) (c .before .before .before .before .before .before .before .before .before .before .args .cal .now) (c .before .before .before .before .before .before .before .before .before .before .args .meas .now) (c .before .before .before .before .before .loop .j)) (c .before .before .before .before .before .before .before .before .before .before .args .s .now) (captured-alike (c .before .before .before .before .before .before .before .before .before .before .args .s .now) (firstOdt (c .before .before .before .before .before .before .before .before .before .before .args .l)) (c .before .before .before .before .before .before .before .before .before .before .args .clock) (c .before .before .before .before .before .before .before .before .before .before .args .cal .now) (c .before .before .before .before .before .before .before .before .before .before .args .meas .now) (c .before .before .before .before .before .loop .j)) (firstOdt (c .before .before .before .before .before .before .before .before .before .before .args .l) + c .before .before .before .before .before .loop .j) odt (c .before .before .before .before .before .before .before .before .before .before .args .clock) (c .before .before .before .before .before .before .before .before .before .before .args .cal .now) (c .before .before .before .before .before .before .before .before .before .before .args .meas .now)), c .before .before .capture-odt .kept .0 ∙ c .before .before .before .before .before .loop .inv .2)
+loop-again c = let m : c .before .before .before .before .entries-in .result ≡ entryCount (c .before .before .before .before .before .before .before .before .before .before .before .before .before .args .s .now) (c .before .before .before .before .before .before .before .before .before .before .before .before .before .args .span .odt + c .before .before .before .before .before .before .before .before .before .loop .o) = c .before .before .before .before .entries-in .ensures .0 ∙ rw (c .before .before .before .before .before .before .before .before .before .loop .inv .3) (counts-alike (capturedOdts (c .before .before .before .before .before .before .before .before .before .before .before .before .before .args .s .now) (c .before .before .before .before .before .before .before .before .before .before .before .before .before .args .span .odt) (c .before .before .before .before .before .before .before .before .before .before .before .before .before .args .clock) (c .before .before .before .before .before .before .before .before .before .before .before .before .before .args .cal .now) (c .before .before .before .before .before .before .before .before .before .before .before .before .before .args .meas .now) (c .before .before .before .before .before .before .before .before .before .loop .o)) (c .before .before .before .before .before .before .before .before .before .before .before .before .before .args .s .now) (captured-alike (c .before .before .before .before .before .before .before .before .before .before .before .before .before .args .s .now) (c .before .before .before .before .before .before .before .before .before .before .before .before .before .args .span .odt) (c .before .before .before .before .before .before .before .before .before .before .before .before .before .args .clock) (c .before .before .before .before .before .before .before .before .before .before .before .before .before .args .cal .now) (c .before .before .before .before .before .before .before .before .before .before .before .before .before .args .meas .now) (c .before .before .before .before .before .before .before .before .before .loop .o)) (c .before .before .before .before .before .before .before .before .before .before .before .before .before .args .span .odt + c .before .before .before .before .before .before .before .before .before .loop .o) (omega (arith, c .before .before .before .before .before .before .before .before .before .before .before .before .before .pre .3 .inside))) in let i : c .before .before .before .before .before .before .before .before .before .before .before .before .before .args .span .odt + (c .before .before .before .before .before .before .before .before .before .loop .o + 1) ≡ suc (c .before .before .before .before .before .before .before .before .before .before .before .before .before .args .span .odt + c .before .before .before .before .before .before .before .before .before .loop .o) = omega arith in (omega arith, rw i (omega (arith, m, c .before .before .before .before .before .before .before .before .before .loop .inv .1, entry-next (c .before .before .before .before .before .before .before .before .before .before .before .before .before .args .s .now) (c .before .before .before .before .before .before .before .before .before .before .before .before .before .args .span .odt + c .before .before .before .before .before .before .before .before .before .loop .o))), omega (arith, c .before .before .before .before .entries-in .ensures .1), c .before .before .capture-odt .ensures ∙ rw (add-one (c .before .before .before .before .before .before .before .before .before .loop .o), c .before .before .before .before .before .before .before .before .before .loop .inv .3, contents-alike (capturedOdts (c .before .before .before .before .before .before .before .before .before .before .before .before .before .args .s .now) (c .before .before .before .before .before .before .before .before .before .before .before .before .before .args .span .odt) (c .before .before .before .before .before .before .before .before .before .before .before .before .before .args .clock) (c .before .before .before .before .before .before .before .before .before .before .before .before .before .args .cal .now) (c .before .before .before .before .before .before .before .before .before .before .before .before .before .args .meas .now) (c .before .before .before .before .before .before .before .before .before .loop .o)) (c .before .before .before .before .before .before .before .before .before .before .before .before .before .args .s .now) (captured-alike (c .before .before .before .before .before .before .before .before .before .before .before .before .before .args .s .now) (c .before .before .before .before .before .before .before .before .before .before .before .before .before .args .span .odt) (c .before .before .before .before .before .before .before .before .before .before .before .before .before .args .clock) (c .before .before .before .before .before .before .before .before .before .before .before .before .before .args .cal .now) (c .before .before .before .before .before .before .before .before .before .before .before .before .before .args .meas .now) (c .before .before .before .before .before .before .before .before .before .loop .o)) (c .before .before .before .before .before .before .before .before .before .before .before .before .before .args .span .odt) (c .before .before .before .before .before .before .before .before .before .loop .o) (c .before .before .before .before .before .before .before .before .before .before .before .before .before .args .clock) (c .before .before .before .before .before .before .before .before .before .before .before .before .before .args .cal .now) (c .before .before .before .before .before .before .before .before .before .before .before .before .before .args .meas .now) (omega (arith, c .before .before .before .before .before .before .before .before .before .before .before .before .before .pre .3 .inside))), c .before .before .capture-odt .kept .0 ∙ c .before .before .before .before .before .before .before .before .before .loop .inv .4)
 
 same-length : tie.Need-same-length Inv-loop μ-loop
-same-length c = c .before .loop .inv .2
+same-length c = c .before .before .loop .inv .4
 
 returns : tie.Need-returns Inv-loop μ-loop
-returns c = let e : c .before .loop .j ≡ odts = omega arith in rw e at (c .before .loop .inv .1)
+returns c = let e : c .before .before .loop .o ≡ odtCount (c .before .before .before .before .before .before .args .s .now) (c .before .before .before .before .before .before .args .l) = omega (arith, c .before .before .before .before .before .before .pre .3 .count, c .before .before .loop .inv .0) in c .before .before .loop .inv .3 ∙ ap (λ (k : ℕ). capturedOdts (c .before .before .before .before .before .before .args .s .now) k (c .before .before .before .before .before .before .args .clock) (c .before .before .before .before .before .before .args .cal .now) (c .before .before .before .before .before .before .args .meas .now) (c .before .before .loop .o)) (c .before .before .before .before .before .before .pre .3 .first) ∙ ap (capturedOdts (c .before .before .before .before .before .before .args .s .now) (firstOdt (c .before .before .before .before .before .before .args .s .now) (c .before .before .before .before .before .before .args .l)) (c .before .before .before .before .before .before .args .clock) (c .before .before .before .before .before .before .args .cal .now) (c .before .before .before .before .before .before .args .meas .now)) e
 
 pub capture-spec : {M : Type 1} → statement M
 capture-spec =
@@ -58,12 +62,12 @@ capture-spec =
     (tie.spec
     Inv-loop
     μ-loop
-    first-odt-requires
     loop-holds
-    cast-capture-odt
-    add-capture-odt
+    add-entries-in
+    entries-in-requires
     capture-odt-requires
-    add-j
+    add-first
+    add-o
     loop-less
     loop-again
     same-length

@@ -1,27 +1,35 @@
-use mathlib.Core.Path.{_≡_, refl, _∙_}
 use Prim.Native.Nat.{_≤_, _-_}
-use native.Mathlib.Numerals.{add-one}
+use mathlib.Core.Path.{_≡_, refl, _∙_}
 use native.Mathlib.Omega.{arith}
+use native.Mathlib.Numerals.{add-one}
 use lib.ListN.{length}
-use Rattle.state.specs.Layout.{lists}
+use Rattle.state.specs.Pool.{listCount}
 use Rattle.lists.specs.Event.{tally, Counts}
-use Rattle.lists.proofs.Tallied.{counts-next}
+use Rattle.lists.proofs.Entries.{lists-alike}
+use Rattle.lists.proofs.Tallied.{counts-next, tally-alike}
 use borrow.Author.Needs.{needs}
 use Rattle.lists.proofs.events.happen.Statement.{statement}
 use Rattle.lists.proofs.events.happen.Tie as tie
+use Rattle.lists.proofs.events.missed_by.Reads as missed-by-reads
+use Rattle.lists.proofs.events.sample.Reads as sample-reads
+use Rattle.lists.proofs.events.sampled_by.Reads as sampled-by-reads
+use Rattle.state.proofs.pool.list_count.Reads as list-count-reads
 
 abbrev Inv-loop : tie.InvT-loop
-Inv-loop s₀ cal meas event clock sampled₀ missed₀ l₀ s sampled missed l = (l ≤ lists) × Counts (tally s₀ event clock cal meas l) s sampled missed × (sampled ≤ l) × (missed ≤ l) × (length s ≡ length s₀)
+Inv-loop s₀ cal meas event clock sampled₀ missed₀ n l₀ s sampled missed l = (l ≤ n) × Counts (tally s₀ event clock cal meas l) s sampled missed × (sampled ≤ l) × (missed ≤ l) × (length s ≡ length s₀)
 
 abbrev μ-loop : tie.MeasureT-loop
-μ-loop s₀ cal meas event clock sampled₀ missed₀ l₀ s sampled missed l = lists - l
+μ-loop s₀ cal meas event clock sampled₀ missed₀ n l₀ s sampled missed l = n - l
+
+list-count-requires : tie.Need-list-count-requires Inv-loop μ-loop
+list-count-requires c κs = search needs
 
 loop-holds : tie.Need-loop-holds Inv-loop μ-loop
 unfolding tally
 loop-holds c = (omega arith, record { state = refl; sampled = refl; missed = refl }, omega arith, omega arith, refl)
 
 sample-requires : tie.Need-sample-requires Inv-loop μ-loop
-sample-requires c κs = search needs
+sample-requires c κs = (c .before .before .loop .inv .4 ∙ c .before .before .before .before .before .before .before .before .pre .0, rw (c .before .before .loop .inv .1 .state, lists-alike _ (c .before .before .before .before .before .before .before .before .args .s .now) (tally-alike (c .before .before .before .before .before .before .before .before .args .s .now) (c .before .before .before .before .before .before .before .before .args .event) (c .before .before .before .before .before .before .before .before .args .clock) (c .before .before .before .before .before .before .before .before .args .cal .now) (c .before .before .before .before .before .before .before .before .args .meas .now) (c .before .before .loop .l))) (omega (arith, c .before .before .before .list-count .ensures .0)), c .before .before .before .before .before .before .before .before .pre .1)
 
 sampled-by-requires : tie.Need-sampled-by-requires Inv-loop μ-loop
 sampled-by-requires c κs = search needs
@@ -42,19 +50,13 @@ loop-less : tie.Need-loop-less Inv-loop μ-loop
 loop-less c = search needs
 
 loop-again : tie.Need-loop-again Inv-loop μ-loop
-loop-again c = (
-  omega arith,
-  rw (add-one, c .before .sampled-by .ensures .0, c .missed-by .ensures .0) (counts-next (c .before .before .before .before .before .before .before .before .before .before .before .args .s .now) (c .before .before .before .before .before .before .before .before .before .before .before .args .event) (c .before .before .before .before .before .before .before .before .before .before .before .args .clock) (c .before .before .before .before .before .before .before .before .before .before .before .args .cal .now) (c .before .before .before .before .before .before .before .before .before .before .before .args .meas .now) (c .before .before .before .before .before .before .before .loop .l) (c .before .before .before .before .before .before .before .loop .inv .1) (c .before .before .before .before .sample .ensures .0) (c .before .before .before .before .sample .ensures .1)),
-  omega arith,
-  omega arith,
-  c .before .before .before .before .sample .kept .0 ∙ c .before .before .before .before .before .before .before .loop .inv .4,
-)
+loop-again c = (omega arith, rw (add-one, c .before .sampled-by .ensures .0, c .missed-by .ensures .0) (counts-next (c .before .before .before .before .before .before .before .before .before .before .before .before .before .args .s .now) (c .before .before .before .before .before .before .before .before .before .before .before .before .before .args .event) (c .before .before .before .before .before .before .before .before .before .before .before .before .before .args .clock) (c .before .before .before .before .before .before .before .before .before .before .before .before .before .args .cal .now) (c .before .before .before .before .before .before .before .before .before .before .before .before .before .args .meas .now) (c .before .before .before .before .before .before .before .loop .l) (c .before .before .before .before .before .before .before .loop .inv .1) (c .before .before .before .before .sample .ensures .0) (c .before .before .before .before .sample .ensures .1)), omega (arith, c .before .sampled-by .ensures .1, c .before .before .before .before .before .before .before .loop .inv .2), omega (arith, c .missed-by .ensures .1, c .before .before .before .before .before .before .before .loop .inv .3), c .before .before .before .before .sample .kept .0 ∙ c .before .before .before .before .before .before .before .loop .inv .4)
 
 same-length : tie.Need-same-length Inv-loop μ-loop
 same-length c = c .before .loop .inv .4
 
 returns : tie.Need-returns Inv-loop μ-loop
-returns c = let e : c .before .loop .l ≡ lists = omega arith in rw e at (c .before .loop .inv .1)
+returns c = let e : c .before .loop .l ≡ listCount (c .before .before .before .before .before .before .before .args .s .now) = omega (arith, c .before .before .list-count .ensures .0) in rw e at (c .before .loop .inv .1)
 
 pub happen-spec : {M : Type 1} → statement M
 happen-spec =
@@ -62,6 +64,7 @@ happen-spec =
     (tie.spec
     Inv-loop
     μ-loop
+    list-count-requires
     loop-holds
     sample-requires
     sampled-by-requires

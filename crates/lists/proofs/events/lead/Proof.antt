@@ -1,10 +1,11 @@
-use Rattle.lists.proofs.Gathered.{pair-sets}
 use mathlib.Core.Path.{refl, sym, _∙_}
 use native.Mathlib.Omega.{arith}
 use lib.ListN.{length-set}
+use Rattle.lists.proofs.Gathered.{pair-sets}
 use borrow.Author.Needs.{needs}
 use Rattle.lists.proofs.events.lead.Statement.{statement}
 use Rattle.lists.proofs.events.lead.Tie as tie
+use Rattle.state.proofs.layout.is_first.Reads as is-first-reads
 
 is-first-requires : tie.Need-is-first-requires
 is-first-requires c κs = search needs
@@ -34,10 +35,10 @@ same-length : tie.Need-same-length
 same-length c = search needs
 
 returns : tie.Need-returns
-returns c = simp (sym (c .before .is-first .ensures) ∙ c .if1 .taken) (pair-sets (c .before .before .before .args .s .now) (c .before .before .before .args .at) _ _, omega arith)
+returns c = rw (sym (c .before .is-first .ensures) ∙ c .if1 .taken) (pair-sets (c .before .before .before .args .s .now) (c .before .before .before .args .at) _ _, omega arith)
 
 returns-2 : tie.Need-returns-2
-returns-2 c = simp (sym (c .before .is-first .ensures) ∙ c .if1 .left) (refl, omega arith)
+returns-2 c = rw (sym (c .before .is-first .ensures) ∙ c .if1 .left) (refl, omega arith)
 
 pub lead-spec : {M : Type 1} → statement M
 lead-spec =

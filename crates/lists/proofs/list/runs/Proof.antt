@@ -1,37 +1,29 @@
-use Rattle.model.proofs.Shown.{runs-at}
+use mathlib.Core.Path.{sym, _∙_}
+use native.Mathlib.Omega.{arith}
+use borrow.Author.Tests.{not-true, not-false}
+use Rattle.state.proofs.Allocated.{lists-most}
+use Rattle.lists.proofs.Fitting.{runs-by}
 use borrow.Author.Needs.{needs}
 use Rattle.lists.proofs.list.runs.Statement.{statement}
 use Rattle.lists.proofs.list.runs.Tie as tie
+use Rattle.lists.proofs.list.fit.Reads as fit-reads
+use Rattle.lists.proofs.list.span.Reads as span-reads
+use Rattle.lists.proofs.list.started.Reads as started-reads
 
-on-requires : tie.Need-on-requires
-on-requires c κs = search needs
-
-running-at-requires : tie.Need-running-at-requires
-running-at-requires c κs = search needs
-
-on-requires-2 : tie.Need-on-requires-2
-on-requires-2 c κs = search needs
-
-fit-requires : tie.Need-fit-requires
-fit-requires c κs = search needs
+started-requires : tie.Need-started-requires
+started-requires c κs = (c .before .pre .0, omega (arith, c .before .pre .1, lists-most (c .before .args .s .now)))
 
 returns : tie.Need-returns
-returns c = rw (runs-at (c .before .before .before .before .before .before .before .args .s .now) (c .before .before .before .before .before .before .before .args .l) (c .before .before .before .before .before .before .before .pre .1)) (simp (c .before .if2 .taken, c .before .before .before .before .if1 .taken, ← (c .fit .ensures), ← (c .before .before .before .running-at .ensures), ← (c .before .before .on2 .ensures), ← (c .before .before .before .before .before .on .ensures)))
+returns c = sym (runs-by (c .before .before .before .args .s .now) (c .before .before .before .args .l) (c .before .before .before .pre .1) (c .before .started .result) (c .before .started .ensures) ∙ rw (not-true (c .before .started .result) (c .if1 .taken)))
+
+span-requires : tie.Need-span-requires
+span-requires c κs = search needs
+
+fit-requires : tie.Need-fit-requires
+fit-requires c κs = (c .before .before .before .before .pre .0, c .before .before .before .before .pre .1, c .span .ensures)
 
 returns-2 : tie.Need-returns-2
-returns-2 c = rw (runs-at (c .before .before .before .before .before .before .args .s .now) (c .before .before .before .before .before .before .args .l) (c .before .before .before .before .before .before .pre .1)) (simp (c .if2 .left, c .before .before .before .if1 .taken, ← (c .before .before .running-at .ensures), ← (c .before .on2 .ensures), ← (c .before .before .before .before .on .ensures)))
-
-returns-3 : tie.Need-returns-3
-returns-3 c = rw (runs-at (c .before .before .before .args .s .now) (c .before .before .before .args .l) (c .before .before .before .pre .1)) (simp (c .if1 .left, ← (c .before .on .ensures)))
+returns-2 c = c .fit .ensures ∙ sym (runs-by (c .before .before .before .before .before .args .s .now) (c .before .before .before .before .before .args .l) (c .before .before .before .before .before .pre .1) (c .before .before .before .started .result) (c .before .before .before .started .ensures) ∙ rw (not-false (c .before .before .before .started .result) (c .before .before .if1 .left)))
 
 pub runs-spec : {M : Type 1} → statement M
-runs-spec =
-    tie.close
-    (tie.spec
-    on-requires
-    running-at-requires
-    on-requires-2
-    fit-requires
-    returns
-    returns-2
-    returns-3)
+runs-spec = tie.close (tie.spec started-requires returns span-requires fit-requires returns-2)

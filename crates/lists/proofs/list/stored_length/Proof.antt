@@ -4,6 +4,7 @@ use Rattle.state.specs.Lists.{storedLength}
 use borrow.Author.Needs.{needs}
 use Rattle.lists.proofs.list.stored_length.Statement.{statement}
 use Rattle.lists.proofs.list.stored_length.Tie as tie
+use Rattle.state.proofs.layout.sample_at.Reads as sample-at-reads
 
 sample-at-requires : tie.Need-sample-at-requires
 sample-at-requires c κs = search needs
@@ -11,21 +12,13 @@ sample-at-requires c κs = search needs
 shared-slice-read-n : tie.Need-shared-slice-read-n
 shared-slice-read-n c = search needs
 
-least-requires : tie.Need-least-requires
-least-requires c κs = search needs
-
 returns : tie.Need-returns
 unfolding storedLength
-returns c = (simp (← (c .before .least .ensures), ← (c .before .before .before .sample-at .ensures), lt-ltb _ _ (c .if1 .taken)), omega arith)
+returns c = (simp (← (c .before .before .sample-at .ensures), lt-ltb _ _ (c .if1 .taken)), omega arith)
 
 returns-2 : tie.Need-returns-2
 unfolding storedLength
-returns-2 c = (simp (← (c .before .before .least .ensures), ← (c .before .before .before .before .sample-at .ensures), le-ltb _ _ (c .before .if1 .left), lt-ltb _ _ (c .if2 .taken)), omega arith)
-
-returns-3 : tie.Need-returns-3
-unfolding storedLength
-returns-3 c = (simp (← (c .before .before .least .ensures), ← (c .before .before .before .before .sample-at .ensures), le-ltb _ _ (c .before .if1 .left), le-ltb _ _ (c .if2 .left)), omega arith)
+returns-2 c = (simp (← (c .before .before .sample-at .ensures), le-ltb _ _ (c .if1 .left)), omega arith)
 
 pub stored-length-spec : {M : Type 1} → statement M
-stored-length-spec =
-    tie.close (tie.spec sample-at-requires shared-slice-read-n least-requires returns returns-2 returns-3)
+stored-length-spec = tie.close (tie.spec sample-at-requires shared-slice-read-n returns returns-2)

@@ -1,69 +1,88 @@
-use mathlib.Core.Path.{_≡_, refl, sym, _∙_}
-use Prim.Native.Nat.{_+_, _≤_}
+use Prim.Native.Nat.{_-_}
+use Prim.Native.Nat.{_+_, _≤_, _<_}
+use mathlib.Core.Path.{_≡_, sym, _∙_}
 use native.Mathlib.Omega.{arith}
-use lib.ListN.{getD}
-use Rattle.state.specs.Layout.{lists, servedAt}
+use native.Mathlib.Nat.{mod-eq-of-lt}
+use Rattle.state.specs.Layout.{allOdts}
+use Rattle.state.specs.Pool.{firstOdt}
 use Rattle.model.specs.Calls.{packetIn, roundFrom, roundIn}
 use Rattle.model.specs.View.{sessionOf}
-use Rattle.lists.proofs.Round.{round-step}
+use Rattle.state.proofs.Allocated.{first-most, round-there}
+use Rattle.lists.proofs.Round.{round-step, round-at, round-after, after-there, after-first}
 use borrow.Author.Needs.{needs}
 use Rattle.lists.proofs.slots.round.Statement.{statement}
 use Rattle.lists.proofs.slots.round.Tie as tie
+use Rattle.lists.proofs.slots.first_after.Reads as first-after-reads
+use Rattle.lists.proofs.slots.list_after.Reads as list-after-reads
+use Rattle.lists.proofs.slots.odts_in.Reads as odts-in-reads
+use Rattle.lists.proofs.slots.packet_in.Reads as packet-in-reads
+use Rattle.state.proofs.pool.list_count.Reads as list-count-reads
+use Rattle.state.proofs.pool.odts.Reads as odts-reads
+use Rattle.state.proofs.pool.round.Reads as round-reads
 
 abbrev Inv-loop : tie.InvT-loop
-Inv-loop s l₀ n₀ l n = (roundFrom lists (packetIn (sessionOf s)) l n ≡ roundIn (sessionOf s) (getD s servedAt 0)) × (n ≤ lists) × (l + n ≤ 256 + lists)
+Inv-loop s count l₀ k₀ left₀ l k left = (roundFrom count (packetIn (sessionOf s)) l left ≡ roundIn (sessionOf s)) × (k ≡ firstOdt s l) × (k ≤ allOdts) × (left ≤ count) × (0 < left → l < count)
 
 abbrev μ-loop : tie.MeasureT-loop
-μ-loop s l₀ n₀ l n = n
+μ-loop s count l₀ k₀ left₀ l k left = left
 
-shared-slice-read-l : tie.Need-shared-slice-read-l Inv-loop μ-loop
-shared-slice-read-l c = search needs
+list-count-requires : tie.Need-list-count-requires Inv-loop μ-loop
+list-count-requires c κs = search needs
 
-cast-l : tie.Need-cast-l Inv-loop μ-loop
-cast-l c = omega (arith, c .shared-slice-known2 .given servedAt)
+round-requires : tie.Need-round-requires Inv-loop μ-loop
+round-requires c κs = search needs
 
-add-l : tie.Need-add-l Inv-loop μ-loop
-add-l c = omega (arith, c .shared-slice-known2 .given servedAt)
+cast-odts : tie.Need-cast-odts Inv-loop μ-loop
+cast-odts c = search needs
+
+odts-requires : tie.Need-odts-requires Inv-loop μ-loop
+odts-requires c κs = search needs
 
 loop-holds : tie.Need-loop-holds Inv-loop μ-loop
-loop-holds c = (refl, omega arith, omega (arith, c .shared-slice-known2 .given servedAt))
+loop-holds c = (rw (c .before .before .list-count .ensures .0, c .before .round .ensures) (sym (round-at (c .before .before .before .before .args .s .now))), c .odts .ensures .0, omega (arith, c .odts .ensures .2), omega arith, λ h. rw (c .before .before .list-count .ensures .0, c .before .round .ensures) (round-there (c .before .before .before .before .args .s .now) (omega (arith, c .before .before .list-count .ensures .0))))
 
-cast-packet-in : tie.Need-cast-packet-in Inv-loop μ-loop
-cast-packet-in c = search needs
+odts-in-requires : tie.Need-odts-in-requires Inv-loop μ-loop
+odts-in-requires c κs = (c .before .before .before .before .before .before .pre, omega (arith, c .before .loop .inv .4 (c .loop-test .taken), c .before .before .before .before .list-count .ensures .1), c .before .loop .inv .1, c .before .loop .inv .2)
 
 packet-in-requires : tie.Need-packet-in-requires Inv-loop μ-loop
-packet-in-requires c κs = search needs
+packet-in-requires c κs = (c .before .before .before .before .before .before .before .pre, rw (← (c .before .before .before .before .before .list-count .ensures .0)) (c .before .before .loop .inv .4 (c .before .loop-test .taken)), c .before .before .loop .inv .1, c .odts-in .ensures .0, c .odts-in .ensures .1)
 
 enum-told : tie.Need-enum-told Inv-loop μ-loop
 enum-told c = search needs
 
-add-l-2 : tie.Need-add-l-2 Inv-loop μ-loop
-add-l-2 c = search needs
+list-after-requires : tie.Need-list-after-requires Inv-loop μ-loop
+list-after-requires c κs = c .before .before .before .before .before .loop .inv .4 (c .before .before .before .before .loop-test .taken)
 
-sub-n : tie.Need-sub-n Inv-loop μ-loop
-sub-n c = search needs
+add-first-after : tie.Need-add-first-after Inv-loop μ-loop
+add-first-after c = omega (arith, c .before .before .before .before .odts-in .ensures .1)
+
+first-after-requires : tie.Need-first-after-requires Inv-loop μ-loop
+first-after-requires c κs = search needs
+
+sub-left : tie.Need-sub-left Inv-loop μ-loop
+sub-left c = search needs
 
 loop-less : tie.Need-loop-less Inv-loop μ-loop
 loop-less c = search needs
 
 loop-again : tie.Need-loop-again Inv-loop μ-loop
-loop-again c = (sym (round-step lists (packetIn (sessionOf (c .before .before .before .before .before .before .before .args .s .now))) (c .before .before .before .before .loop .l) (c .before .before .before .before .loop .n) (c .before .before .before .loop-test .taken) ∙ rw (← (c .before .before .packet-in .ensures), c .enum-told .given .1)) ∙ c .before .before .before .before .loop .inv .0, omega arith, omega arith)
+loop-again c = let one : roundFrom (c .before .before .before .before .before .before .before .before .before .before .list-count .result) (packetIn (sessionOf (c .before .before .before .before .before .before .before .before .before .before .before .before .args .s .now))) (c .before .before .before .before .before .before .before .loop .l) (c .before .before .before .before .before .before .before .loop .left) ≡ roundFrom (c .before .before .before .before .before .before .before .before .before .before .list-count .result) (packetIn (sessionOf (c .before .before .before .before .before .before .before .before .before .before .before .before .args .s .now))) (c .before .before .before .before .before .before .before .loop .l + 1) (c .before .before .before .before .before .before .before .loop .left - 1) = round-step (c .before .before .before .before .before .before .before .before .before .before .list-count .result) (packetIn (sessionOf (c .before .before .before .before .before .before .before .before .before .before .before .before .args .s .now))) (c .before .before .before .before .before .before .before .loop .l) (c .before .before .before .before .before .before .before .loop .left) (c .before .before .before .before .before .before .loop-test .taken) ∙ rw (mod-eq-of-lt (c .before .before .before .before .before .before .before .loop .inv .4 (c .before .before .before .before .before .before .loop-test .taken)), ← (c .before .before .before .before .packet-in .ensures), c .before .before .enum-told .given .1) in let k : c .first-after .result ≡ firstOdt (c .before .before .before .before .before .before .before .before .before .before .before .before .args .s .now) (c .before .list-after .result) = c .first-after .ensures ∙ rw (c .before .before .before .before .before .before .before .loop .inv .1, c .before .before .before .before .before .odts-in .ensures .0, c .before .list-after .ensures) (after-first (c .before .before .before .before .before .before .before .before .before .before .before .before .args .s .now) (c .before .before .before .before .before .before .before .before .before .before .list-count .result) (c .before .before .before .before .before .before .before .loop .l)) in (rw (c .before .list-after .ensures) (sym (round-after (c .before .before .before .before .before .before .before .before .before .before .list-count .result) (packetIn (sessionOf (c .before .before .before .before .before .before .before .before .before .before .before .before .args .s .now))) (c .before .before .before .before .before .before .before .loop .l) (c .before .before .before .before .before .before .before .loop .left - 1) (c .before .before .before .before .before .before .before .loop .inv .4 (c .before .before .before .before .before .before .loop-test .taken)))) ∙ sym one ∙ c .before .before .before .before .before .before .before .loop .inv .0, k, rw k (first-most (c .before .before .before .before .before .before .before .before .before .before .before .before .args .s .now) (c .before .list-after .result)), omega (arith, c .before .before .before .before .before .before .before .loop .inv .3), λ h. rw (c .before .list-after .ensures) (after-there (c .before .before .before .before .before .before .before .before .before .before .list-count .result) (c .before .before .before .before .before .before .before .loop .l) (c .before .before .before .before .before .before .before .loop .inv .4 (c .before .before .before .before .before .before .loop-test .taken))))
 
 enum-told-2 : tie.Need-enum-told-2 Inv-loop μ-loop
 enum-told-2 c = search needs
 
 returns : tie.Need-returns Inv-loop μ-loop
-returns c = sym (sym (c .before .before .before .before .loop .inv .0) ∙ round-step lists (packetIn (sessionOf (c .before .before .before .before .before .before .before .args .s .now))) (c .before .before .before .before .loop .l) (c .before .before .before .before .loop .n) (c .before .before .before .loop-test .taken) ∙ rw (← (c .before .before .packet-in .ensures), c .enum-told2 .given .1))
+returns c = sym (sym (c .before .before .before .before .before .loop .inv .0) ∙ round-step (c .before .before .before .before .before .before .before .before .list-count .result) (packetIn (sessionOf (c .before .before .before .before .before .before .before .before .before .before .args .s .now))) (c .before .before .before .before .before .loop .l) (c .before .before .before .before .before .loop .left) (c .before .before .before .before .loop-test .taken) ∙ rw (mod-eq-of-lt (c .before .before .before .before .before .loop .inv .4 (c .before .before .before .before .loop-test .taken)), ← (c .before .before .packet-in .ensures), c .enum-told2 .given .1))
 
 enum-known-turn : tie.Need-enum-known-turn Inv-loop μ-loop
 enum-known-turn c = search needs
 
 returns-2 : tie.Need-returns-2 Inv-loop μ-loop
-returns-2 c = sym (sym (c .before .before .before .before .before .loop .inv .0) ∙ round-step lists (packetIn (sessionOf (c .before .before .before .before .before .before .before .before .args .s .now))) (c .before .before .before .before .before .loop .l) (c .before .before .before .before .before .loop .n) (c .before .before .before .before .loop-test .taken) ∙ rw (← (c .before .before .before .packet-in .ensures), c .before .turn .given .1))
+returns-2 c = sym (sym (c .before .before .before .before .before .before .loop .inv .0) ∙ round-step (c .before .before .before .before .before .before .before .before .before .list-count .result) (packetIn (sessionOf (c .before .before .before .before .before .before .before .before .before .before .before .args .s .now))) (c .before .before .before .before .before .before .loop .l) (c .before .before .before .before .before .before .loop .left) (c .before .before .before .before .before .loop-test .taken) ∙ rw (mod-eq-of-lt (c .before .before .before .before .before .before .loop .inv .4 (c .before .before .before .before .before .loop-test .taken)), ← (c .before .before .before .packet-in .ensures), c .before .turn .given .1))
 
 returns-3 : tie.Need-returns-3 Inv-loop μ-loop
 unfolding roundFrom
-returns-3 c = let e : c .before .loop .n ≡ 0 = omega arith in rw e at (c .before .loop .inv .0)
+returns-3 c = let e : c .before .loop .left ≡ 0 = omega arith in rw e at (c .before .loop .inv .0)
 
 pub round-spec : {M : Type 1} → statement M
 round-spec =
@@ -71,15 +90,18 @@ round-spec =
     (tie.spec
     Inv-loop
     μ-loop
-    shared-slice-read-l
-    cast-l
-    add-l
+    list-count-requires
+    round-requires
+    cast-odts
+    odts-requires
     loop-holds
-    cast-packet-in
+    odts-in-requires
     packet-in-requires
     enum-told
-    add-l-2
-    sub-n
+    list-after-requires
+    add-first-after
+    first-after-requires
+    sub-left
     loop-less
     loop-again
     enum-told-2

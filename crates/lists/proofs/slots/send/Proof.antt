@@ -1,10 +1,12 @@
 use mathlib.Core.Path.{refl, sym, subst, _∙_}
-use Rattle.model.specs.View.{viewOf}
 use Rattle.lists.specs.Slot.{sentBy}
 use Rattle.lists.proofs.Sending.{Within, turn-within}
 use borrow.Author.Needs.{needs}
 use Rattle.lists.proofs.slots.send.Statement.{statement}
 use Rattle.lists.proofs.slots.send.Tie as tie
+use Rattle.lists.proofs.slots.send_answer.Reads as send-answer-reads
+use Rattle.lists.proofs.slots.send_packet.Reads as send-packet-reads
+use Rattle.lists.proofs.slots.turn.Reads as turn-reads
 
 turn-requires : tie.Need-turn-requires
 turn-requires c κs = search needs
@@ -22,7 +24,7 @@ enum-known-t : tie.Need-enum-known-t
 enum-known-t c = search needs
 
 send-packet-requires : tie.Need-send-packet-requires
-send-packet-requires c κs = (c .before .before .before .before .before .before .before .before .before .pre, subst Within (sym (c .before .before .before .before .before .turn .ensures) ∙ c .before .before .before .t .given .1) (turn-within (viewOf (c .before .before .before .before .before .before .before .before .before .args .s .now))))
+send-packet-requires c κs = let w = subst (Within (c .before .before .before .before .before .before .before .before .before .args .s .now)) (sym (c .before .before .before .before .before .turn .ensures) ∙ c .before .before .before .t .given .1) (turn-within (c .before .before .before .before .before .before .before .before .before .args .s .now)) in (c .before .before .before .before .before .before .before .before .before .pre, w .0, w .1)
 
 same-length : tie.Need-same-length
 same-length c = search needs

@@ -1,3 +1,4 @@
+use mathlib.Core.Path.{_∙_}
 use Rattle.model.specs.Answers.{replyIn}
 use Rattle.model.specs.View.{sessionOf}
 use Rattle.session.specs.Perform.{effect}
@@ -5,15 +6,18 @@ use borrow.Author.Needs.{needs}
 use Rattle.session.proofs.list_answers.keep_running.Statement.{statement}
 use Rattle.session.proofs.list_answers.keep_running.Tie as tie
 
-give-first-odt-requires : tie.Need-give-first-odt-requires
-give-first-odt-requires c κs = search needs
+first-odt-requires : tie.Need-first-odt-requires
+first-odt-requires c κs = search needs
+
+two-requires : tie.Need-two-requires
+two-requires c κs = search needs
 
 same-length : tie.Need-same-length
 same-length c = search needs
 
 returns : tie.Need-returns
 unfolding effect replyIn sessionOf
-returns c = c .before .before .give-first-odt .ensures
+returns c = c .before .before .two .ensures ∙ rw (c .before .before .before .before .first-odt .ensures)
 
 pub keep-running-spec : {M : Type 1} → statement M
-keep-running-spec = tie.close (tie.spec give-first-odt-requires same-length returns)
+keep-running-spec = tie.close (tie.spec first-odt-requires two-requires same-length returns)

@@ -6,18 +6,22 @@ use borrow.Author.Needs.{needs}
 use Rattle.session.proofs.list_deeds.select.Statement.{statement}
 use Rattle.session.proofs.list_deeds.select.Tie as tie
 
+first-odt-requires : tie.Need-first-odt-requires
+first-odt-requires c κs = search needs
+
 select-requires : tie.Need-select-requires
 select-requires c κs = search needs
 
-give-first-odt-requires : tie.Need-give-first-odt-requires
-give-first-odt-requires c κs = search needs
+two-requires : tie.Need-two-requires
+two-requires c κs = search needs
 
 same-length : tie.Need-same-length
 same-length c = search needs
 
 returns : tie.Need-returns
 unfolding effect replyIn sessionOf
-returns c = c .before .before .give-first-odt .ensures ∙ rw (c .before .before .before .before .before .before .select .ensures)
+returns c = c .before .before .two .ensures ∙ rw (c .before .before .before .before .before .before .select .ensures, c .before .before .before .before .before .before .before .before .first-odt .ensures)
 
 pub select-spec : {M : Type 1} → statement M
-select-spec = tie.close (tie.spec select-requires give-first-odt-requires same-length returns)
+select-spec =
+    tie.close (tie.spec first-odt-requires select-requires two-requires same-length returns)

@@ -6,18 +6,22 @@ use borrow.Author.Needs.{needs}
 use Rattle.session.proofs.list_deeds.start.Statement.{statement}
 use Rattle.session.proofs.list_deeds.start.Tie as tie
 
+first-odt-requires : tie.Need-first-odt-requires
+first-odt-requires c κs = search needs
+
 start-requires : tie.Need-start-requires
 start-requires c κs = search needs
 
-give-first-odt-requires : tie.Need-give-first-odt-requires
-give-first-odt-requires c κs = search needs
+two-requires : tie.Need-two-requires
+two-requires c κs = search needs
 
 same-length : tie.Need-same-length
 same-length c = search needs
 
 returns : tie.Need-returns
 unfolding effect replyIn sessionOf
-returns c = c .before .before .give-first-odt .ensures ∙ rw (c .before .before .before .before .before .before .start .ensures)
+returns c = c .before .before .two .ensures ∙ rw (c .before .before .before .before .before .before .start .ensures, c .before .before .before .before .before .before .before .before .first-odt .ensures)
 
 pub start-spec : {M : Type 1} → statement M
-start-spec = tie.close (tie.spec start-requires give-first-odt-requires same-length returns)
+start-spec =
+    tie.close (tie.spec first-odt-requires start-requires two-requires same-length returns)

@@ -6,18 +6,21 @@ use borrow.Author.Needs.{needs}
 use Rattle.session.proofs.list_deeds.stop.Statement.{statement}
 use Rattle.session.proofs.list_deeds.stop.Tie as tie
 
+first-odt-requires : tie.Need-first-odt-requires
+first-odt-requires c κs = search needs
+
 stop-requires : tie.Need-stop-requires
 stop-requires c κs = search needs
 
-give-first-odt-requires : tie.Need-give-first-odt-requires
-give-first-odt-requires c κs = search needs
+two-requires : tie.Need-two-requires
+two-requires c κs = search needs
 
 same-length : tie.Need-same-length
 same-length c = search needs
 
 returns : tie.Need-returns
 unfolding effect replyIn sessionOf
-returns c = c .before .before .give-first-odt .ensures ∙ rw (c .before .before .before .before .before .before .stop .ensures)
+returns c = c .before .before .two .ensures ∙ rw (c .before .before .before .before .before .before .stop .ensures, c .before .before .before .before .before .before .before .before .first-odt .ensures)
 
 pub stop-spec : {M : Type 1} → statement M
-stop-spec = tie.close (tie.spec stop-requires give-first-odt-requires same-length returns)
+stop-spec = tie.close (tie.spec first-odt-requires stop-requires two-requires same-length returns)

@@ -94,31 +94,31 @@ enum-known-deed-8 : tie.Need-enum-known-deed-8
 enum-known-deed-8 c = c .match .keys15
 
 clear-list-requires : tie.Need-clear-list-requires
-clear-list-requires c κs = (c .before .before .before .before .before .before .before .pre .0, rw (c .before .before .deed8 .given .1) at (c .before .before .before .before .before .before .before .pre .2))
+clear-list-requires c κs = search needs
 
 enum-known-deed-9 : tie.Need-enum-known-deed-9
 enum-known-deed-9 c = c .match .keys16
 
 set-pointer-requires : tie.Need-set-pointer-requires
-set-pointer-requires c κs = let h = rw (c .before .before .deed9 .given .1) at (c .before .before .before .before .before .before .before .pre .2) in (c .before .before .before .before .before .before .before .pre .0, h .0, h .1)
+set-pointer-requires c κs = search needs
 
 enum-known-deed-10 : tie.Need-enum-known-deed-10
 enum-known-deed-10 c = c .match .keys17
 
 clear-entry-requires : tie.Need-clear-entry-requires
-clear-entry-requires c κs = let h = rw (c .before .before .deed10 .given .1) at (c .before .before .before .before .before .before .before .pre .2) in (c .before .before .before .before .before .before .before .pre .0, h .0, h .1)
+clear-entry-requires c κs = (c .before .before .before .before .before .before .before .pre .0, rw (c .before .before .deed10 .given .1) at (c .before .before .before .before .before .before .before .pre .2))
 
 enum-known-deed-11 : tie.Need-enum-known-deed-11
 enum-known-deed-11 c = c .match .keys18
 
 write-entry-requires : tie.Need-write-entry-requires
-write-entry-requires c κs = let h = rw (c .before .before .deed11 .given .1) at (c .before .before .before .before .before .before .before .pre .2) in (c .before .before .before .before .before .before .before .pre .0, h .0, h .1)
+write-entry-requires c κs = (c .before .before .before .before .before .before .before .pre .0, rw (c .before .before .deed11 .given .1) at (c .before .before .before .before .before .before .before .pre .2))
 
 enum-known-deed-12 : tie.Need-enum-known-deed-12
 enum-known-deed-12 c = c .match .keys19
 
 set-mode-requires : tie.Need-set-mode-requires
-set-mode-requires c κs = let h = rw (c .before .before .deed12 .given .1) at (c .before .before .before .before .before .before .before .pre .2) in (c .before .before .before .before .before .before .before .pre .0, h .0, h .1)
+set-mode-requires c κs = search needs
 
 enum-known-deed-13 : tie.Need-enum-known-deed-13
 enum-known-deed-13 c = c .match .keys20
@@ -173,6 +173,30 @@ enum-told-12 c = c .match .keys28
 
 resolution-info-requires : tie.Need-resolution-info-requires
 resolution-info-requires c κs = search needs
+
+enum-told-13 : tie.Need-enum-told-13
+enum-told-13 c = c .match .keys29
+
+free-lists-requires : tie.Need-free-lists-requires
+free-lists-requires c κs = search needs
+
+enum-known-deed-17 : tie.Need-enum-known-deed-17
+enum-known-deed-17 c = c .match .keys30
+
+alloc-lists-requires : tie.Need-alloc-lists-requires
+alloc-lists-requires c κs = search needs
+
+enum-known-deed-18 : tie.Need-enum-known-deed-18
+enum-known-deed-18 c = c .match .keys31
+
+alloc-odts-requires : tie.Need-alloc-odts-requires
+alloc-odts-requires c κs = search needs
+
+enum-known-deed-19 : tie.Need-enum-known-deed-19
+enum-known-deed-19 c = c .match .keys32
+
+alloc-entries-requires : tie.Need-alloc-entries-requires
+alloc-entries-requires c κs = search needs
 
 same-length : tie.Need-same-length
 same-length c = search needs
@@ -379,6 +403,34 @@ returns-28 : tie.Need-returns-28
 unfolding effect replyIn sessionOf writes
 returns-28 c = rw (c .before .before .before .before .enum-told12 .given .1) (record { state = c .before .before .resolution-info .ensures; memory = refl })
 
+same-length-32 : tie.Need-same-length-32
+same-length-32 c = search needs
+
+returns-29 : tie.Need-returns-29
+unfolding effect replyIn sessionOf writes
+returns-29 c = rw (c .before .before .before .before .enum-told13 .given .1) (record { state = c .before .before .free-lists .ensures; memory = refl })
+
+same-length-33 : tie.Need-same-length-33
+same-length-33 c = search needs
+
+returns-30 : tie.Need-returns-30
+unfolding effect replyIn sessionOf writes
+returns-30 c = rw (c .before .before .before .before .before .deed17 .given .1) (record { state = c .before .before .alloc-lists .ensures; memory = refl })
+
+same-length-34 : tie.Need-same-length-34
+same-length-34 c = search needs
+
+returns-31 : tie.Need-returns-31
+unfolding effect replyIn sessionOf writes
+returns-31 c = rw (c .before .before .before .before .before .deed18 .given .1) (record { state = c .before .before .alloc-odts .ensures; memory = refl })
+
+same-length-35 : tie.Need-same-length-35
+same-length-35 c = search needs
+
+returns-32 : tie.Need-returns-32
+unfolding effect replyIn sessionOf writes
+returns-32 c = rw (c .before .before .before .before .before .deed19 .given .1) (record { state = c .before .before .alloc-entries .ensures; memory = refl })
+
 pub perform-spec : {M : Type 1} → statement M
 perform-spec =
     tie.close
@@ -439,6 +491,14 @@ perform-spec =
     processor-info-requires
     enum-told-12
     resolution-info-requires
+    enum-told-13
+    free-lists-requires
+    enum-known-deed-17
+    alloc-lists-requires
+    enum-known-deed-18
+    alloc-odts-requires
+    enum-known-deed-19
+    alloc-entries-requires
     same-length
     returns
     same-length-2
@@ -497,4 +557,12 @@ perform-spec =
     same-length-30
     returns-27
     same-length-31
-    returns-28)
+    returns-28
+    same-length-32
+    returns-29
+    same-length-33
+    returns-30
+    same-length-34
+    returns-31
+    same-length-35
+    returns-32)

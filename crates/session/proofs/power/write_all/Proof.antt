@@ -1,8 +1,5 @@
-use Rattle.state.specs.Layout.{lastList, servedAt, size}
-use mathlib.Core.Path.{_∙_, ap}
-use mathlib.Core.List.{List}
-use Prim.Native.Nat.{ℕ}
-use lib.ListN.{set, length-set}
+use Rattle.state.specs.Layout.{size}
+use mathlib.Core.Path.{_∙_}
 use Rattle.session.specs.PowerUp.{powered}
 use Rattle.state.proofs.Sets.{cleared-all}
 use borrow.Author.Needs.{needs}
@@ -21,15 +18,12 @@ new-requires c κs = search needs
 set-generator-requires : tie.Need-set-generator-requires
 set-generator-requires c κs = search needs
 
-slice-write-s : tie.Need-slice-write-s
-slice-write-s c = search needs
-
 same-length : tie.Need-same-length
-same-length c = simp length-set (c .before .before .set-generator .kept .0 ∙ c .before .before .before .before .before .before .before .store32 .kept .0 ∙ c .before .before .before .before .before .before .before .before .before .before .before .clear .kept .0)
+same-length c = search needs
 
 returns : tie.Need-returns
 unfolding powered
-returns c = ap (λ (t : List ℕ). set t servedAt lastList) (c .before .before .set-generator .ensures) ∙ rw (c .before .before .before .new .ensures, c .before .before .before .before .before .before .before .store32 .ensures, c .before .before .before .before .before .before .before .before .before .before .before .clear .ensures, cleared-all (c .before .before .before .before .before .before .before .before .before .before .before .before .before .before .args .s .now) size (c .before .before .before .before .before .before .before .before .before .before .before .before .before .before .pre))
+returns c = c .before .before .set-generator .ensures ∙ rw (c .before .before .before .new .ensures, c .before .before .before .before .before .before .before .store32 .ensures, c .before .before .before .before .before .before .before .before .before .before .before .clear .ensures, cleared-all (c .before .before .before .before .before .before .before .before .before .before .before .before .before .before .args .s .now) size (c .before .before .before .before .before .before .before .before .before .before .before .before .before .before .pre))
 
 pub write-all-spec : {M : Type 1} → statement M
 write-all-spec =
@@ -39,6 +33,5 @@ write-all-spec =
     store32-requires
     new-requires
     set-generator-requires
-    slice-write-s
     same-length
     returns)

@@ -3,6 +3,7 @@ use Rattle.state.specs.State.{setPointer}
 use borrow.Author.Needs.{needs}
 use Rattle.state.proofs.fields.set_pointer.Statement.{statement}
 use Rattle.state.proofs.fields.set_pointer.Tie as tie
+use Rattle.state.proofs.bytes.put.Reads as put-reads
 
 enum-told : tie.Need-enum-told
 enum-told c = search needs
@@ -13,8 +14,23 @@ put-requires c κs = search needs
 enum-known-pointer : tie.Need-enum-known-pointer
 enum-known-pointer c = search needs
 
-wrapping-add-u8-requires : tie.Need-wrapping-add-u8-requires
-wrapping-add-u8-requires c κs = search needs
+cast-at : tie.Need-cast-at
+cast-at c = search needs
+
+mul-at : tie.Need-mul-at
+mul-at c = search needs
+
+cast-at-2 : tie.Need-cast-at-2
+cast-at-2 c = search needs
+
+add-at : tie.Need-add-at
+add-at c = search needs
+
+add-at-2 : tie.Need-add-at-2
+add-at-2 c = search needs
+
+cast-put : tie.Need-cast-put
+cast-put c = search needs
 
 put-requires-2 : tie.Need-put-requires-2
 put-requires-2 c κs = search needs
@@ -34,7 +50,7 @@ same-length-2 c = search needs
 
 returns-2 : tie.Need-returns-2
 unfolding setPointer
-returns-2 c = rw (c .before .before .before .before .before .before .before .before .before .before .pointer .given .1) (c .before .before .put3 .ensures ∙ rw (c .before .before .before .before .before .before .put2 .ensures, c .before .before .before .before .before .before .before .wrapping-add-u8 .ensures))
+returns-2 c = rw (c .before .before .before .before .before .before .before .before .before .pointer .given .1) (c .before .before .put3 .ensures ∙ rw (c .before .before .before .before .before .before .put2 .ensures))
 
 pub set-pointer-spec : {M : Type 1} → statement M
 set-pointer-spec =
@@ -43,7 +59,12 @@ set-pointer-spec =
     enum-told
     put-requires
     enum-known-pointer
-    wrapping-add-u8-requires
+    cast-at
+    mul-at
+    cast-at-2
+    add-at
+    add-at-2
+    cast-put
     put-requires-2
     put-requires-3
     same-length

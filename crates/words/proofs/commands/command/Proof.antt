@@ -89,22 +89,41 @@ unfolding commandOf
 returns-21 c = rw (c .match .keys21)
 
 returns-22 : tie.Need-returns-22
-returns-22 c = sym (unknown _ (c .before .match .rest))
+unfolding commandOf
+returns-22 c = rw (c .match .keys22)
 
 returns-23 : tie.Need-returns-23
-returns-23 c = sym (unknown _ (c .before .before .match .rest))
+unfolding commandOf
+returns-23 c = rw (c .match .keys23)
 
 returns-24 : tie.Need-returns-24
-returns-24 c = sym (unknown _ (c .before .before .before .match .rest))
+unfolding commandOf
+returns-24 c = rw (c .match .keys24)
 
 returns-25 : tie.Need-returns-25
-returns-25 c = sym (unknown _ (c .before .before .before .before .match .rest))
+unfolding commandOf
+returns-25 c = rw (c .match .keys25)
 
 returns-26 : tie.Need-returns-26
-returns-26 c = sym (unknown _ (c .before .before .before .before .before .match .rest))
+returns-26 c = sym (unknown _ (c .before .match .rest))
 
 returns-27 : tie.Need-returns-27
-returns-27 c = sym (unknown _ (c .before .before .before .before .before .match .rest))
+returns-27 c = sym (unknown _ (c .before .before .match .rest))
+
+returns-28 : tie.Need-returns-28
+returns-28 c = sym (unknown _ (c .before .before .before .match .rest))
+
+returns-29 : tie.Need-returns-29
+returns-29 c = sym (unknown _ (c .before .before .before .before .match .rest))
+
+returns-30 : tie.Need-returns-30
+returns-30 c = sym (unknown _ (c .before .before .before .before .before .match .rest))
+
+returns-31 : tie.Need-returns-31
+returns-31 c = sym (unknown _ (c .before .before .before .before .before .before .match .rest))
+
+returns-32 : tie.Need-returns-32
+returns-32 c = sym (unknown _ (c .before .before .before .before .before .before .match .rest))
 
 pub command-spec : {M : Type 1} → statement M
 command-spec =
@@ -136,4 +155,9 @@ command-spec =
     returns-24
     returns-25
     returns-26
-    returns-27)
+    returns-27
+    returns-28
+    returns-29
+    returns-30
+    returns-31
+    returns-32)

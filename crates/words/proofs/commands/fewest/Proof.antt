@@ -65,6 +65,18 @@ enum-told-20 c = search needs
 enum-told-21 : tie.Need-enum-told-21
 enum-told-21 c = search needs
 
+enum-told-22 : tie.Need-enum-told-22
+enum-told-22 c = search needs
+
+enum-told-23 : tie.Need-enum-told-23
+enum-told-23 c = search needs
+
+enum-told-24 : tie.Need-enum-told-24
+enum-told-24 c = search needs
+
+enum-told-25 : tie.Need-enum-told-25
+enum-told-25 c = search needs
+
 returns : tie.Need-returns
 returns c = simp (c .enum-told .given .1)
 
@@ -128,6 +140,18 @@ returns-20 c = simp (c .enum-told20 .given .1)
 returns-21 : tie.Need-returns-21
 returns-21 c = simp (c .enum-told21 .given .1)
 
+returns-22 : tie.Need-returns-22
+returns-22 c = simp (c .enum-told22 .given .1)
+
+returns-23 : tie.Need-returns-23
+returns-23 c = simp (c .enum-told23 .given .1)
+
+returns-24 : tie.Need-returns-24
+returns-24 c = simp (c .enum-told24 .given .1)
+
+returns-25 : tie.Need-returns-25
+returns-25 c = simp (c .enum-told25 .given .1)
+
 pub fewest-spec : {M : Type 1} → statement M
 fewest-spec =
     tie.close
@@ -153,6 +177,10 @@ fewest-spec =
     enum-told-19
     enum-told-20
     enum-told-21
+    enum-told-22
+    enum-told-23
+    enum-told-24
+    enum-told-25
     returns
     returns-2
     returns-3
@@ -173,4 +201,8 @@ fewest-spec =
     returns-18
     returns-19
     returns-20
-    returns-21)
+    returns-21
+    returns-22
+    returns-23
+    returns-24
+    returns-25)

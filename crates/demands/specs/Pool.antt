@@ -1,0 +1,86 @@
+-- The whole pool can be had: after FREE_DAQ, from any state in which lists are unlocked, every allocation of at most 8 lists, 16 ODTs and 128 entries in
+-- all goes through, in any order of the lists and of the ODTs; whatever lists there were, and whether they ran.
+use Prim.Native.Nat.{ℕ, zero, suc, _+_, _≤_, _<_}
+use mathlib.Core.Path.{_≡_}
+use mathlib.Core.Logic.{_⊎_}
+use mathlib.Core.Bool.{true}
+use mathlib.Core.List.{List, [], _∷_, _++_, map}
+use Rattle.words.specs.declared.Resource.the-variants.{Lists}
+use Rattle.state.specs.State.{consistent}
+use Rattle.model.specs.Model.{Bytes, Session}
+use Rattle.model.specs.View.{sessionOf, viewOf}
+use Rattle.demands.specs.Slave.{AnySlave}
+use Rattle.demands.specs.Runs.{Call, Byte, run, LentBytes}
+use Rattle.demands.specs.Heard.{Commands}
+use Rattle.demands.specs.Demand2.{Uncommanded}
+
+-- ---- a plan: so many lists, so many ODTs in list l, so many entries in its ODT o
+pub record Plan : Type 0 where
+  pub lists : ℕ
+  pub odts : ℕ → ℕ
+  pub entries : ℕ → ℕ → ℕ
+
+-- the first n together
+unfoldable pub total : (ℕ → ℕ) → ℕ → ℕ
+total f zero = 0
+total f (suc n) = total f n + f n
+
+pub record InPool (w : Plan) : Type 0 where
+  pub some : 1 ≤ w .lists
+  pub lists : w .lists ≤ 8
+  pub odts : total (w .odts) (w .lists) ≤ 16
+  pub entries : total (λ l. total (w .entries l) (w .odts l)) (w .lists) ≤ 128
+
+-- session c has just what the plan says
+pub record Allocated (w : Plan) (c : Session) : Type 0 where
+  pub lists : c .lists ≡ w .lists
+  pub odts : (l : ℕ) → l < w .lists → c .list l .odts ≡ w .odts l
+  pub entries : (l o : ℕ) → l < w .lists → o < w .odts l → c .list l .odt o .entries ≡ w .entries l o
+
+-- ---- the order in which the tool asks: in xs each of which P stands is once, and no other
+abbrev pub In : {A : Type 0} → A → List A → Type 0
+In a [] = ⊥
+In a (x ∷ xs) = (a ≡ x) ⊎ In a xs
+
+abbrev pub Distinct : {A : Type 0} → List A → Type 0
+Distinct [] = Unit {0}
+Distinct (x ∷ xs) = (In x xs → ⊥) × Distinct xs
+
+pub record EachOnce {A : Type 0} (P : A → Type 0) (xs : List A) : Type 0 where
+  pub only : (a : A) → In a xs → P a
+  pub every : (a : A) → P a → In a xs
+  pub once : Distinct xs
+
+-- a list that is to have ODTs; an ODT that is to have entries, by its list and its number there
+abbrev pub HasOdts : Plan → ℕ → Type 0
+HasOdts w l = (l < w .lists) × (1 ≤ w .odts l)
+
+pub record OdtAt : Type 0 where
+  pub list : ℕ
+  pub odt : ℕ
+
+abbrev pub HasEntries : Plan → OdtAt → Type 0
+HasEntries w x = (x .list < w .lists) × (x .odt < w .odts (x .list)) × (1 ≤ w .entries (x .list) (x .odt))
+
+-- ---- its commands: D6, D5, one D4 for each of these lists, one D3 for each of these ODTs
+abbrev pub allocOdt : Plan → ℕ → List ℕ
+allocOdt w l = 0xD4 ∷ 0 ∷ l ∷ 0 ∷ w .odts l ∷ []
+
+abbrev pub allocOdtEntry : Plan → OdtAt → List ℕ
+allocOdtEntry w x = 0xD3 ∷ 0 ∷ x .list ∷ 0 ∷ x .odt ∷ w .entries (x .list) (x .odt) ∷ []
+
+abbrev pub asked : Plan → List ℕ → List OdtAt → List (List ℕ)
+asked w ls xs = (0xD6 ∷ []) ∷ (0xD5 ∷ 0 ∷ w .lists ∷ 0 ∷ []) ∷ (map (allocOdt w) ls ++ map (allocOdtEntry w) xs)
+
+-- ---- one command after the other, from state s on: the calls before it do no command, and then a byte ends its message. Each is answered FF, and after
+-- the last of them E stands
+abbrev pub GoThrough : AnySlave → (Session → Type 0) → List ℕ → List (List ℕ) → Type 0
+GoThrough v E s [] = E (sessionOf s)
+GoThrough v E s (p ∷ ps) =
+    (before : List Call) (cal meas : List ℕ) (b : ℕ) → Uncommanded v s before → LentBytes before → LentBytes (Byte cal meas b ∷ []) → Commands (run v s before) b p
+    → (viewOf (v .receive (run v s before) cal meas b .state) .answer ≡ 0xFF ∷ []) × GoThrough v E (v .receive (run v s before) cal meas b .state) ps
+
+abbrev pub WholePool : AnySlave → Type 0
+WholePool v =
+    (w : Plan) (ls : List ℕ) (xs : List OdtAt) (s : List ℕ) → InPool w → EachOnce (HasOdts w) ls → EachOnce (HasEntries w) xs
+    → consistent s ≡ true → Bytes s → sessionOf s .unlocked Lists ≡ true → GoThrough v (Allocated w) s (asked w ls xs)

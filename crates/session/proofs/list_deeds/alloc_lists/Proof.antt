@@ -1,0 +1,23 @@
+use mathlib.Core.Path.{_∙_}
+use Rattle.model.specs.Answers.{replyIn}
+use Rattle.model.specs.View.{sessionOf}
+use Rattle.session.specs.Perform.{effect}
+use borrow.Author.Needs.{needs}
+use Rattle.session.proofs.list_deeds.alloc_lists.Statement.{statement}
+use Rattle.session.proofs.list_deeds.alloc_lists.Tie as tie
+
+alloc-lists-requires : tie.Need-alloc-lists-requires
+alloc-lists-requires c κs = search needs
+
+ok-requires : tie.Need-ok-requires
+ok-requires c κs = search needs
+
+same-length : tie.Need-same-length
+same-length c = search needs
+
+returns : tie.Need-returns
+unfolding effect replyIn sessionOf
+returns c = c .before .before .ok .ensures ∙ rw (c .before .before .before .before .before .before .alloc-lists .ensures)
+
+pub alloc-lists-spec : {M : Type 1} → statement M
+alloc-lists-spec = tie.close (tie.spec alloc-lists-requires ok-requires same-length returns)
