@@ -90,8 +90,20 @@ static void memory(void)
     }
 }
 
-/* A list with a mode: in each ODT so many entries of 4 bytes, then one of 1 or 3, all at one address. With one of 4 its ODTs
- * have five and seven bytes, with fifteen as many as they hold. */
+/* Gives all lists back and takes so many, with so many ODTs each, and these with so many entries. */
+static void allocate(uint8_t lists, uint8_t odts, uint8_t entries)
+{
+    ASK(0xD6);
+    ASK(0xD5, 0, lists, 0);
+    for (uint8_t list = 0; list < lists; list++)
+        ASK(0xD4, 0, list, 0, odts);
+    for (uint8_t list = 0; list < lists; list++)
+        for (uint8_t odt = 0; odt < odts; odt++)
+            ASK(0xD3, 0, list, 0, odt, entries);
+}
+
+/* A list of two ODTs with a mode: in each so many entries of 4 bytes, then one of 1 or 3, all at one address. With one of 4 its
+ * ODTs have five and seven bytes, with fifteen as many as they hold. */
 static void set_up(uint8_t list, uint8_t fours, uint8_t extension, uint8_t address)
 {
     ASK(0xE3, 0, list, 0);
@@ -115,6 +127,7 @@ static void drain(void)
 /* Lists so set up, and first one that is not there. Calibration has bytes by now that are sent as pairs. */
 static void lists(uint8_t fours)
 {
+    allocate(4, 2, (uint8_t)(fours + 1));
     for (uint8_t list = 5; list-- > 0;) {
         set_up(list, fours, list % 2, (uint8_t)(0x10 * list));
         ASK(0xDE, 2, list, 0);
@@ -131,6 +144,110 @@ static void lists(uint8_t fours)
         ASK(0xE1, 0xFF, 1, 1, 0, 0, 0, 0);
         ASK(0xE3, 0, 1, 0);
         ASK(0xDD, mode);
+    }
+}
+
+/* Lists of any shape: how many ODTs each has, and how many entries each ODT, counted through the lists. */
+struct shape {
+    uint8_t lists, odts[8], entries[16];
+};
+
+/* The whole pool, each time so that something takes longest or goes deepest. Of the first no slot takes as long as the one with
+ * its last packet, which is full; of the last no event and no start of all lists: the ODTs lie before most lists, and so do their
+ * entries, which are counted in fours with the most left over. */
+static const struct shape one_long = {1, {16}, {8, 8, 8, 8, 8, 8, 8, 7, 7, 7, 7, 7, 7, 7, 7, 16}},
+                          eight_short = {8, {2, 2, 2, 2, 2, 2, 2, 2}, {8, 8, 8, 8, 8, 8, 8, 8, 8, 8, 8, 8, 8, 8, 8, 8}},
+                          uneven = {8, {9, 1, 1, 1, 1, 1, 1, 1}, {6, 10, 6, 10, 6, 10, 6, 10, 6, 10, 6, 10, 6, 10, 6, 10}};
+
+/* Gives all lists back and takes these, with entries of 4 bytes, but a sixteenth of 3; all start on event 0. */
+static void start_shape(const struct shape *s, uint8_t extension)
+{
+    const uint8_t *entries = s->entries;
+    ASK(0xD6);
+    ASK(0xD5, 0, s->lists, 0);
+    for (uint8_t list = 0; list < s->lists; list++)
+        ASK(0xD4, 0, list, 0, s->odts[list]);
+    for (uint8_t list = 0; list < s->lists; list++) {
+        for (uint8_t odt = 0; odt < s->odts[list]; odt++, entries++) {
+            ASK(0xD3, 0, list, 0, odt, *entries);
+            ASK(0xE2, 0, list, 0, odt, 0);
+            for (uint8_t entry = 0; entry < *entries; entry++)
+                ASK(0xE1, 0xFF, (uint8_t)(entry < 15 ? 4 : 3), extension, 0, 0, 0, 0);
+        }
+        ASK(0xE0, 0x10, list, 0, 0, 0, 1, 0);
+        ASK(0xDE, 1, list, 0);
+    }
+}
+
+/* Each list asked for what it refuses while it runs, and then selected. */
+static void ask_running(uint8_t lists)
+{
+    for (uint8_t list = 0; list < lists; list++) {
+        ASK(0xE0, 0x10, list, 0, 0, 0, 1, 0);
+        ASK(0xE2, 0, list, 0, 0, 0);
+        ASK(0xE1, 0xFF, 4, 0, 0, 0, 0, 0);
+        ASK(0xE3, 0, list, 0);
+        ASK(0xDE, 2, list, 0);
+    }
+}
+
+/* They sample, send, start and stop together, and are given back while packets wait. */
+static void whole_pool(const struct shape *s)
+{
+    start_shape(s, 0);
+    ask_running(s->lists);
+    call(EVENT, 0);
+    drain();
+    ASK(0xDD, 2);
+    for (uint8_t list = 0; list < s->lists; list++)
+        ASK(0xDE, 2, list, 0);
+    ASK(0xDD, 1);
+    call(EVENT, 0);
+    ASK(0xFD);
+    drain();
+    call(EVENT, 0);
+    ASK(0xE3, 0, 0, 0);
+    call(EVENT, 0);
+    TELL(0xD6);
+    drain();
+}
+
+/* Entries that others have to make room for: so many for the first of sixteen ODTs, where the last list's last one has all others,
+ * and these are written. The pointer is there, and has to stay. */
+static uint32_t squeeze_in(uint8_t entries)
+{
+    ASK(0xD6);
+    ASK(0xD5, 0, 8, 0);
+    for (uint8_t list = 0; list < 8; list++)
+        ASK(0xD4, 0, list, 0, (uint8_t)(list < 7 ? 1 : 9));
+    ASK(0xD3, 0, 7, 0, 8, (uint8_t)(128 - entries));
+    ASK(0xE2, 0, 7, 0, 8, 0);
+    for (uint8_t other = entries; other < 128; other++)
+        ASK(0xE1, 0xFF, 1, 1, other, 0, 0, 0);
+    ASK(0xE2, 0, 7, 0, 8, 0);
+    return TELL(0xD3, 0, 0, 0, 0, entries);
+}
+
+/* Each step to lists when it is not its turn, with a number out of range and with more than the pool has. */
+static void allocations(void)
+{
+    for (uint8_t step = 0; step < 4; step++) {
+        for (uint8_t count = 0; count < 255; count = (uint8_t)(count + 17)) {
+            ASK(0xD5, 0, count, 1);
+            ASK(0xD4, 0, 1, 1, count);
+            ASK(0xD4, 0, 0, 0, (uint8_t)(count + 17));
+            ASK(0xD3, 0, 0, 0, count, 0);
+            ASK(0xD3, 0, 0, 0, 0, (uint8_t)(count + 129));
+        }
+        ASK(0xD6);
+        if (step > 0)
+            ASK(0xD5, 0, 8, 0);
+        if (step > 1)
+            ASK(0xD4, 0, 7, 0, 1);
+    }
+    for (uint8_t entries = 1; entries < 128; entries = (uint8_t)(entries + 9)) {
+        squeeze_in(entries);
+        drain();
     }
 }
 
@@ -169,6 +286,10 @@ static void everything(void)
     memory();
     lists(1);
     lists(15);
+    whole_pool(&one_long);
+    whole_pool(&eight_short);
+    whole_pool(&uneven);
+    allocations();
     codes();
     wrong_keys();
 }

@@ -186,21 +186,41 @@ static void show_dearest(const char *what, const struct dearest *d, uint32_t bas
     say("\n");
 }
 
-/* The frame of a slot that was just made: its packet begins so, behind SYNC, LEN and CTR. */
+/* The frame of a slot that was just made: its packet begins so, behind SYNC, LEN and CTR, of which CTR may be a pair. */
 static void began(uint8_t first)
 {
-    if (room[3] != first)
+    if (room[room[2] == ESC ? 4 : 3] != first)
         fail("a slot sent another packet than was to be measured");
 }
 
-/* Four lists, all running on event 0, each at its own address. */
+/* Four lists of two ODTs, all running on event 0, each at its own address. */
 static void start_lists(uint8_t fours, uint8_t extension, uint8_t apart)
 {
-    ASK(0xDD, 0);
+    allocate(4, 2, (uint8_t)(fours + 1));
     for (uint8_t list = 0; list < 4; list++) {
         set_up(list, fours, extension, (uint8_t)(apart * list));
         ASK(0xDE, 1, list, 0);
     }
+}
+
+/* A list of so many ODTs, each with so many entries of 4 bytes, started on event 0. */
+static void set_up_fours(uint8_t list, uint8_t odts, uint8_t entries, uint8_t extension)
+{
+    for (uint8_t odt = 0; odt < odts; odt++) {
+        ASK(0xE2, 0, list, 0, odt, 0);
+        for (uint8_t entry = 0; entry < entries; entry++)
+            ASK(0xE1, 0xFF, 4, extension, 0, 0, 0, 0);
+    }
+    ASK(0xE0, 0x10, list, 0, 0, 0, 1, 0);
+    ASK(0xDE, 1, list, 0);
+}
+
+/* So many lists, all running on event 0, each with so many ODTs of so many entries of 4 bytes. */
+static void start_fours(uint8_t lists, uint8_t odts, uint8_t entries, uint8_t extension)
+{
+    allocate(lists, odts, entries);
+    for (uint8_t list = 0; list < lists; list++)
+        set_up_fours(list, odts, entries, extension);
 }
 
 static void bytes(void)
@@ -239,6 +259,29 @@ static void commands(void)
     ended("the last byte of UNLOCK, a wrong key", TELL(0xF7, 4, 0, 0, 0, 0), 0xFE);
 }
 
+/* What it takes to allocate, each at its most: lists, ODTs, entries, and entries that all others have to make room for. The
+ * lists that are freed run, and all their packets wait. */
+static void steps_to_lists(void)
+{
+    struct dearest squeezed = {0, 0, 0};
+    open_session();
+    start_fours(8, 2, 8, 1);
+    call(EVENT, 0);
+    ended("the last byte of FREE_DAQ, eight lists that run", TELL(0xD6), 0xFF);
+    ended("the last byte of ALLOC_DAQ, 8 lists", TELL(0xD5, 0, 8, 0), 0xFF);
+    ended("the last byte of ALLOC_ODT, 16 ODTs", TELL(0xD4, 0, 0, 0, 16), 0xFF);
+    ended("the last byte of ALLOC_ODT_ENTRY, 8 entries", TELL(0xD3, 0, 0, 0, 15, 8), 0xFF);
+    ended("the last byte of ALLOC_ODT_ENTRY, 120 entries before 8", TELL(0xD3, 0, 0, 0, 0, 120), 0xFF);
+    for (uint8_t entries = 1; entries < 128; entries++) {
+        if (XCP_NUMBER(squeeze_in(entries)) != XCP_TAKEN)
+            fail("an ALLOC_ODT_ENTRY was not taken");
+        note(&squeezed, entries);
+        call(SLOT, 0);
+        began(0xFF);
+    }
+    show_dearest("the last byte of the dearest ALLOC_ODT_ENTRY", &squeezed, 10, " entries before the rest");
+}
+
 /* What a sum takes follows from its size, but not in step with it: what is left behind whole runs has loops of its own. So every
  * size is tried. */
 static void checksums(void)
@@ -256,20 +299,34 @@ static void checksums(void)
     show_dearest("the last byte of the dearest BUILD_CHECKSUM", &sum, 10, " bytes");
 }
 
-/* What an event takes follows from what its entries find: in either memory, all their bytes or some or none. */
+/* Events of lists that run, with memories of each length that an entry can tell apart. */
+static void lent_each(struct dearest *sampling, uint32_t lists)
+{
+    for (uint32_t n = 0; n <= 5; n++) {
+        lent = n < 5 ? n : sizeof meas;
+        if (call(EVENT, 0) != lists << 8)
+            fail("an event did not sample all lists");
+        note(sampling, lent);
+        drain();
+    }
+}
+
+/* What an event takes follows from what its entries find: in either memory, all their bytes or some or none. The pool's 128
+ * entries are in all lists at once, in four full ones or in others of the most ODTs, of which those before other lists count
+ * most. */
 static void events(void)
 {
     struct dearest sampling = {0, 0, 0};
     open_session();
     for (uint8_t extension = 0; extension < 2; extension++) {
         start_lists(15, extension, 0);
-        for (uint32_t n = 0; n <= 5; n++) {
-            lent = n < 5 ? n : sizeof meas;
-            if (call(EVENT, 0) != 4 << 8)
-                fail("an event did not sample four lists");
-            note(&sampling, lent);
-            drain();
-        }
+        lent_each(&sampling, 4);
+        start_fours(1, 16, 8, extension);
+        lent_each(&sampling, 1);
+        start_fours(8, 2, 8, extension);
+        lent_each(&sampling, 8);
+        start_shape(&uneven, extension);
+        lent_each(&sampling, 8);
     }
     show_dearest("the dearest event", &sampling, 10, " bytes lent");
 }
@@ -292,9 +349,32 @@ static void slots(void)
     show("an idle slot while four lists run", call(SLOT, 0), XCP_DONE, 0);
     start_lists(15, 1, 0x10);
     show("an event of four full lists", call(EVENT, 0), XCP_DONE, 4 << 8);
-    /* Its clock is sent as two pairs; the round goes on after list 3. */
-    show("a slot with a sample of 64 bytes", call(SLOT, 0), XCP_DONE, 70);
+    show("a slot with a sample of 64 bytes", call(SLOT, 0), XCP_DONE, 70); /* its clock is sent as two pairs */
     began(0x00);
+    drain();
+}
+
+/* One long list with all the pool has, as a weighing gun wants it; eight short ones, as a trough reader does. */
+static void sizes(void)
+{
+    open_session();
+    start_fours(1, 16, 8, 1);
+    show("an event of one list of 16 ODTs, 512 bytes", call(EVENT, 0), XCP_DONE, 1 << 8);
+    call(SLOT, 0);
+    show("a slot with the second packet of that list, 33 bytes", call(SLOT, 0), XCP_DONE, 37);
+    began(0x01);
+    for (int packet = 2; packet < 15; packet++)
+        call(SLOT, 0);
+    show("a slot with the last packet of that list, 33 bytes", call(SLOT, 0), XCP_DONE, 37);
+    began(0x0F);
+    start_fours(8, 1, 1, 1);
+    show("an event of eight lists of 4 bytes", call(EVENT, 0), XCP_DONE, 8 << 8);
+    show("a slot with a packet of these, 7 bytes", call(SLOT, 0), XCP_DONE, 13); /* its clock is sent as two pairs */
+    began(0x00);
+    drain();
+    show("an idle slot while eight lists run", call(SLOT, 0), XCP_DONE, 0);
+    start_fours(8, 2, 8, 1);
+    show("an event of eight lists of 2 ODTs, 512 bytes", call(EVENT, 0), XCP_DONE, 8 << 8);
 }
 
 static __attribute__((noinline)) uint32_t timed_loop(uint32_t turns)
@@ -328,8 +408,10 @@ int main(void)
         meas[i] = (uint8_t)i;
     bytes();
     commands();
+    steps_to_lists();
     checksums();
     slots();
+    sizes();
     events();
     everything();
     show_dearest("the dearest slot", &dearest_slot, 10, " bytes sent");

@@ -19,7 +19,7 @@ impl Dice {
     }
 }
 
-/// A command that is done in a session with the locks open.
+/// A command that is done in a session with the locks open and four lists.
 fn command(dice: &mut Dice) -> Vec<u8> {
     let (place, byte) = (dice.byte() & 0x7F, dice.byte());
     match dice.below(8) {
@@ -47,10 +47,11 @@ fn long_command(dice: &mut Dice) -> Vec<u8> {
     packet
 }
 
-/// A master ready to download: it has a session, the locks and an address.
+/// A master ready to download and to point: it has a session, the locks, lists and an address.
 fn ready() -> Master<Called> {
     let mut master = Master::new();
     master.open();
+    master.allocate(4, 2, 16);
     master.ask(&[0xF6, 0, 0, 0, 0, 1, 0, 0]);
     master
 }

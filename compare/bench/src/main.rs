@@ -10,9 +10,10 @@ mod single;
 mod subject;
 mod timing;
 
-use master::Load;
+use master::{Load, Shape};
 use single::Times;
 use std::ops::Range;
+use std::slice::from_ref;
 use subject::{Called, Inlined, Proved};
 use timing::{median, trace, Run};
 
@@ -118,9 +119,72 @@ fn commands() {
             vec![0xF3, 0, 0, 0, 0x00, 0x10, 0, 0],
         ),
     ] {
+        let address = vec![0xF6, 0, 0, extension, 0, 0, 0, 0];
+        print_command(what, &[address], &packet);
+    }
+}
+
+fn print_command(what: &str, before: &[Vec<u8>], packet: &[u8]) {
+    print_row(
+        &format!("the byte that ends {}", what),
+        &single::command(before, packet),
+    );
+}
+
+/// The rows of the steps to lists, each at its most; in the last, all other entries are written and lie
+/// behind the new one.
+fn allocations() {
+    let lists = |count| vec![0xD5, 0, count, 0];
+    let odts = |count| vec![0xD4, 0, 0, 0, count];
+    let entries = |odt, count| vec![0xD3, 0, 0, 0, odt, count];
+    let free = vec![0xD6];
+    let pair = [free.clone(), lists(1), odts(2)];
+    let taken = [&pair[..], &[entries(0, 64), entries(1, 64)]].concat();
+    print_command("FREE_DAQ", &taken, &free);
+    print_command("ALLOC_DAQ of 8", from_ref(&free), &lists(8));
+    print_command("ALLOC_ODT of 16", &[free, lists(8)], &odts(16));
+    print_command("ALLOC_ODT_ENTRY of 128", &pair, &entries(0, 128));
+    let mut behind = [&pair[..], &[entries(1, 127), vec![0xE2, 0, 0, 0, 1, 0]]].concat();
+    behind.resize(behind.len() + 127, vec![0xE1, 0xFF, 1, 1, 0, 0, 0, 0]);
+    print_command(
+        "ALLOC_ODT_ENTRY of 1 before 127 others",
+        &behind,
+        &entries(0, 1),
+    );
+}
+
+/// The rows of events.
+fn events() {
+    for (lists, shape) in [
+        ("four lists of 5 and 7 bytes", Shape::FOUR),
+        ("four full lists", Shape::FULL),
+        ("one list of 16 ODTs, 512 bytes", Shape::LONG),
+        ("eight lists of 4 bytes", Shape::SHORT),
+    ] {
         print_row(
-            &format!("the byte that ends {}", what),
-            &single::command(extension, &packet),
+            &format!("an event that samples {}", lists),
+            &single::event(shape),
+        );
+    }
+}
+
+/// The rows of slots.
+fn slots() {
+    for (bytes, count) in [(8, 7), (64, 63)] {
+        print_row(
+            &format!("a slot that sends an answer of {} bytes", bytes),
+            &single::slot_of_answer(count),
+        );
+    }
+    for (what, shape, sent) in [
+        ("a sample of 8 bytes", Shape::FOUR, 0),
+        ("a sample of 64 bytes", Shape::FULL, 0),
+        ("the last of the 16 packets, 33 bytes", Shape::LONG, 15),
+        ("the last of eight lists' packets, 7 bytes", Shape::SHORT, 7),
+    ] {
+        print_row(
+            &format!("a slot that sends {}", what),
+            &single::slot_of_sample(shape, sent),
         );
     }
 }
@@ -128,25 +192,7 @@ fn commands() {
 fn main() {
     received();
     commands();
-    print_row(
-        "an event that samples four lists of 5 and 7 bytes",
-        &single::event(1),
-    );
-    print_row("an event that samples four full lists", &single::event(15));
-    print_row(
-        "a slot that sends an answer of 8 bytes",
-        &single::slot_of_answer(7),
-    );
-    print_row(
-        "a slot that sends an answer of 64 bytes",
-        &single::slot_of_answer(63),
-    );
-    print_row(
-        "a slot that sends a sample of 8 bytes",
-        &single::slot_of_sample(1),
-    );
-    print_row(
-        "a slot that sends a sample of 64 bytes",
-        &single::slot_of_sample(15),
-    );
+    allocations();
+    events();
+    slots();
 }

@@ -7,6 +7,44 @@ pub const ESC: u8 = 0x9B;
 const CALIBRATION: (u8, u32) = (0x01, 0xD05E);
 const LISTS: (u8, u32) = (0x04, 0xDA00);
 
+/// Lists by their sizes: in each ODT so many entries of 4 bytes, and in some lists then one of 1 or 3.
+#[derive(Clone, Copy)]
+pub struct Shape {
+    lists: u8,
+    odts: u8,
+    fours: u8,
+    one_more: bool,
+}
+
+impl Shape {
+    /// Four with ODTs of five and seven bytes.
+    pub const FOUR: Shape = Shape {
+        lists: 4,
+        odts: 2,
+        fours: 1,
+        one_more: true,
+    };
+    /// Four with as many bytes as their ODTs hold.
+    pub const FULL: Shape = Shape {
+        fours: 15,
+        ..Shape::FOUR
+    };
+    /// As a weighing gun wants it: one with all ODTs and all entries.
+    pub const LONG: Shape = Shape {
+        lists: 1,
+        odts: 16,
+        fours: 8,
+        one_more: false,
+    };
+    /// As a trough reader wants them: eight with an entry each.
+    pub const SHORT: Shape = Shape {
+        lists: 8,
+        odts: 1,
+        fours: 1,
+        one_more: false,
+    };
+}
+
 /// Bytes for the slave, and where slots come: at each place one.
 #[derive(Default)]
 pub struct Load {
@@ -95,14 +133,29 @@ impl<S: Subject> Master<S> {
         }
     }
 
-    /// Four lists, all running on event 0, with so many entries of 4 bytes in each ODT and then one
-    /// of 1 or 3: five and seven bytes for one such entry, as many as there can be for fifteen.
-    pub fn start_lists(&mut self, fours: usize) {
-        for list in 0..4 {
-            for (odt, last) in [(0, 1), (1, 3)] {
+    /// Gives all lists back and takes so many, with so many ODTs each, and these with so many entries.
+    pub fn allocate(&mut self, lists: u8, odts: u8, entries: u8) {
+        self.ask(&[0xD6]);
+        self.ask(&[0xD5, 0, lists, 0]);
+        for list in 0..lists {
+            self.ask(&[0xD4, 0, list, 0, odts]);
+        }
+        for list in 0..lists {
+            for odt in 0..odts {
+                self.ask(&[0xD3, 0, list, 0, odt, entries]);
+            }
+        }
+    }
+
+    /// Lists that all run on event 0.
+    pub fn start_lists(&mut self, shape: Shape) {
+        let entries = shape.fours + u8::from(shape.one_more);
+        self.allocate(shape.lists, shape.odts, entries);
+        for list in 0..shape.lists {
+            for odt in 0..shape.odts {
                 self.ask(&[0xE2, 0, list, 0, odt, 0]);
-                for entry in 0..=fours {
-                    let size = if entry < fours { 4 } else { last };
+                for entry in 0..entries {
+                    let size = if entry < shape.fours { 4 } else { 1 + 2 * odt };
                     self.ask(&[0xE1, 0xFF, size, 1, 0x10 * list, 0, 0, 0]);
                 }
             }

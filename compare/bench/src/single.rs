@@ -1,6 +1,6 @@
 //! Single calls: the byte that ends a command, an event, slots.
 
-use crate::master::Master;
+use crate::master::{Master, Shape};
 use crate::subject::{Called, Inlined, Memories, Proved, Subject};
 use crate::timing::{calls, median};
 
@@ -45,34 +45,36 @@ impl<S: Subject> Ready<S> {
     }
 }
 
-/// The frame of a command; the address is set before it, in this extension.
-fn aimed<S: Subject>(master: &mut Master<S>, extension: u8, packet: &[u8]) -> Vec<u8> {
-    master.ask(&[0xF6, 0, 0, extension, 0, 0, 0, 0]);
+/// The frame of a command after those that have to come before it.
+fn after<S: Subject>(master: &mut Master<S>, before: &[Vec<u8>], packet: &[u8]) -> Vec<u8> {
+    for packet in before {
+        assert_eq!(master.ask(packet)[0], 0xFF, "what comes before is done");
+    }
     master.frame(packet)
 }
 
 /// CTR and bytes of that frame are the same for every slave, so is its last byte.
-fn last_byte(extension: u8, packet: &[u8]) -> u8 {
+fn last_byte(before: &[Vec<u8>], packet: &[u8]) -> u8 {
     let mut master = Master::<Called>::new();
     master.open();
-    let frame = aimed(&mut master, extension, packet);
+    let frame = after(&mut master, before, packet);
     master.wire(&frame);
     assert_eq!(master.slot()[0], 0xFF, "a command that is timed is done");
     frame[frame.len() - 1]
 }
 
 /// All but the last byte of the command has come.
-fn all_but_last<S: Subject>(master: &mut Master<S>, extension: u8, packet: &[u8]) {
-    let frame = aimed(master, extension, packet);
+fn all_but_last<S: Subject>(master: &mut Master<S>, before: &[Vec<u8>], packet: &[u8]) {
+    let frame = after(master, before, packet);
     master.wire(&frame[..frame.len() - 1]);
 }
 
-/// The byte that ends this command.
-pub fn command(extension: u8, packet: &[u8]) -> Times {
-    let last = last_byte(extension, packet);
-    let mut proved = Ready::<Proved>::new(|m| all_but_last(m, extension, packet));
-    let mut called = Ready::<Called>::new(|m| all_but_last(m, extension, packet));
-    let mut inlined = Ready::<Inlined>::new(|m| all_but_last(m, extension, packet));
+/// The byte that ends this command, after those that have to come before it.
+pub fn command(before: &[Vec<u8>], packet: &[u8]) -> Times {
+    let last = last_byte(before, packet);
+    let mut proved = Ready::<Proved>::new(|m| all_but_last(m, before, packet));
+    let mut called = Ready::<Called>::new(|m| all_but_last(m, before, packet));
+    let mut inlined = Ready::<Inlined>::new(|m| all_but_last(m, before, packet));
     let mut times = [Vec::new(), Vec::new(), Vec::new()];
     for _ in 0..RUNS {
         times[0].push(proved.time(&|s, m| s.byte(m, last)));
@@ -86,10 +88,10 @@ pub fn command(extension: u8, packet: &[u8]) -> Times {
     }
 }
 
-/// An event of four lists with so many entries of 4 bytes in each ODT, and one more.
-pub fn event(fours: usize) -> Times {
-    let mut proved = Ready::<Proved>::new(|m| m.start_lists(fours));
-    let mut called = Ready::<Called>::new(|m| m.start_lists(fours));
+/// An event of such lists.
+pub fn event(shape: Shape) -> Times {
+    let mut proved = Ready::<Proved>::new(|m| m.start_lists(shape));
+    let mut called = Ready::<Called>::new(|m| m.start_lists(shape));
     let mut times = [Vec::new(), Vec::new()];
     for _ in 0..RUNS {
         times[0].push(proved.time(&|s, m| s.event(m, 0, 7)));
@@ -107,17 +109,20 @@ pub fn slot_of_answer(count: u8) -> Times {
     )
 }
 
-/// A slot with a sample of such a list.
-pub fn slot_of_sample(fours: usize) -> Times {
+/// A slot with a packet of such lists, after so many of them.
+pub fn slot_of_sample(shape: Shape, sent: usize) -> Times {
     slots(
-        Ready::new(|m| sampled(m, fours)),
-        Ready::new(|m| sampled(m, fours)),
+        Ready::new(|m| sampled(m, shape, sent)),
+        Ready::new(|m| sampled(m, shape, sent)),
     )
 }
 
-fn sampled<S: Subject>(master: &mut Master<S>, fours: usize) {
-    master.start_lists(fours);
+fn sampled<S: Subject>(master: &mut Master<S>, shape: Shape, sent: usize) {
+    master.start_lists(shape);
     master.slave.event(&master.memories, 0, 0x1234);
+    for _ in 0..sent {
+        master.slot();
+    }
 }
 
 fn slots(mut proved: Ready<Proved>, mut called: Ready<Called>) -> Times {

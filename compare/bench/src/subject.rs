@@ -2,7 +2,7 @@
 
 use plain::Slave;
 
-pub const STATE: usize = 945;
+pub const STATE: usize = 1486;
 pub const LENGTH: usize = 4096;
 pub const ROOM: usize = 135;
 

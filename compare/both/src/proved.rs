@@ -3,7 +3,7 @@
 use crate::effect::Effect;
 use crate::step::Step;
 
-pub const STATE: usize = 945;
+pub const STATE: usize = 1486;
 /// What a call returns that finds no state: 65,536 times number 10.
 pub const NO_STATE: u32 = 65_536 * 10;
 

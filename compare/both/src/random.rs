@@ -2,7 +2,10 @@
 
 use crate::rig::Rig;
 use crate::seen::ROOMS;
-use crate::tool::{download, key, short_download, unlock_packet, with_address, CALIBRATION, LISTS};
+use crate::tool::{
+    alloc_entries, alloc_lists, alloc_odts, download, key, short_download, unlock_packet,
+    with_address, CALIBRATION, FOUR, LISTS,
+};
 use crate::wire::{frame, ESC, FRAME, LONGEST, SYNC};
 
 /// So many turns with one pair of slaves, then others; it bounds the log of a difference.
@@ -18,6 +21,7 @@ pub fn run(rig: &mut Rig) {
         rig.begin(start, vary);
         if !rig.dice.once_in(8) {
             rig.open();
+            allocate(rig);
         }
         // Lists that run together are too rare if each comes up by chance.
         for _ in 0..rig.dice.one_of(&[0, 6]) {
@@ -56,6 +60,11 @@ fn turn(rig: &mut Rig) {
         _ => match rig.dice.below(40) {
             0 => power_up(rig),
             1..=3 => script(rig),
+            4..=9 => {
+                // A waiting answer would have all of it dropped.
+                rig.drain();
+                allocate(rig);
+            }
             _ => {}
         },
     }
@@ -77,6 +86,7 @@ fn script(rig: &mut Rig) {
     if rig.dice.once_in(4) {
         power_up(rig);
         rig.open();
+        allocate(rig);
     }
 }
 
@@ -117,6 +127,7 @@ fn measure(rig: &mut Rig) {
 fn open(rig: &mut Rig) {
     if rig.send(&[0xFD]) == 2 {
         rig.open();
+        allocate(rig);
     }
     rig.drain();
     let resource = rig.dice.one_of(&[CALIBRATION, LISTS]);
@@ -127,11 +138,76 @@ fn open(rig: &mut Rig) {
     }
 }
 
+/// Lists anew: half the time four like each other, else of any sizes.
+fn allocate(rig: &mut Rig) {
+    if rig.dice.once_in(2) {
+        rig.allocate(&FOUR);
+        return;
+    }
+    let lists = 1 + rig.dice.below(8);
+    let odts = rig.dice.one_of(&[1, 2, 2, 1 + 16 / lists]);
+    rig.free();
+    rig.alloc_lists(lists as u16);
+    for _ in 0..2 * lists {
+        // In any order; some lists get none, some are asked for twice.
+        let (list, count) = (rig.dice.below(lists), 1 + rig.dice.below(odts));
+        rig.alloc_odts(list as u16, count as u8);
+    }
+    for _ in 0..lists * odts {
+        grow(rig);
+    }
+}
+
+/// Entries for an ODT, which most often has none yet.
+fn grow(rig: &mut Rig) {
+    let odts = empty_odts(rig);
+    let (list, odt) = if odts.is_empty() || rig.dice.once_in(20) {
+        let [list, odt, _] = place(rig);
+        (list, odt)
+    } else {
+        rig.dice.one_of(&odts)
+    };
+    let count = match rig.dice.below(8) {
+        0 => rig.dice.one_of(&[0, 16, 100, 127, 128, 129, 255]),
+        _ => 1 + rig.dice.below(6) as u8,
+    };
+    rig.alloc_entries(u16::from(list), odt, count);
+}
+
+/// The ODTs without entries.
+fn empty_odts(rig: &Rig) -> Vec<(u8, u8)> {
+    let mut empty = Vec::new();
+    for (list, odts) in (0..).zip(&rig.seen.setup().lists) {
+        let odts = (0..).zip(&odts.odts).filter(|(_, odt)| odt.is_empty());
+        empty.extend(odts.map(|(odt, _)| (list, odt)));
+    }
+    empty
+}
+
+/// List, ODT and entry; most often they are there.
+fn place(rig: &mut Rig) -> [u8; 3] {
+    let one_of = |rig: &mut Rig, count: usize| {
+        let beyond = usize::from(rig.dice.once_in(16));
+        rig.dice.below(count.max(1) + beyond)
+    };
+    let count = rig.seen.setup().lists.len();
+    let list = one_of(rig, count);
+    let count = rig.seen.setup().lists.get(list).map_or(0, |l| l.odts.len());
+    let odt = one_of(rig, count);
+    let odts = rig.seen.setup().lists.get(list).map(|l| &l.odts);
+    let count = odts.and_then(|o| o.get(odt)).map_or(0, Vec::len);
+    let entry = one_of(rig, count);
+    [list as u8, odt as u8, entry as u8]
+}
+
 /// A list set up, most often so that it runs.
 fn list(rig: &mut Rig) {
     // A waiting answer would have all of it dropped.
     rig.drain();
-    let number = rig.dice.below(4) as u8;
+    if rig.dice.once_in(3) {
+        grow(rig);
+    }
+    let [number, ..] = place(rig);
     rig.turn(0, number);
     match rig.dice.below(12) {
         // Seldom, since each of so many entries takes a command.
@@ -145,12 +221,21 @@ fn list(rig: &mut Rig) {
     rig.turn(mode, number);
 }
 
-/// Entries one after another, with one of these numbers of bytes in each ODT.
-fn filled(rig: &mut Rig, list: u8, first: [u8; 3], second: [u8; 3]) {
-    let bytes = [rig.dice.one_of(&first), rig.dice.one_of(&second)];
+/// Entries one after another, with one of these numbers of bytes in the first ODT and in each later one,
+/// as far as there are entries.
+fn filled(rig: &mut Rig, list: u8, first: [u8; 3], later: [u8; 3]) {
+    let odts = match rig.seen.setup().lists.get(usize::from(list)) {
+        Some(list) => list.odts.iter().map(Vec::len).collect(),
+        None => vec![1],
+    };
+    let mut bytes = Vec::new();
+    for (odt, entries) in odts.iter().enumerate() {
+        let some = if odt == 0 { &first } else { &later };
+        bytes.push(rig.dice.one_of(some).min(4 * (*entries).min(60) as u8));
+    }
     let extension = rig.dice.below(2) as u8;
     let address = address(rig).min(5000);
-    rig.fill(list, bytes, extension, address);
+    rig.fill(list, &bytes, extension, address);
 }
 
 /// Entries here and there, in a list that is cleared only now and then.
@@ -159,7 +244,9 @@ fn scattered(rig: &mut Rig, list: u8) {
         rig.ask(&[0xE3, 0, list, 0]);
     }
     for _ in 0..1 + rig.dice.below(4) {
-        let (odt, entry) = (rig.dice.below(2) as u8, rig.dice.below(16) as u8);
+        // Of this list, if chance has it so.
+        let [other, odt, entry] = place(rig);
+        let list = if rig.dice.once_in(8) { other } else { list };
         rig.point(list, odt, entry);
         for _ in 0..1 + rig.dice.below(2) {
             let (size, extension) = (rig.dice.below(5) as u8, rig.dice.below(2) as u8);
@@ -216,10 +303,10 @@ fn command(rig: &mut Rig) -> Vec<u8> {
 }
 
 fn good_command(rig: &mut Rig) -> Vec<u8> {
-    let (few, list) = (rig.dice.below(3) as u8, rig.dice.below(4) as u8);
+    let (few, [list, odt, entry]) = (rig.dice.below(3) as u8, place(rig));
     let (count, extension) = (count(rig), rig.dice.below(2) as u8);
-    let (address, entry) = (address(rig), rig.dice.below(17) as u8);
-    match rig.dice.below(36) {
+    let address = address(rig);
+    match rig.dice.below(38) {
         0 => vec![rig.dice.one_of(&[0xFC, 0xFC, 0xFC, 0xFF, 0xFE]), 0],
         1 | 2 => vec![rig.dice.one_of(&[0xFD, 0xDA, 0xD9])],
         3 => vec![rig.dice.any_byte(), few, list, 0, few, 0, 1, 0],
@@ -231,11 +318,17 @@ fn good_command(rig: &mut Rig) -> Vec<u8> {
         16..=19 => download(count, &data(rig, count.into())),
         20..=22 => short_download(count, extension, address, &data(rig, count.into())),
         23 => vec![0xE3, 0, list, 0],
-        24 | 25 => vec![0xE2, 0, list, 0, extension, entry],
+        24 | 25 => vec![0xE2, 0, list, 0, odt, entry],
         26..=29 => with_address([0xE1, 0xFF, count % 5, extension], address),
         30 | 31 => vec![0xE0, 0x10, list, 0, extension, 0, 1, 0],
         32 | 33 => vec![0xDE, few, list, 0],
-        _ => vec![0xDD, few],
+        34 | 35 => vec![0xDD, few],
+        36 => alloc_entries(u16::from(list), odt, count),
+        _ => match rig.dice.below(6) {
+            0 => vec![0xD6],
+            1 | 2 => alloc_lists(u16::from(count)),
+            _ => alloc_odts(u16::from(list), count),
+        },
     }
 }
 

@@ -6,6 +6,9 @@ use crate::wire::FRAME;
 pub const CALIBRATION: u8 = 0x01;
 pub const LISTS: u8 = 0x04;
 
+/// Lists for most of what lists do, by the entries of each ODT: four of two ODTs of sixteen entries.
+pub const FOUR: [[u8; 2]; 4] = [[16, 16]; 4];
+
 impl Rig {
     /// Asks for a seed; none if the resource is unlocked, it stays shut or there is no session.
     pub fn seed(&mut self, resource: u8) -> Option<u32> {
@@ -40,6 +43,43 @@ impl Rig {
         self.unlock(LISTS);
     }
 
+    /// The same, and with lists.
+    pub fn open_with<L: AsRef<[u8]>>(&mut self, lists: &[L]) {
+        self.open();
+        self.allocate(lists);
+    }
+
+    /// Gives all lists back and takes these: of each the entries of its ODTs.
+    pub fn allocate<L: AsRef<[u8]>>(&mut self, lists: &[L]) {
+        self.free();
+        self.alloc_lists(lists.len() as u16);
+        let lists = || (0..).zip(lists.iter().map(L::as_ref));
+        for (list, odts) in lists().filter(|(_, odts)| !odts.is_empty()) {
+            self.alloc_odts(list, odts.len() as u8);
+        }
+        for (list, odts) in lists() {
+            for (odt, entries) in (0..).zip(odts).filter(|(_, entries)| **entries > 0) {
+                self.alloc_entries(list, odt, *entries);
+            }
+        }
+    }
+
+    pub fn free(&mut self) {
+        self.ask(&[0xD6]);
+    }
+
+    pub fn alloc_lists(&mut self, count: u16) {
+        self.ask(&alloc_lists(count));
+    }
+
+    pub fn alloc_odts(&mut self, list: u16, count: u8) {
+        self.ask(&alloc_odts(list, count));
+    }
+
+    pub fn alloc_entries(&mut self, list: u16, odt: u8, count: u8) {
+        self.ask(&alloc_entries(list, odt, count));
+    }
+
     pub fn set_mta(&mut self, extension: u8, address: u32) {
         self.ask(&with_address([0xF6, 0, 0, extension], address));
     }
@@ -57,7 +97,7 @@ impl Rig {
     }
 
     /// Clears a list and writes so many bytes into each ODT, in entries of at most 4.
-    pub fn fill(&mut self, list: u8, bytes: [u8; 2], extension: u8, address: u32) {
+    pub fn fill(&mut self, list: u8, bytes: &[u8], extension: u8, address: u32) {
         self.ask(&[0xE3, 0, list, 0]);
         for (odt, total) in bytes.iter().enumerate() {
             self.point(list, odt as u8, 0);
@@ -75,12 +115,9 @@ impl Rig {
         self.ask(&[0xDE, mode, list, 0]);
     }
 
-    /// Slots until nothing waits.
+    /// Slots until nothing waits, and the one that shows it.
     pub fn drain(&mut self) {
-        // An answer and two packets of each list are the most that can wait.
-        for _ in 0..10 {
-            self.slot(FRAME + 7);
-        }
+        while self.slot(FRAME + 7).is_some() {}
     }
 }
 
@@ -99,6 +136,21 @@ pub fn unlock_packet(key: u32) -> Vec<u8> {
     let mut packet = vec![0xF7, 4];
     packet.extend_from_slice(&key.to_le_bytes());
     packet
+}
+
+pub fn alloc_lists(count: u16) -> Vec<u8> {
+    let [low, high] = count.to_le_bytes();
+    vec![0xD5, 0, low, high]
+}
+
+pub fn alloc_odts(list: u16, count: u8) -> Vec<u8> {
+    let [low, high] = list.to_le_bytes();
+    vec![0xD4, 0, low, high, count]
+}
+
+pub fn alloc_entries(list: u16, odt: u8, count: u8) -> Vec<u8> {
+    let [low, high] = list.to_le_bytes();
+    vec![0xD3, 0, low, high, odt, count]
 }
 
 pub fn download(count: u8, data: &[u8]) -> Vec<u8> {

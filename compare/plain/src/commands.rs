@@ -1,6 +1,7 @@
 //! The commands: each checks in the paper's order and changes things only after its last check.
 
 mod access;
+mod alloc;
 mod daq;
 mod standard;
 
@@ -21,6 +22,7 @@ const NOT_INSIDE: u8 = 0x24;
 const LOCKED: u8 = 0x25;
 const SEQUENCE: u8 = 0x29;
 const UNFIT: u8 = 0x2A;
+const POOL_PASSED: u8 = 0x30;
 
 /// Whether this packet opens a session when there is none.
 pub fn is_good_connect(packet: &[u8]) -> bool {
@@ -60,6 +62,10 @@ pub fn answer(
         0xDD => session.start_stop_synch(packet),
         0xDA => session.get_daq_processor_info(answer),
         0xD9 => session.get_daq_resolution_info(answer),
+        0xD6 => session.free_daq(),
+        0xD5 => session.alloc_daq(packet),
+        0xD4 => session.alloc_odt(packet),
+        0xD3 => session.alloc_odt_entry(packet),
         _ => Err(UNKNOWN),
     };
     if let Err(code) = outcome {

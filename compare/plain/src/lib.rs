@@ -8,6 +8,7 @@ mod line;
 mod lists;
 mod memory;
 mod packet;
+mod pool;
 mod seed;
 mod session;
 mod slots;
@@ -34,7 +35,6 @@ pub struct Slave {
     wrong_keys: WrongKeys,
     answer: Packet,
     ctr: u8,
-    last_served: usize,
     last_was_answer: bool,
 }
 
@@ -48,7 +48,6 @@ impl Slave {
             wrong_keys: WrongKeys::NONE,
             answer: Packet::NONE,
             ctr: 0,
-            last_served: lists::LISTS - 1,
             last_was_answer: false,
         }
     }
@@ -98,18 +97,7 @@ impl Slave {
         if event >= lists::EVENTS {
             return NO_SUCH_EVENT;
         }
-        let (mut sampled, mut missed) = (0, 0);
-        for (number, list) in self.session.lists.iter_mut().enumerate() {
-            if !list.runs_on(event) {
-                continue;
-            }
-            if list.has_packet() {
-                missed += 1;
-            } else {
-                list.sample(number, cal, meas, clock);
-                sampled += 1;
-            }
-        }
+        let (sampled, missed) = self.session.pool.sample(cal, meas, event, clock);
         256 * sampled + missed
     }
 

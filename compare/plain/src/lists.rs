@@ -1,16 +1,10 @@
-//! The four measurement lists, each two ODTs of sixteen entries.
+//! What the pool consists of: lists, ODTs and entries.
 
-use crate::line::MAX_PACKET;
 use crate::memory::{byte_or_zero, Extension};
 use crate::packet::Packet;
+use std::ops::Range;
 
-pub const LISTS: usize = 4;
-pub const ODTS: usize = 2;
-pub const ENTRIES: usize = 16;
 pub const EVENTS: u32 = 2;
-
-/// ODT 0's packet also has to hold its number and the clock, ODT 1's its number.
-const ROOM: [usize; ODTS] = [MAX_PACKET - 3, MAX_PACKET - 1];
 
 #[derive(Clone, Copy, Debug, PartialEq, Eq)]
 pub struct Entry {
@@ -20,7 +14,7 @@ pub struct Entry {
 }
 
 impl Entry {
-    const EMPTY: Entry = Entry {
+    pub const EMPTY: Entry = Entry {
         size: 0,
         extension: Extension::Calibration,
         address: 0,
@@ -37,48 +31,35 @@ pub enum Pointer {
     },
 }
 
+/// An ODT knows where its entries lie in the pool.
 #[derive(Clone, Copy, Debug)]
-struct Odt {
-    /// Those from `used` on count as empty, whatever they hold.
-    entries: [Entry; ENTRIES],
-    used: usize,
-    /// The unsent packet of the last sample.
-    packet: Packet,
+pub struct Odt {
+    first: usize,
+    count: usize,
+    /// Of the last sample; whether it waits its list says.
+    pub packet: Packet,
 }
 
 impl Odt {
-    const CLEARED: Odt = Odt {
-        entries: [Entry::EMPTY; ENTRIES],
-        used: 0,
+    pub const NEW: Odt = Odt {
+        first: 0,
+        count: 0,
         packet: Packet::NONE,
     };
 
-    fn entries(&self) -> &[Entry] {
-        &self.entries[..self.used]
+    pub fn give(&mut self, entries: Range<usize>) {
+        self.first = entries.start;
+        self.count = entries.len();
     }
 
-    fn set(&mut self, at: usize, entry: Entry) {
-        if at >= self.used {
-            self.entries[self.used..at].fill(Entry::EMPTY);
-            self.used = at + 1;
-        }
-        self.entries[at] = entry;
+    pub fn entries(&self) -> Range<usize> {
+        self.first..self.first + self.count
     }
 
-    fn clear(&mut self) {
-        self.used = 0;
-        self.packet.clear();
-    }
-
-    /// How many bytes a sample of it has.
-    fn bytes(&self) -> usize {
-        self.entries().iter().map(|e| usize::from(e.size)).sum()
-    }
-
-    /// Fills the packet: these bytes, then those of the entries as they are now.
-    fn capture(&mut self, front: &[u8], cal: &[u8], meas: &[u8]) {
+    /// Fills the packet: these bytes, then those of its entries in the pool as they are now.
+    pub fn capture(&mut self, front: &[u8], pool: &[Entry], cal: &[u8], meas: &[u8]) {
         self.packet.begin(front);
-        for entry in &self.entries[..self.used] {
+        for entry in &pool[self.entries()] {
             let memory = entry.extension.of(cal, meas);
             let bytes = self.packet.more(usize::from(entry.size));
             for (byte, address) in bytes.iter_mut().zip(u64::from(entry.address)..) {
@@ -88,42 +69,36 @@ impl Odt {
     }
 }
 
-impl PartialEq for Odt {
-    fn eq(&self, other: &Odt) -> bool {
-        self.entries() == other.entries() && self.packet == other.packet
-    }
-}
-
-impl Eq for Odt {}
-
+/// A list knows where its ODTs lie in the pool.
 #[derive(Clone, Copy, Debug, PartialEq, Eq)]
 pub struct List {
-    odts: [Odt; ODTS],
+    /// The place of its first ODT, which is also the number of its first packet.
+    pub first: usize,
+    count: usize,
     /// The event of the list's mode; none while the mode was never set.
     pub event: Option<u32>,
     pub selected: bool,
     running: bool,
+    /// Bit by bit: its ODTs whose packets wait.
+    unsent: u16,
 }
 
 impl List {
-    /// A stopped list as after CLEAR_DAQ_LIST.
-    pub const CLEARED: List = List {
-        odts: [Odt::CLEARED; ODTS],
+    pub const NEW: List = List {
+        first: 0,
+        count: 0,
         event: None,
         selected: false,
         running: false,
+        unsent: 0,
     };
 
-    /// Makes it a cleared one; no more bytes are touched than that takes.
-    pub fn clear(&mut self) {
-        self.odts.iter_mut().for_each(Odt::clear);
-        self.event = None;
-        self.selected = false;
-        self.running = false;
+    pub fn give(&mut self, odts: usize) {
+        self.count = odts;
     }
 
-    pub fn set_entry(&mut self, odt: usize, at: usize, entry: Entry) {
-        self.odts[odt].set(at, entry);
+    pub fn odts(&self) -> Range<usize> {
+        self.first..self.first + self.count
     }
 
     pub fn runs(&self) -> bool {
@@ -134,40 +109,59 @@ impl List {
         self.running && self.event == Some(event)
     }
 
-    /// Whether a start would be done; starting a running list is never refused.
-    pub fn may_start(&self) -> bool {
-        let bytes = [self.odts[0].bytes(), self.odts[1].bytes()];
-        let fit = bytes[0] + bytes[1] > 0 && bytes[0] <= ROOM[0] && bytes[1] <= ROOM[1];
-        self.running || (self.event.is_some() && fit)
-    }
-
     pub fn start(&mut self) {
         self.running = true;
     }
 
     pub fn stop(&mut self) {
         self.running = false;
-        self.odts.iter_mut().for_each(|odt| odt.packet.clear());
+        self.unsent = 0;
     }
 
     pub fn has_packet(&self) -> bool {
-        self.odts.iter().any(|odt| odt.packet.waits())
+        self.unsent != 0
     }
 
-    /// The packet to be sent next, ODT 0's before ODT 1's.
-    pub fn next_packet(&mut self) -> Option<&mut Packet> {
-        let mut packets = self.odts.iter_mut().map(|odt| &mut odt.packet);
-        packets.find(|packet| packet.waits())
+    /// Whether the packet of its ODT of this number waits.
+    pub fn waits(&self, odt: usize) -> bool {
+        self.unsent >> odt & 1 == 1
     }
 
-    /// Captures both ODTs at once, so that nothing is read at send time.
-    pub fn sample(&mut self, number: usize, cal: &[u8], meas: &[u8], clock: u16) {
-        let id = 2 * number as u8;
+    /// Captures all of its ODTs at once, so that nothing is read at send time.
+    pub fn sample(
+        &mut self,
+        odts: &mut [Odt],
+        pool: &[Entry],
+        cal: &[u8],
+        meas: &[u8],
+        clock: u16,
+    ) {
         let clock = clock.to_le_bytes();
-        let [first, second] = &mut self.odts;
-        first.capture(&[id, clock[0], clock[1]], cal, meas);
-        if second.bytes() > 0 {
-            second.capture(&[id + 1], cal, meas);
+        let mut id = self.first as u8;
+        let mut bit = 1;
+        let mut odts = odts.iter_mut();
+        // The clock stands in the first packet alone, which is sent whether it has bytes or not.
+        if let Some(odt) = odts.next() {
+            odt.capture(&[id, clock[0], clock[1]], pool, cal, meas);
+            self.unsent = bit;
         }
+        for odt in odts {
+            id += 1;
+            bit <<= 1;
+            odt.capture(&[id], pool, cal, meas);
+            if odt.packet.bytes().len() > 1 {
+                self.unsent |= bit;
+            }
+        }
+    }
+
+    /// The place of the ODT whose packet is next, which no longer waits then.
+    pub fn next_sent(&mut self) -> Option<usize> {
+        if self.unsent == 0 {
+            return None;
+        }
+        let odt = self.unsent.trailing_zeros() as usize;
+        self.unsent &= self.unsent - 1;
+        Some(self.first + odt)
     }
 }

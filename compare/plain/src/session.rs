@@ -1,7 +1,8 @@
 //! What belongs to one session and is gone with it.
 
-use crate::lists::{List, Pointer, LISTS};
+use crate::lists::Pointer;
 use crate::memory::Mta;
+use crate::pool::Pool;
 use crate::seed::Resource;
 
 #[derive(Clone, Debug, PartialEq, Eq)]
@@ -13,7 +14,7 @@ pub struct Session {
     pub seed: Option<(Resource, u32)>,
     pub mta: Mta,
     pub pointer: Pointer,
-    pub lists: [List; LISTS],
+    pub pool: Pool,
 }
 
 impl Session {
@@ -26,11 +27,11 @@ impl Session {
             seed: None,
             mta: Mta::Unset,
             pointer: Pointer::Unset,
-            lists: [List::CLEARED; LISTS],
+            pool: Pool::fresh(),
         }
     }
 
-    /// Ends it: the same as a closed one, but the lists are cleared where they are.
+    /// Ends it: the same as a closed one, but the pool is made a fresh one where it is.
     pub fn end(&mut self) {
         self.open = false;
         self.calibration_locked = true;
@@ -38,7 +39,7 @@ impl Session {
         self.seed = None;
         self.mta = Mta::Unset;
         self.pointer = Pointer::Unset;
-        self.lists.iter_mut().for_each(List::clear);
+        self.pool.end();
     }
 
     pub fn locked_mask(&self) -> u8 {

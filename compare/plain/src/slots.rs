@@ -1,6 +1,5 @@
 //! Which waiting packet leaves in a slot.
 
-use crate::lists::LISTS;
 use crate::packet::Packet;
 use crate::Slave;
 
@@ -18,9 +17,8 @@ impl Slave {
                 Some(&mut self.answer)
             }
             Turn::List(number) => {
-                self.last_served = number;
                 self.last_was_answer = false;
-                self.session.lists[number].next_packet()
+                self.session.pool.serve(number)
             }
         }
     }
@@ -30,16 +28,9 @@ impl Slave {
         if self.answer.waits() && !self.last_was_answer {
             return Some(Turn::Answer);
         }
-        match self.next_list() {
+        match self.session.pool.next_in_turn() {
             Some(number) => Some(Turn::List(number)),
             None => self.answer.waits().then_some(Turn::Answer),
         }
-    }
-
-    /// The round begins after the list served last and ends with that list.
-    fn next_list(&self) -> Option<usize> {
-        (1..=LISTS)
-            .map(|step| (self.last_served + step) % LISTS)
-            .find(|number| self.session.lists[*number].has_packet())
     }
 }

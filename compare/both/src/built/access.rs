@@ -10,7 +10,7 @@ pub fn run(rig: &mut Rig) {
         for extension in [0, 1] {
             rig.begin(1, false);
             rig.lend(LENGTHS[2], LENGTHS[2]);
-            rig.open();
+            rig.open_with(&[[2]]);
             fill(rig);
             if extension == 0 {
                 rig.lend(length, 4096);

@@ -4,8 +4,8 @@ use crate::rig::Rig;
 use crate::tool::{CALIBRATION, LISTS};
 use crate::wire::LONGEST;
 
-/// Packets that are done in an open session.
-const GOOD: [&[u8]; 20] = [
+/// Packets that are done in an open session, those that allocate where it is their turn.
+const GOOD: [&[u8]; 24] = [
     &[0xFF, 0],
     &[0xFE],
     &[0xFD],
@@ -26,7 +26,14 @@ const GOOD: [&[u8]; 20] = [
     &[0xDD, 1],
     &[0xDA],
     &[0xD9],
+    &[0xD6],
+    &[0xD5, 0, 2, 0],
+    &[0xD4, 0, 1, 0, 3],
+    &[0xD3, 0, 1, 0, 2, 4],
 ];
+
+/// The lists of a session that has some; the last ODT has no entries yet.
+const TWO: [&[u8]; 2] = [&[1], &[2, 4, 0]];
 
 /// Around every limit of a byte: modes, lists, sizes and entries, then counts.
 const EDGES: [u8; 18] = [
@@ -39,8 +46,12 @@ const PAIRS: [(u8, u8); 4] = [(0, 2), (1, 0xFF), (0xFF, 1), (0xFF, 0xFF)];
 #[derive(Clone, Copy)]
 enum Situation {
     Locked,
-    /// Both locks open, the address and the pointer unset.
+    /// Both locks open, no lists, the address and the pointer unset.
     Unlocked,
+    /// On the way to lists: nothing, then lists, then ODTs.
+    Freed,
+    Listed,
+    Odts,
     /// The address at calibration bytes, the pointer at a stopped list.
     Set,
     /// The address at measured bytes, the pointer at a list that runs.
@@ -59,13 +70,22 @@ pub fn run(rig: &mut Rig) {
     ];
     for situation in situations {
         for good in GOOD {
-            rig.begin(1, false);
-            prepare(rig, situation);
-            one_command(rig, situation, good);
-            two_wrong(rig, situation, good);
+            attempts(rig, situation, good);
         }
         other_codes(rig, situation);
     }
+    for situation in [Situation::Freed, Situation::Listed, Situation::Odts] {
+        for good in GOOD.iter().filter(|good| good[0] < 0xD9) {
+            attempts(rig, situation, good);
+        }
+    }
+}
+
+fn attempts(rig: &mut Rig, situation: Situation, good: &[u8]) {
+    rig.begin(1, false);
+    prepare(rig, situation);
+    one_command(rig, situation, good);
+    two_wrong(rig, situation, good);
 }
 
 fn prepare(rig: &mut Rig, situation: Situation) {
@@ -74,18 +94,21 @@ fn prepare(rig: &mut Rig, situation: Situation) {
         Situation::Locked => {
             rig.seed(CALIBRATION);
         }
-        Situation::Unlocked => {
-            rig.unlock(CALIBRATION);
-            rig.unlock(LISTS);
+        Situation::Unlocked => unlock(rig),
+        Situation::Freed | Situation::Listed | Situation::Odts => {
+            unlock(rig);
+            allocate(rig, situation);
         }
         Situation::Set => {
-            rig.open();
-            rig.fill(1, [2, 3], 0, 0);
+            unlock(rig);
+            rig.allocate(&TWO);
+            rig.fill(1, &[2, 3], 0, 0);
             rig.set_mode(1, 0);
         }
         Situation::Running => {
-            rig.open();
-            rig.fill(1, [5, 7], 1, 0);
+            unlock(rig);
+            rig.allocate(&TWO);
+            rig.fill(1, &[5, 7], 1, 0);
             rig.set_mode(1, 0);
             rig.turn(1, 1);
             rig.turn(2, 0);
@@ -103,18 +126,34 @@ fn prepare(rig: &mut Rig, situation: Situation) {
     aim(rig, situation);
 }
 
+fn unlock(rig: &mut Rig) {
+    rig.unlock(CALIBRATION);
+    rig.unlock(LISTS);
+}
+
+/// The first steps to lists.
+fn allocate(rig: &mut Rig, situation: Situation) {
+    rig.free();
+    if !matches!(situation, Situation::Freed) {
+        rig.alloc_lists(2);
+    }
+    if let Situation::Odts = situation {
+        rig.alloc_odts(1, 3);
+    }
+}
+
 /// Sets address and pointer anew, since done commands move them.
 fn aim(rig: &mut Rig, situation: Situation) {
     match situation {
-        Situation::Locked | Situation::Unlocked | Situation::Shut => {}
         Situation::Set => {
             rig.set_mta(0, 0x20);
-            rig.point(1, 1, 15);
+            rig.point(1, 1, 3);
         }
         Situation::Running => {
             rig.set_mta(1, 0x20);
             rig.point(1, 0, 0);
         }
+        _ => {}
     }
 }
 
@@ -174,10 +213,10 @@ fn attempt(rig: &mut Rig, situation: Situation, packet: &[u8]) {
             rig.power_up(start);
             prepare(rig, situation);
         }
+        _ if refused => {}
         0xFF | 0xFE | 0xF7 | 0xDE | 0xDD => prepare(rig, situation),
-        0xF6 | 0xF5 | 0xF4 | 0xF3 | 0xF0 | 0xED | 0xE2 | 0xE1 if !refused => {
-            aim(rig, situation);
-        }
+        0xD3..=0xD6 => prepare(rig, situation),
+        0xF6 | 0xF5 | 0xF4 | 0xF3 | 0xF0 | 0xED | 0xE2 | 0xE1 => aim(rig, situation),
         _ => {}
     }
     rig.event(0, 0x0102);

@@ -2,11 +2,13 @@
 
 use crate::rig::Rig;
 use crate::seen::LENGTHS;
-use crate::tool::{rising, CALIBRATION, LISTS};
+use crate::tool::{rising, CALIBRATION, FOUR, LISTS};
 use crate::wire::FRAME;
 
 /// As many bytes as each ODT holds.
 const FULL: [u8; 2] = [61, 63];
+/// Four lists for few bytes.
+const SMALL: [[u8; 2]; 4] = [[2, 2]; 4];
 
 pub fn run(rig: &mut Rig) {
     sizes(
@@ -34,12 +36,12 @@ pub fn run(rig: &mut Rig) {
 fn sizes(rig: &mut Rig, list: u8, firsts: &[u8], seconds: &[u8]) {
     for &first in firsts {
         rig.begin(1, false);
-        rig.open();
+        rig.open_with(&FOUR);
         rig.measure(0, &rising(64));
         rig.measure(0, &[0x9A, 2, 3, 0x9B]);
         for &second in seconds {
             // Without a mode it never starts.
-            rig.fill(list, [first, second], 1, 0);
+            rig.fill(list, &[first, second], 1, 0);
             rig.turn(1, list);
             rig.set_mode(list, first % 2);
             rig.turn(1, list);
@@ -59,7 +61,7 @@ fn sizes(rig: &mut Rig, list: u8, firsts: &[u8], seconds: &[u8]) {
 /// The pointer steps to the end of its ODT and not beyond.
 fn pointer(rig: &mut Rig) {
     rig.begin(1, false);
-    rig.open();
+    rig.open_with(&FOUR);
     for list in 0..4 {
         for odt in 0..2 {
             rig.point(list, odt, 0);
@@ -89,7 +91,7 @@ fn shown(rig: &mut Rig, list: u8) {
 fn entries(rig: &mut Rig) {
     for list in 0..4 {
         rig.begin(1, false);
-        rig.open();
+        rig.open_with(&FOUR);
         rig.measure(0, &rising(200));
         for odt in 0..2 {
             rig.point(list, odt, 0);
@@ -116,9 +118,9 @@ fn entries(rig: &mut Rig) {
 fn cleared(rig: &mut Rig) {
     for bytes in [[1, 0], [0, 1]] {
         rig.begin(1, false);
-        rig.open();
+        rig.open_with(&SMALL);
         for list in 0..4 {
-            rig.fill(list, bytes, 1, 0);
+            rig.fill(list, &bytes, 1, 0);
             rig.set_mode(list, 0);
             rig.turn(2, list);
             rig.ask(&[0xE3, 0, list, 0]);
@@ -131,8 +133,9 @@ fn cleared(rig: &mut Rig) {
 
 /// However a full list came to be empty, an entry that is written then stands alone.
 fn emptied(rig: &mut Rig) {
-    let ways: [&[u8]; 4] = [
+    let ways: [&[u8]; 5] = [
         &[0xE3, 0, 2, 0],
+        &[0xD6],
         &[0xFF, 0],
         &[0xFE],
         &[0xF7, 4, 0, 0, 0, 0],
@@ -144,7 +147,8 @@ fn emptied(rig: &mut Rig) {
             rig.connect();
             rig.unlock(LISTS);
             rig.seed(CALIBRATION);
-            rig.fill(2, FULL, 1, 0);
+            rig.allocate(&FOUR);
+            rig.fill(2, &FULL, 1, 0);
             shown(rig, 2);
             match ways.get(way) {
                 Some(packet) => {
@@ -152,7 +156,11 @@ fn emptied(rig: &mut Rig) {
                 }
                 None => rig.power_up(1),
             }
-            rig.open();
+            match way {
+                0 => {}
+                1 => rig.allocate(&FOUR),
+                _ => rig.open_with(&FOUR),
+            }
             for odt in 0..2 {
                 rig.point(2, odt, entry);
                 rig.write_entry(size, 1, 100);
@@ -166,17 +174,17 @@ fn emptied(rig: &mut Rig) {
 /// Every count of lists that sample and that miss.
 fn counts(rig: &mut Rig) {
     rig.begin(1, false);
-    rig.open();
-    for list in 0..4 {
-        rig.fill(list, [1 + list, 0], 1, 0);
+    rig.open_with(&[[2]; 8]);
+    for list in 0..8 {
+        rig.fill(list, &[1 + list], 1, 0);
         rig.set_mode(list, 1);
     }
-    for running in 0..5 {
+    for running in 0..9 {
+        rig.ask(&[0xDD, 0]);
+        for list in 0..running {
+            rig.turn(1, list);
+        }
         for sent in 0..=running {
-            rig.ask(&[0xDD, 0]);
-            for list in 0..running {
-                rig.turn(1, list);
-            }
             rig.drain();
             rig.event(1, 7);
             for _ in 0..sent {
@@ -194,9 +202,9 @@ fn selections(rig: &mut Rig) {
     for unfit in [false, true] {
         for mode in 0..4 {
             rig.begin(1, false);
-            rig.open();
+            rig.open_with(&SMALL);
             for list in 0..4 {
-                rig.fill(list, [1, 1], 0, 0);
+                rig.fill(list, &[1, 1], 0, 0);
                 if list < 3 || !unfit {
                     rig.set_mode(list, 0);
                 }
@@ -223,7 +231,7 @@ fn selections(rig: &mut Rig) {
 /// A list that is selected before it is stopped and set up stays so.
 fn selected_first(rig: &mut Rig) {
     rig.begin(1, false);
-    rig.open();
+    rig.open_with(&SMALL);
     for list in 0..4 {
         rig.turn(2, list);
         rig.turn(0, list);
@@ -239,10 +247,10 @@ fn selected_first(rig: &mut Rig) {
 /// Answers and lists in turn, after every list served last.
 fn turns(rig: &mut Rig) {
     rig.begin(1, false);
-    rig.open();
+    rig.open_with(&FOUR);
     for list in 0..4 {
         let bytes = if list == 1 { FULL } else { [5, 7] };
-        rig.fill(list, bytes, 1, u32::from(list));
+        rig.fill(list, &bytes, 1, u32::from(list));
         rig.set_mode(list, list % 2);
         rig.turn(1, list);
         // It runs, so its mode stays.
@@ -267,13 +275,13 @@ fn turns(rig: &mut Rig) {
 fn shrunk(rig: &mut Rig) {
     for extension in [0, 1] {
         rig.begin(1, false);
-        rig.open();
+        rig.open_with(&FOUR);
         rig.measure(4088, &[1, 2, 3, 4, 5, 6, 7, 8]);
         rig.set_mta(0, 4090);
         rig.ask(&[0xF0, 6, 11, 12, 13, 14, 15, 16]);
-        rig.fill(0, [4, 4], extension, 4092);
-        rig.fill(1, [4, 4], extension, 0);
-        rig.fill(2, FULL, extension, 4033);
+        rig.fill(0, &[4, 4], extension, 4092);
+        rig.fill(1, &[4, 4], extension, 0);
+        rig.fill(2, &FULL, extension, 4033);
         for list in 0..3 {
             rig.set_mode(list, 0);
             rig.turn(1, list);
@@ -288,13 +296,14 @@ fn shrunk(rig: &mut Rig) {
     }
 }
 
-/// Everything that drops what waits: stop, clear, CONNECT, DISCONNECT, a wrong key, power-up.
+/// Everything that drops what waits: stop, clear, FREE_DAQ, CONNECT, DISCONNECT, a wrong key, power-up.
 fn endings(rig: &mut Rig) {
-    let ends: [&[u8]; 7] = [
+    let ends: [&[u8]; 8] = [
         &[0xDE, 0, 2, 0],
         &[0xDD, 0],
         &[0xDD, 2],
         &[0xE3, 0, 2, 0],
+        &[0xD6],
         &[0xFF, 0],
         &[0xFE],
         &[0xF7, 4, 0, 0, 0, 0],
@@ -305,7 +314,8 @@ fn endings(rig: &mut Rig) {
             rig.connect();
             rig.unlock(LISTS);
             rig.seed(CALIBRATION);
-            rig.fill(2, [5, 7], 1, 0);
+            rig.allocate(&SMALL);
+            rig.fill(2, &[5, 7], 1, 0);
             rig.set_mode(2, 0);
             rig.turn(2, 2);
             rig.turn(1, 2);

@@ -1,9 +1,11 @@
 //! Sequences built for what chance would seldom meet.
 
 mod access;
+mod allocation;
 mod commands;
 mod lists;
 mod session;
+mod shapes;
 mod sizes;
 mod wire;
 mod wrong_keys;
@@ -17,6 +19,8 @@ pub fn run(rig: &mut Rig) {
     access::run(rig);
     sizes::run(rig);
     lists::run(rig);
+    shapes::run(rig);
+    allocation::run(rig);
     wire::run(rig);
     commands::run(rig);
 }

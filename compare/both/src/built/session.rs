@@ -129,15 +129,20 @@ fn renewed_seed(rig: &mut Rig, resource: u8) {
     status(rig);
 }
 
-/// A renewal forgets mode and entries: a list that gets one of them again lacks the other.
+/// A renewal, and FREE_DAQ, forget mode and entries: a list that gets one of them again lacks the other.
 fn renewed_lists(rig: &mut Rig) {
-    for mode_alone in [true, false] {
+    let lists = [[1, 1]; 4];
+    for (mode_alone, freed) in [(true, false), (false, false), (true, true), (false, true)] {
         rig.begin(1, false);
         for list in 0..4 {
-            rig.open();
-            rig.fill(list, [2, 3], 1, 0);
+            rig.open_with(&lists);
+            rig.fill(list, &[2, 3], 1, 0);
             rig.set_mode(list, 1);
-            rig.open();
+            if freed {
+                rig.allocate(&lists);
+            } else {
+                rig.open_with(&lists);
+            }
             if mode_alone {
                 rig.set_mode(list, 1);
             } else {
@@ -151,7 +156,8 @@ fn renewed_lists(rig: &mut Rig) {
     }
 }
 
-/// However a session ends, the next has no address, no pointer and no selection.
+/// However a session ends, the next has no address, no pointer and no selection, also where its lists
+/// are like those before.
 fn anew(rig: &mut Rig) {
     let ends: [&[u8]; 3] = [&[0xFF, 0], &[0xFE], &[0xF7, 4, 0, 0, 0, 0]];
     for end in ends {
@@ -159,12 +165,16 @@ fn anew(rig: &mut Rig) {
         rig.connect();
         rig.unlock(LISTS);
         rig.seed(CALIBRATION);
+        rig.allocate(&[[1], [1]]);
         rig.turn(2, 1);
         rig.point(1, 0, 0);
         rig.set_mta(0, 0);
         rig.ask(end);
         rig.open();
         rig.ask(&[0xF5, 1]);
+        rig.write_entry(1, 1, 0);
+        rig.ask(&[0xDD, 1]);
+        rig.allocate(&[[1], [1]]);
         rig.write_entry(1, 1, 0);
         rig.ask(&[0xDD, 1]);
     }

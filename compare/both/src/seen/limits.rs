@@ -5,7 +5,7 @@ use crate::wire::LONGEST;
 
 type Case = (&'static str, fn(&[u8], &[u8]) -> bool);
 
-const CASES: [Case; 26] = [
+const CASES: [Case; 24] = [
     ("a packet of 64 bytes done", |p, a| {
         p.len() == LONGEST && a[0] == 0xFF
     }),
@@ -87,12 +87,6 @@ const CASES: [Case; 26] = [
         "a SHORT_DOWNLOAD refused to measured bytes, not inside too",
         |p, a| has_head(p) && block_end(p) > 5000 && a == [0xFE, 0x23],
     ),
-    ("a SET_DAQ_PTR to entry 15", |p, a| {
-        matches!(p, [0xE2, _, _, _, _, 15, ..]) && a == [0xFF]
-    }),
-    ("a SET_DAQ_PTR to entry 16 refused", |p, a| {
-        matches!(p, [0xE2, _, 0..=3, 0, 0 | 1, 16, ..]) && a == [0xFE, 0x22]
-    }),
 ];
 
 #[derive(Default)]

@@ -1,212 +1,230 @@
 //! What a start covers by the entries of its list, and by those that it had and lost.
 
+use super::cases::LISTS;
 use super::named;
+use super::setup::{Emptied, Entry, List, Setup};
 
-const LISTS: usize = 4;
-const ODTS: usize = 2;
-const ENTRIES: usize = 16;
-/// The most bytes of ODT 0 and of ODT 1.
-const MOST: [usize; ODTS] = [61, 63];
+/// The most bytes of a list's first ODT and of each later one.
+const FIRST: usize = 61;
+const LATER: usize = 63;
 
-/// The cases, in the order of their names; first those of an empty entry before another.
-#[derive(Clone, Copy, PartialEq)]
-enum Case {
-    Overwritten,
-    Cleared,
-    Ended,
-    PoweredUp,
-    NeverWritten,
-    FirstFull,
-    SecondFull,
-    AllEntries,
-    FirstOver,
-    SecondOver,
-    BehindLast,
-}
+type Case = (&'static str, fn(&List) -> bool);
 
-const NAMES: [&str; 11] = [
-    "a start with an entry behind one that was written over with no bytes",
-    "a start with an entry behind one that CLEAR_DAQ_LIST emptied",
-    "a start with an entry behind one that a session's end emptied",
-    "a start with an entry behind one that a power-up emptied",
-    "a start with an entry behind one that was never written",
-    "a start with 61 bytes in ODT 0",
-    "a start with 63 bytes in ODT 1",
-    "a start with sixteen entries in each ODT",
-    "a start refused for 62 bytes in ODT 0",
-    "a start refused for 64 bytes in ODT 1",
-    "a WRITE_DAQ refused behind the sixteenth entry",
+/// Of a list that starts.
+const STARTED: [Case; 17] = [
+    (
+        "a start with an entry behind one that was written over with no bytes",
+        |list| empty_before(list, Emptied::Overwritten),
+    ),
+    (
+        "a start with an entry behind one that CLEAR_DAQ_LIST emptied",
+        |list| empty_before(list, Emptied::Cleared),
+    ),
+    (
+        "a start with an entry behind one of ODT 15 that CLEAR_DAQ_LIST emptied",
+        |list| {
+            list.odts
+                .get(15)
+                .map_or(false, |odt| has_before(odt, Emptied::Cleared))
+        },
+    ),
+    (
+        "a start with an entry behind one that had bytes before a FREE_DAQ",
+        |list| empty_before(list, Emptied::Freed),
+    ),
+    (
+        "a start with an entry behind one that had bytes before a session's end",
+        |list| empty_before(list, Emptied::Ended),
+    ),
+    (
+        "a start with an entry behind one that had bytes before a power-up",
+        |list| empty_before(list, Emptied::PoweredUp),
+    ),
+    (
+        "a start with an entry behind one that was never written",
+        |list| empty_before(list, Emptied::NeverWritten),
+    ),
+    ("a start with 61 bytes in the first ODT", |list| {
+        list.bytes().next() == Some(FIRST)
+    }),
+    ("a start with 63 bytes in a later ODT", |list| {
+        list.bytes().skip(1).any(|bytes| bytes == LATER)
+    }),
+    ("a start with 63 bytes in ODT 15", |list| {
+        list.bytes().nth(15) == Some(LATER)
+    }),
+    ("a start with sixteen entries in each of two ODTs", |list| {
+        list.odts.len() == 2 && list.odts.iter().all(|odt| odt.len() == 16)
+    }),
+    ("a start with bytes in sixteen ODTs", |list| {
+        list.odts.len() == 16 && list.bytes().all(|bytes| bytes > 0)
+    }),
+    ("a start with 128 entries in one ODT", |list| {
+        list.odts.iter().any(|odt| odt.len() == 128)
+    }),
+    ("a start with bytes in entry 127", |list| {
+        let mut odts = list.odts.iter();
+        odts.any(|odt| odt.get(127).map_or(false, |entry| entry.size > 0))
+    }),
+    ("a start with no bytes in the first ODT", |list| {
+        list.bytes().next() == Some(0)
+    }),
+    ("a start with no entries in the first ODT", |list| {
+        list.odts[0].is_empty()
+    }),
+    ("a start with no entries in an ODT before others", |list| {
+        let last = list.bytes().collect::<Vec<_>>();
+        let last = last.iter().rposition(|bytes| *bytes > 0).unwrap_or(0);
+        list.odts.iter().take(last).skip(1).any(Vec::is_empty)
+    }),
 ];
 
-#[derive(Clone, Copy)]
-struct Entry {
-    size: u8,
-    /// What emptied it, while it is empty.
-    emptied: Case,
-}
+/// Of a list with a mode that does not start.
+const UNFIT: [Case; 8] = [
+    ("a start refused for 62 bytes in the first ODT", |list| {
+        over(list) == [(0, FIRST + 1)]
+    }),
+    ("a start refused for 64 bytes in ODT 1", |list| {
+        over(list) == [(1, LATER + 1)]
+    }),
+    ("a start refused for 64 bytes in ODT 15", |list| {
+        over(list) == [(15, LATER + 1)]
+    }),
+    (
+        "a start refused for 64 bytes in an ODT between",
+        |list| matches!(over(list)[..], [(odt, 64)] if odt > 1 && odt + 1 < list.odts.len()),
+    ),
+    ("a start refused for 256 bytes in an ODT", |list| {
+        over(list).iter().any(|(_, bytes)| *bytes == 256)
+    }),
+    ("a start refused without ODTs", |list| list.odts.is_empty()),
+    ("a start refused without entries", |list| {
+        !list.odts.is_empty() && list.odts.iter().all(Vec::is_empty)
+    }),
+    ("a start refused without bytes", |list| {
+        list.odts.iter().any(|odt| !odt.is_empty()) && list.bytes().all(|bytes| bytes == 0)
+    }),
+];
 
-const NEW: Entry = Entry {
-    size: 0,
-    emptied: Case::NeverWritten,
-};
+type SynchCase = (&'static str, fn(&[List], u8, bool) -> bool);
 
-#[derive(Clone, Copy)]
-struct List {
-    odts: [[Entry; ENTRIES]; ODTS],
-    has_mode: bool,
-}
+/// Of a START_STOP_SYNCH: by the lists, its mode, and whether it was done.
+const SYNCH: [SynchCase; 6] = [
+    ("a start of eight lists at once", |lists, mode, done| {
+        done && mode == 1 && selected(lists).len() == LISTS
+    }),
+    ("a start at once of list 7 alone", |lists, mode, done| {
+        done && mode == 1 && selected(lists) == [7]
+    }),
+    (
+        "a start at once refused for list 7 alone",
+        |lists, mode, done| !done && mode == 1 && selected(lists) == [7],
+    ),
+    (
+        "a start at once refused for one of eight",
+        |lists, mode, done| {
+            let without = |list: &&List| list.event.is_none();
+            let unfit = lists.iter().filter(without).count();
+            !done && mode == 1 && selected(lists).len() == LISTS && unfit == 1
+        },
+    ),
+    (
+        "a stop at once of list 7 alone of eight that run",
+        |lists, mode, _| mode == 2 && selected(lists) == [7] && running(lists).len() == LISTS,
+    ),
+    ("a stop of eight lists at once", |lists, mode, _| {
+        mode == 0 && running(lists).len() == LISTS
+    }),
+];
 
-const EMPTY: List = List {
-    odts: [[NEW; ENTRIES]; ODTS],
-    has_mode: false,
-};
-
-impl List {
-    fn empty(&mut self, how: Case) {
-        self.has_mode = false;
-        for entry in self.odts.iter_mut().flatten() {
-            entry.write(0, how);
-        }
-    }
-
-    fn bytes(&self) -> [usize; ODTS] {
-        self.odts
-            .map(|odt| odt.iter().map(|entry| usize::from(entry.size)).sum())
-    }
-}
-
-impl Entry {
-    fn write(&mut self, size: u8, how: Case) {
-        if self.size > 0 {
-            self.emptied = how;
-        }
-        self.size = size;
-    }
-}
-
+#[derive(Default)]
 pub struct Lists {
-    lists: [List; LISTS],
-    /// List, ODT and entry.
-    pointer: Option<[usize; 3]>,
-    /// The last entry of an ODT was written, and nothing was pointed at since.
-    behind_last: bool,
-    /// No command came that nobody knows.
-    known: bool,
-    counts: [u64; NAMES.len()],
-}
-
-impl Default for Lists {
-    fn default() -> Lists {
-        Lists {
-            lists: [EMPTY; LISTS],
-            pointer: None,
-            behind_last: false,
-            known: false,
-            counts: [0; NAMES.len()],
-        }
-    }
+    started: [u64; STARTED.len()],
+    unfit: [u64; UNFIT.len()],
+    synch: [u64; SYNCH.len()],
+    /// By the one list that ran at a GET_STATUS.
+    alone: [u64; LISTS],
 }
 
 impl Lists {
-    /// Another slave.
-    pub fn begin(&mut self) {
-        *self = Lists {
-            counts: self.counts,
-            ..Lists::default()
+    /// With the lists as they are by this answer.
+    pub fn answered(&mut self, setup: &Setup, packet: &[u8], answer: &[u8]) {
+        let list = match (packet, setup.known) {
+            ([0xDE, 1, ..], true) => setup.list(packet),
+            _ => None,
         };
-    }
-
-    pub fn power_up(&mut self) {
-        self.end(Case::PoweredUp);
-    }
-
-    /// A command that nobody knows: all may be otherwise until the lists are emptied.
-    pub fn forget(&mut self) {
-        self.known = false;
-    }
-
-    pub fn answered(&mut self, packet: &[u8], answer: &[u8]) {
-        match (packet[0], answer) {
-            (0xFF | 0xFE, [0xFF, ..]) | (0xF7, [0xFE, 0x25]) => self.end(Case::Ended),
-            (0xE3, [0xFF]) => self.lists[usize::from(packet[2])].empty(Case::Cleared),
-            (0xE2, [0xFF]) => {
-                self.pointer = Some([packet[2], packet[4], packet[5]].map(usize::from));
-                self.behind_last = false;
+        match (answer, list) {
+            ([0xFF, _], Some(list)) => count(&mut self.started, &STARTED, list),
+            ([0xFE, 0x2A], Some(list)) if list.event.is_some() => {
+                count(&mut self.unfit, &UNFIT, list);
             }
-            (0xE1, [0xFF]) => self.written(packet[2]),
-            (0xE1, [0xFE, 0x29]) if self.behind_last => self.count(Case::BehindLast),
-            (0xE0, [0xFF]) => self.lists[usize::from(packet[2])].has_mode = true,
-            (0xDE, [0xFF, _]) if packet[1] == 1 => self.started(usize::from(packet[2])),
-            (0xDE, [0xFE, 0x2A]) => self.unfit(usize::from(packet[2])),
+            _ => {}
+        }
+        if setup.known {
+            self.together(&setup.lists, packet, answer);
+        }
+    }
+
+    /// What is of all lists together.
+    fn together(&mut self, lists: &[List], packet: &[u8], answer: &[u8]) {
+        match (packet, answer) {
+            ([0xFD, ..], _) => {
+                if let [list] = running(lists)[..] {
+                    self.alone[list] += 1;
+                }
+            }
+            ([0xDD, mode, ..], [0xFF] | [0xFE, 0x2A]) => {
+                for (count, (_, is)) in self.synch.iter_mut().zip(SYNCH) {
+                    *count += u64::from(is(lists, *mode, answer == [0xFF]));
+                }
+            }
             _ => {}
         }
     }
 
     pub fn cells(&self) -> Vec<(String, u64)> {
-        named(&NAMES, &self.counts)
+        let mut cells = named(&STARTED.map(|case| case.0), &self.started);
+        cells.extend(named(&UNFIT.map(|case| case.0), &self.unfit));
+        cells.extend(named(&SYNCH.map(|case| case.0), &self.synch));
+        for (list, count) in self.alone.iter().enumerate() {
+            cells.push((
+                format!("a GET_STATUS while list {} alone runs", list),
+                *count,
+            ));
+        }
+        cells
     }
+}
 
-    fn count(&mut self, case: Case) {
-        self.counts[case as usize] += u64::from(self.known);
+fn count(counts: &mut [u64], cases: &[Case], list: &List) {
+    for (count, (_, is)) in counts.iter_mut().zip(cases) {
+        *count += u64::from(is(list));
     }
+}
 
-    fn end(&mut self, how: Case) {
-        self.lists.iter_mut().for_each(|list| list.empty(how));
-        self.pointer = None;
-        self.behind_last = false;
-        self.known = true;
-    }
+/// Whether an entry that was emptied so stands before one with bytes.
+fn empty_before(list: &List, how: Emptied) -> bool {
+    list.odts.iter().any(|odt| has_before(odt, how))
+}
 
-    fn written(&mut self, size: u8) {
-        if let Some([list, odt, entry]) = self.pointer {
-            self.lists[list].odts[odt][entry].write(size, Case::Overwritten);
-            self.behind_last = entry + 1 == ENTRIES;
-            self.pointer = (!self.behind_last).then_some([list, odt, entry + 1]);
-        }
-    }
+fn has_before(odt: &[Entry], how: Emptied) -> bool {
+    let last = odt.iter().rposition(|entry| entry.size > 0).unwrap_or(0);
+    let mut before = odt[..last].iter();
+    before.any(|entry| entry.size == 0 && entry.emptied == how)
+}
 
-    fn started(&mut self, list: usize) {
-        let list = self.lists[list];
-        for odt in list.odts {
-            self.empty_before(&odt);
-        }
-        let bytes = list.bytes();
-        if bytes[0] == MOST[0] {
-            self.count(Case::FirstFull);
-        }
-        if bytes[1] == MOST[1] {
-            self.count(Case::SecondFull);
-        }
-        if list.odts.iter().flatten().all(|entry| entry.size > 0) {
-            self.count(Case::AllEntries);
-        }
-    }
+/// The numbers of those that are selected.
+fn selected(lists: &[List]) -> Vec<usize> {
+    (0..lists.len()).filter(|l| lists[*l].selected).collect()
+}
 
-    /// Every way in which entries before the last one with bytes came to have none.
-    fn empty_before(&mut self, odt: &[Entry; ENTRIES]) {
-        let last = odt.iter().rposition(|entry| entry.size > 0).unwrap_or(0);
-        for how in [
-            Case::Overwritten,
-            Case::Cleared,
-            Case::Ended,
-            Case::PoweredUp,
-            Case::NeverWritten,
-        ] {
-            if odt[..last].iter().any(|e| e.size == 0 && e.emptied == how) {
-                self.count(how);
-            }
-        }
-    }
+fn running(lists: &[List]) -> Vec<usize> {
+    (0..lists.len()).filter(|l| lists[*l].runs).collect()
+}
 
-    /// A list was refused that has a mode, and whose other ODT fits.
-    fn unfit(&mut self, list: usize) {
-        let list = self.lists[list];
-        let [first, second] = list.bytes();
-        if list.has_mode && first == MOST[0] + 1 && second <= MOST[1] {
-            self.count(Case::FirstOver);
-        }
-        if list.has_mode && second == MOST[1] + 1 && first <= MOST[0] {
-            self.count(Case::SecondOver);
-        }
-    }
+/// The ODTs that have too many bytes, and how many.
+fn over(list: &List) -> Vec<(usize, usize)> {
+    let most = |odt: usize| if odt == 0 { FIRST } else { LATER };
+    let bytes = list.bytes().enumerate();
+    bytes.filter(|(odt, bytes)| *bytes > most(*odt)).collect()
 }

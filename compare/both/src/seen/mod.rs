@@ -1,10 +1,14 @@
 //! What was covered: each number of each call, each kind of frame, each command with each answer.
 
 mod answers;
+mod cases;
 mod keys;
 mod limits;
 mod lists;
 mod past;
+mod pool;
+mod samples;
+mod setup;
 
 use crate::effect::Effect;
 use crate::proved::STATE;
@@ -15,6 +19,9 @@ use keys::Keys;
 use limits::Limits;
 use lists::Lists;
 use past::{Asked, Past};
+use pool::Pool;
+use samples::Samples;
+use setup::{Emptied, Setup};
 
 pub const LENGTHS: [usize; 5] = [0, 1, 4095, 4096, 5000];
 /// Room for a slot: none, what was enough while packets had 8 bytes, around what is, and more.
@@ -34,22 +41,22 @@ pub struct Seen {
     answers: Answers,
     past: Past,
     keys: Keys,
+    setup: Setup,
     lists: Lists,
+    pool: Pool,
+    samples: Samples,
     limits: Limits,
     /// The command whose answer waits, where it is known.
     asked: Option<Asked>,
     byte: [u64; 11],
     bad_len: [u64; BAD_LENS.len()],
-    /// By the lists that sampled, then those that missed.
-    sampled: [[u64; 5]; 5],
     event: [u64; 11],
     slot: [u64; 11],
     power_up: [u64; 11],
     no_frame: u64,
     answer_frame: u64,
-    list_frame: [u64; 8],
-    /// A packet sent with all the bytes it can have: of ODT 0, of ODT 1, an answer.
-    longest: [u64; 3],
+    /// An answer sent with all the bytes it can have.
+    longest: u64,
     /// A frame sent with an escaped CTR, packet byte, checksum.
     escaped: [u64; 3],
     /// A CTR of 0 after one of 255.
@@ -65,7 +72,12 @@ impl Seen {
     /// Two new slaves, which have no past.
     pub fn begin(&mut self) {
         self.keys.begin();
-        self.lists.begin();
+        self.setup = Setup::default();
+    }
+
+    /// What the tool has made of its lists so far.
+    pub fn setup(&self) -> &Setup {
+        &self.setup
     }
 
     pub fn call(&mut self, step: &Step, effect: &Effect) {
@@ -96,7 +108,7 @@ impl Seen {
                 self.asked = None;
                 self.past.forget();
                 self.keys.power_up();
-                self.lists.power_up();
+                self.setup.end(Emptied::PoweredUp);
             }
             (Call::Byte(len), 3) => {
                 if let Some(at) = BAD_LENS.iter().position(|l| l == len) {
@@ -105,14 +117,18 @@ impl Seen {
             }
             // Which command that was is known only where a whole packet was sent.
             (Call::Byte(_), 1) => self.asked = None,
-            (Call::Event(..), 0) => self.sample(step, effect.result as usize),
+            (Call::Event(event, _), 0) => {
+                self.samples
+                    .event(&mut self.setup, *event, effect.result as usize);
+                self.lent(step, effect.result as usize);
+            }
             (Call::Slot(_), 0) => self.no_frame += u64::from(effect.result == 0),
             _ => {}
         }
     }
 
-    fn sample(&mut self, step: &Step, counts: usize) {
-        self.sampled[counts / 256][counts % 256] += 1;
+    /// Memories that samples were taken of.
+    fn lent(&mut self, step: &Step, counts: usize) {
         if counts / 256 > 0 {
             self.memory(0, step.cal, SAMPLED);
             self.memory(1, step.meas, SAMPLED);
@@ -136,26 +152,19 @@ impl Seen {
 
     /// A slot has sent this frame, which has this packet.
     pub fn sent(&mut self, ctr: u8, frame: &[u8], packet: &[u8]) {
-        match packet[0] {
-            number @ 0..=7 => self.list_frame[number as usize] += 1,
-            _ => {
-                self.answer_frame += 1;
-                match self.asked.take() {
-                    Some(asked) => self.answered(&asked, packet),
-                    None => {
-                        self.past.forget();
-                        self.lists.forget();
-                        self.keys.unknown(packet);
-                    }
+        if packet[0] < 0xFE {
+            self.samples.sent(&mut self.setup, packet);
+        } else {
+            self.answer_frame += 1;
+            self.longest += u64::from(packet.len() == LONGEST);
+            match self.asked.take() {
+                Some(asked) => self.answered(&asked, packet),
+                None => {
+                    self.past.forget();
+                    self.setup.forget();
+                    self.keys.unknown(packet);
                 }
             }
-        }
-        if packet.len() == LONGEST {
-            let what = match packet[0] {
-                number @ 0..=7 => usize::from(number % 2),
-                _ => 2,
-            };
-            self.longest[what] += 1;
         }
         let special = |byte: u8| matches!(byte, wire::SYNC | wire::ESC);
         let escapes = frame.iter().filter(|b| **b == wire::ESC).count();
@@ -187,8 +196,11 @@ impl Seen {
         }
         self.past.answered(asked, answer);
         self.keys.answered(&asked.packet, answer);
-        self.lists.answered(&asked.packet, answer);
         self.limits.answered(&asked.packet, answer);
+        self.lists.answered(&self.setup, &asked.packet, answer);
+        self.pool.answered(&self.setup, &asked.packet, answer);
+        self.samples.answered(&self.setup, &asked.packet, answer);
+        self.setup.answered(&asked.packet, answer);
     }
 
     /// Prints all of it and returns how much is wrong: not covered, or not in the paper.
@@ -213,25 +225,13 @@ impl Seen {
         missing.len() + self.answers.beyond.len()
     }
 
-    /// Every count of lists that sampled and that missed.
-    fn samples(&self) -> Vec<(String, u64)> {
-        let mut samples = Vec::new();
-        for (sampled, row) in self.sampled.iter().enumerate() {
-            for (missed, count) in row.iter().enumerate().take(5 - sampled) {
-                samples.push((format!("{} and {}", sampled, missed), *count));
-            }
-        }
-        samples
-    }
-
     fn frames(&self) -> Vec<(String, u64)> {
         let mut frames = vec![
             ("none".to_string(), self.no_frame),
             ("answer".to_string(), self.answer_frame),
+            ("longest answer".to_string(), self.longest),
         ];
-        for (number, count) in self.list_frame.iter().enumerate() {
-            frames.push((format!("packet {:02X}", number), *count));
-        }
+        frames.extend(self.samples.frames());
         frames
     }
 
@@ -243,8 +243,6 @@ impl Seen {
             .zip(self.escaped)
             .collect();
         oddities.push(("CTR from 255 to 0".to_string(), self.wrapped));
-        let longest = ["64 bytes of ODT 0", "of ODT 1", "of an answer"];
-        oddities.extend(named(&longest, &self.longest));
         oddities
     }
 
@@ -266,14 +264,16 @@ impl Seen {
         let numbers = |all: &[u64; 11], which: &[usize]| -> Vec<(String, u64)> {
             which.iter().map(|n| (n.to_string(), all[*n])).collect()
         };
-        vec![
+        let mut groups = vec![
             (
                 "Numbers of a received byte",
                 numbers(&self.byte, &[0, 1, 2, 3, 4, 5, 6, 7, 10]),
             ),
             ("LEN refused", named(&BAD_LENS, &self.bad_len)),
             ("Numbers of an event", numbers(&self.event, &[0, 8, 10])),
-            ("Lists that sampled and that missed", self.samples()),
+            ("Lists that sampled and that missed", self.samples.counts()),
+            ("Packets of a sample sent whole", self.samples.packets()),
+            ("Samples", self.samples.cells()),
             ("Numbers of a slot", numbers(&self.slot, &[0, 9, 10])),
             ("Frames of a slot", self.frames()),
             ("Frames with", self.oddities()),
@@ -293,7 +293,9 @@ impl Seen {
                 "Calls before any power-up",
                 vec![("refused".to_string(), self.never_powered)],
             ),
-        ]
+        ];
+        groups.extend(self.pool.groups());
+        groups
     }
 }
 

@@ -21,6 +21,10 @@ enum Case {
     OldKey,
     ModeAlone,
     EntriesAlone,
+    ModeAloneFreed,
+    EntriesAloneFreed,
+    OldAddress,
+    KeptKey,
     BehindUpload,
     FirstByUpload,
     LeftByUpload,
@@ -33,15 +37,19 @@ enum Case {
     WriteBehindDownload,
 }
 
-const NAMES: [&str; 18] = [
+const NAMES: [&str; 22] = [
     "a sum above 65,535",
     "a calibration key that wraps",
     "a list key that wraps",
     "a key with bytes after it",
     "a key whose seed outlived a GET_SEED of no bytes",
     "a key to a seed that a renewal forgot",
-    "a start of a list that a renewal cleared, its mode set again",
-    "a start of a list that a renewal cleared, its entries written again",
+    "a start of a list like one before a renewal, its mode set again",
+    "a start of a list like one before a renewal, its entries written again",
+    "a start of a list like one before a FREE_DAQ, its mode set again",
+    "a start of a list like one before a FREE_DAQ, its entries written again",
+    "an UPLOAD right after a FREE_DAQ, from the address before it",
+    "a key right after a FREE_DAQ, to the seed before it",
     "an UPLOAD right behind the block of a SHORT_UPLOAD",
     "an UPLOAD behind a SHORT_UPLOAD that found no address set",
     "an UPLOAD from the address that a refused SHORT_UPLOAD left",
@@ -73,8 +81,8 @@ struct Session {
     mta: Option<(u8, u32)>,
     short: Option<Short>,
     pointer: usize,
-    has_mode: [bool; 4],
-    has_entries: [bool; 4],
+    has_mode: [bool; 8],
+    has_entries: [bool; 8],
 }
 
 #[derive(Default)]
@@ -82,6 +90,10 @@ pub struct Past {
     now: Session,
     /// What the last CONNECT found, if that renewed a session.
     renewed: Session,
+    /// What the last FREE_DAQ found.
+    freed: Session,
+    /// The command before was a FREE_DAQ.
+    just_freed: bool,
     counts: [u64; NAMES.len()],
 }
 
@@ -90,6 +102,8 @@ impl Past {
     pub fn forget(&mut self) {
         self.now = Session::default();
         self.renewed = Session::default();
+        self.freed = Session::default();
+        self.just_freed = false;
     }
 
     /// The extension of the address, where one is set.
@@ -113,6 +127,11 @@ impl Past {
         let packet = asked.packet.as_slice();
         let good = answer[0] == 0xFF;
         let short = self.now.short.take();
+        match (packet[0], std::mem::take(&mut self.just_freed)) {
+            (0xF5, true) if good => self.count(Case::OldAddress),
+            (0xF7, true) if good => self.count(Case::KeptKey),
+            _ => {}
+        }
         match (packet[0], short) {
             (0xF5, Some(short)) => self.reads_on(short, answer),
             (0xF0, Some(short)) if short.done && good => self.count(match short.writes {
@@ -152,7 +171,9 @@ impl Past {
             0xFF => {
                 self.renewed = self.now;
                 self.now = Session::default();
+                self.freed = Session::default();
             }
+            0xD6 => self.lists_freed(),
             0xFE => self.forget(),
             0xF8 if answer[1] == 0 => self.now.outlived = self.now.seed.is_some(),
             0xF8 => {
@@ -217,7 +238,7 @@ impl Past {
         let list = packet.get(2).map_or(0, |b| usize::from(*b));
         match packet[0] {
             0xE3 => {
-                for session in [&mut self.now, &mut self.renewed] {
+                for session in [&mut self.now, &mut self.renewed, &mut self.freed] {
                     session.has_mode[list] = false;
                     session.has_entries[list] = false;
                 }
@@ -229,14 +250,24 @@ impl Past {
         }
     }
 
+    fn lists_freed(&mut self) {
+        self.freed = self.now;
+        self.now.has_mode = [false; 8];
+        self.now.has_entries = [false; 8];
+        self.just_freed = true;
+    }
+
     /// A list was too unfit to start.
     fn unfit(&mut self, list: usize) {
-        if self.renewed.has_mode[list] && self.renewed.has_entries[list] {
-            match (self.now.has_mode[list], self.now.has_entries[list]) {
-                (true, false) => self.count(Case::ModeAlone),
-                (false, true) => self.count(Case::EntriesAlone),
-                _ => {}
-            }
+        let has = (self.now.has_mode[list], self.now.has_entries[list]);
+        let had = |session: &Session| session.has_mode[list] && session.has_entries[list];
+        let (renewed, freed) = (had(&self.renewed), had(&self.freed));
+        match has {
+            (true, false) if renewed => self.count(Case::ModeAlone),
+            (false, true) if renewed => self.count(Case::EntriesAlone),
+            (true, false) if freed => self.count(Case::ModeAloneFreed),
+            (false, true) if freed => self.count(Case::EntriesAloneFreed),
+            _ => {}
         }
     }
 }

@@ -27,7 +27,7 @@ impl Session {
     }
 
     pub(super) fn get_status(&self, answer: &mut Packet) -> Outcome {
-        let any_runs = self.lists.iter().any(|list| list.runs());
+        let any_runs = self.pool.lists().iter().any(|list| list.runs());
         let status = if any_runs { 0x40 } else { 0x00 };
         answer.extend(&[status, self.locked_mask(), 0, 0, 0]);
         Ok(())

@@ -65,6 +65,7 @@ fn case_7_sample_of_list_1() {
     bench.meas[0] = 0x64;
     bench.ask(CONNECT);
     bench.unlock(0x04);
+    bench.allocate(&[[1, 1]; 4]);
     bench.run(1, 0, &[2], &[]);
     bench.until_ctr(9);
     assert_eq!(bench.event(0, 0x1234), 256);
@@ -91,7 +92,7 @@ fn case_9_download_of_63() {
 
 #[test]
 fn case_10_odt_0_of_61_and_62() {
-    let mut bench = Bench::open();
+    let mut bench = Bench::with_lists();
     bench.entries(0, 0, &sizes(61));
     bench.mode(0, 0);
     assert_eq!(bench.ask("DE 01 00 00"), "FF 00");
@@ -102,7 +103,7 @@ fn case_10_odt_0_of_61_and_62() {
 
 #[test]
 fn case_11_answers_and_lists_take_turns() {
-    let mut bench = Bench::open();
+    let mut bench = Bench::with_lists();
     for list in 0..4 {
         bench.run(list, 0, &[1], &[]);
     }

@@ -4,7 +4,7 @@ use super::{Bench, CONNECT};
 use crate::{Slave, NO_SUCH_EVENT, TOO_LITTLE_ROOM};
 
 fn filled() -> Bench {
-    let mut bench = Bench::open();
+    let mut bench = Bench::with_lists();
     for (i, byte) in bench.meas.iter_mut().enumerate() {
         *byte = (i as u8).wrapping_add(1);
     }
@@ -128,6 +128,7 @@ fn stopping_drops_unsent_packets() {
         "DE 00 00 00",
         "DD 00",
         "DD 02",
+        "D6",
         CONNECT,
         "FE",
         "F7 04 00 00 00 00",
@@ -142,7 +143,8 @@ fn stopping_drops_unsent_packets() {
         }
         bench.event(0, 0);
         assert_eq!(bench.send(stop), 1);
-        assert!(!bench.slave.session.lists[0].has_packet(), "{}", stop);
+        let mut lists = bench.slave.session.pool.lists().iter();
+        assert!(lists.all(|list| !list.has_packet()), "{}", stop);
         assert_ne!(bench.packet(), "-");
         assert_eq!(bench.packet(), "-", "{}", stop);
         assert_eq!(bench.event(0, 0), 0);
@@ -159,21 +161,61 @@ fn half_a_sample_is_dropped_too() {
     assert_eq!(bench.packet(), "-");
 }
 
+/// Of four lists with a packet each, the order in which these leave.
+fn order(bench: &mut Bench) -> String {
+    assert_eq!(bench.event(0, 0), 4 * 256);
+    let numbers = (0..4).map(|_| bench.packet()[1..2].to_string());
+    numbers.collect()
+}
+
+/// Stopping and starting lists does not move the round; freeing them begins it anew.
 #[test]
-fn the_round_runs_on_across_sessions() {
-    let mut bench = filled();
-    bench.run(1, 0, &[1], &[]);
-    bench.event(0, 0);
-    assert_eq!(bench.packet(), "02 00 00 01");
-    bench.ask(CONNECT);
-    bench.unlock(0x04);
-    for list in 0..4 {
-        bench.run(list, 0, &[1], &[]);
+fn the_round_begins_anew_when_lists_are_freed() {
+    for freed in ["", "D6", CONNECT, "FE"] {
+        let mut bench = filled();
+        bench.run(1, 0, &[1], &[]);
+        bench.event(0, 0);
+        assert_eq!(bench.packet(), "02 00 00 01");
+        bench.good("DD 00");
+        if !freed.is_empty() {
+            bench.ask(freed);
+            if freed != "D6" {
+                bench.ask(CONNECT);
+                bench.unlock(0x04);
+            }
+            bench.allocate(&[[1, 1]; 4]);
+        }
+        for list in 0..4 {
+            bench.run(list, 0, &[1], &[]);
+        }
+        let expected = if freed.is_empty() { "4602" } else { "0246" };
+        assert_eq!(order(&mut bench), expected, "{}", freed);
     }
-    bench.event(0, 0);
-    let mut order = String::new();
-    for _ in 0..4 {
-        order += &bench.packet()[1..2];
+}
+
+/// It is not the list served last that the next life of the lists begins after.
+#[test]
+fn a_round_of_fewer_lists() {
+    for lists in 1..=8u8 {
+        let mut bench = filled();
+        bench.allocate(&[[1]; 8]);
+        bench.mode(7, 0);
+        bench.entries(7, 0, &[1]);
+        bench.starts(7, 7);
+        bench.event(0, 0);
+        assert_eq!(bench.packet(), "07 00 00 01");
+        bench.allocate(&vec![[1]; lists.into()]);
+        for list in 0..lists {
+            bench.entries(list, 0, &[1]);
+            bench.mode(list, 0);
+            bench.starts(list, list);
+        }
+        for _ in 0..2 {
+            assert_eq!(bench.event(0, 0), u32::from(lists) * 256);
+            for list in 0..lists {
+                assert_eq!(bench.packet(), format!("{:02X} 00 00 01", list));
+            }
+            assert_eq!(bench.packet(), "-");
+        }
     }
-    assert_eq!(order, "4602");
 }

@@ -1,5 +1,6 @@
 //! A small test bench around the slave; packets and frames are written as hex text.
 
+mod allocation;
 mod bench_sheet;
 mod events_and_slots;
 mod random;
@@ -99,6 +100,19 @@ pub fn unlock_packet(key: u32) -> String {
     format!("F7 04 {}", hex(&key.to_le_bytes()))
 }
 
+pub fn alloc_daq(count: u16) -> String {
+    format!("D5 00 {}", hex(&count.to_le_bytes()))
+}
+
+pub fn alloc_odt(list: u16, count: u8) -> String {
+    format!("D4 00 {} {:02X}", hex(&list.to_le_bytes()), count)
+}
+
+pub fn alloc_entry(list: u16, odt: u8, count: u8) -> String {
+    let list = hex(&list.to_le_bytes());
+    format!("D3 00 {} {:02X} {:02X}", list, odt, count)
+}
+
 impl Bench {
     pub fn new() -> Bench {
         Bench {
@@ -115,6 +129,28 @@ impl Bench {
         bench.unlock(0x01);
         bench.unlock(0x04);
         bench
+    }
+
+    /// The same with four lists of two ODTs of sixteen entries each.
+    pub fn with_lists() -> Bench {
+        let mut bench = Bench::open();
+        bench.allocate(&[[16, 16]; 4]);
+        bench
+    }
+
+    /// Gives all back and takes these lists: of each the entries of its ODTs.
+    pub fn allocate<L: AsRef<[u8]>>(&mut self, lists: &[L]) {
+        self.good("D6");
+        self.good(&alloc_daq(lists.len() as u16));
+        let lists = || (0u16..).zip(lists.iter().map(L::as_ref));
+        for (list, odts) in lists().filter(|(_, odts)| !odts.is_empty()) {
+            self.good(&alloc_odt(list, odts.len() as u8));
+        }
+        for (list, odts) in lists() {
+            for (odt, entries) in (0u8..).zip(odts).filter(|(_, entries)| **entries > 0) {
+                self.good(&alloc_entry(list, odt, *entries));
+            }
+        }
     }
 
     pub fn receive(&mut self, byte: u8) -> u32 {
@@ -190,7 +226,6 @@ impl Bench {
         assert_eq!(self.slave.session, before.session, "{}", packet);
         assert_eq!(self.slave.generator, before.generator, "{}", packet);
         assert_eq!(self.slave.wrong_keys, before.wrong_keys, "{}", packet);
-        assert_eq!(self.slave.last_served, before.last_served);
         assert_eq!((&self.cal, &self.meas), (&cal, &meas), "{}", packet);
     }
 
@@ -235,13 +270,18 @@ impl Bench {
         self.good(&format!("E0 10 {:02X} 00 {:02X} 00 01 00", list, event));
     }
 
-    /// Sets up and starts a list.
+    /// Sets up and starts a list, one of two ODTs with others like it.
     pub fn run(&mut self, list: u8, event: u8, odt0: &[u8], odt1: &[u8]) {
         self.entries(list, 0, odt0);
         self.entries(list, 1, odt1);
         self.mode(list, event);
+        self.starts(list, 2 * list);
+    }
+
+    /// The list is started, and its first packet has this number.
+    pub fn starts(&mut self, list: u8, first: u8) {
         let answer = self.ask(&format!("DE 01 {:02X} 00", list));
-        assert_eq!(answer, format!("FF {:02X}", 2 * list));
+        assert_eq!(answer, format!("FF {:02X}", first));
     }
 
     pub fn event(&mut self, event: u32, clock: u16) -> u32 {

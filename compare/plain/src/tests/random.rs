@@ -1,6 +1,7 @@
 //! Any calls in any order, with memories of any length: nothing faults, locked memory stays.
 
 use super::frame;
+use crate::pool::Phase;
 use crate::seed::{Generator, Resource};
 use crate::Slave;
 
@@ -44,6 +45,8 @@ impl Dice {
             _ if !slave.session.open => vec![0xFF, 0],
             Some((resource, seed)) if few > 0 => unlock(resource, seed),
             None if few > 0 && slave.session.locked_mask() > 0 => self.get_seed(),
+            // A session has no lists until they are allocated.
+            _ if few > 0 && slave.session.pool.phase() != Phase::Entries => self.allocate(slave),
             _ => self.any_packet(slave),
         }
     }
@@ -52,8 +55,33 @@ impl Dice {
         vec![0xF8, 0, [0x01, 0x04][self.below(2)]]
     }
 
+    /// A list, and one of its ODTs; now and then one that is not there.
+    fn place(&mut self, slave: &Slave) -> (u8, u8) {
+        let lists = slave.session.pool.lists();
+        let list = self.below(lists.len() + 1).min(self.below(lists.len() + 1));
+        let odts = lists.get(list).map_or(0, |l| l.odts().len());
+        (list as u8, self.below(odts + 1) as u8)
+    }
+
+    /// The next step on the way to lists.
+    fn allocate(&mut self, slave: &Slave) -> Vec<u8> {
+        let (list, odt) = self.place(slave);
+        let few = 1 + self.below(4) as u8;
+        match slave.session.pool.phase() {
+            Phase::Fresh => vec![0xD6],
+            Phase::Freed => vec![0xD5, 0, [few, 8, 9][self.below(3)], 0],
+            Phase::Odts if few > 2 => {
+                let count = [few, 16, 29, 128, 129][self.below(5)];
+                vec![0xD3, 0, list, 0, odt, count]
+            }
+            Phase::Lists | Phase::Odts => vec![0xD4, 0, list, 0, [few, few, 16][self.below(3)]],
+            Phase::Entries => vec![0xD3, 0, list, 0, odt, few],
+        }
+    }
+
     fn any_packet(&mut self, slave: &Slave) -> Vec<u8> {
-        let (list, few) = (self.below(4) as u8, self.below(3) as u8);
+        let ((list, odt), few) = (self.place(slave), self.below(3) as u8);
+        let four = self.below(4) as u8;
         let small = self.below(8) as u8;
         // Now and then all that a packet holds, or a byte more.
         let count = match self.below(4) {
@@ -61,24 +89,38 @@ impl Dice {
             _ => small,
         };
         let (resource, seed) = slave.session.seed.unwrap_or((Resource::Lists, 0));
-        match self.below(26) {
+        match self.below(32) {
             0 => vec![OTHERS[small as usize], 0],
-            1 => vec![[0xFD, 0xDA, 0xD9, 0x00][list as usize]],
+            1 => vec![[0xFD, 0xDA, 0xD9, 0x00][four as usize]],
             2 => self.get_seed(),
             3 => unlock(resource, seed),
-            4 | 5 => vec![0xF6, 0, 0, list / 3, small, list * 5, 0, 0],
+            4 | 5 => vec![0xF6, 0, 0, four / 3, small, four * 5, 0, 0],
             6 => vec![0xF5, count],
-            7 => vec![0xF4, count, 0, list / 2, small, 15, 0, 0],
+            7 => vec![0xF4, count, 0, four / 2, small, 15, 0, 0],
             8 => vec![0xF3, 0, 0, 0, small, few, 0, 0],
             9 | 10 => self.with_data(&[0xF0, count]),
-            11 | 12 => self.with_data(&[0xED, count, 0, list / 3, small, list * 5, 0, 0]),
+            11 | 12 => self.with_data(&[0xED, count, 0, four / 3, small, four * 5, 0, 0]),
             13 => vec![0xE3, 0, list, 0],
-            14 | 15 => vec![0xE2, 0, list, 0, small / 4, self.below(17) as u8],
-            16..=18 => vec![0xE1, 0xFF, few, list / 2, small, list * 5, 0, 0],
-            19 | 20 => vec![0xE0, 0x10, list, 0, small / 4, 0, 1, 0],
-            21..=23 => vec![0xDE, few, list, 0],
+            14..=16 => vec![0xE2, 0, list, 0, odt, small / 2],
+            17..=20 => vec![0xE1, 0xFF, few, four / 2, small, four * 5, 0, 0],
+            21 | 22 => vec![0xE0, 0x10, list, 0, small / 4, 0, 1, 0],
+            23..=26 => vec![0xDE, few, list, 0],
+            27 | 28 => self.allocate(slave),
+            29 if four == 0 => vec![0xD6],
             _ => vec![0xDD, few],
         }
+    }
+
+    /// The packets that set a list up and start it, which by chance alone seldom come together.
+    fn list(&mut self, slave: &Slave) -> [Vec<u8>; 4] {
+        let (list, odt) = self.place(slave);
+        let (size, event) = (1 + self.below(4) as u8, self.below(2) as u8);
+        [
+            vec![0xE2, 0, list, 0, odt, 0],
+            vec![0xE1, 0xFF, size, event, 0, 0, 0, 0],
+            vec![0xE0, 0x10, list, 0, event, 0, 1, 0],
+            vec![0xDE, 1, list, 0],
+        ]
     }
 
     /// The packet with as much data behind its head as its count says, if that fits.
@@ -131,11 +173,16 @@ impl Trial {
         self.shut += u32::from(shut && !was_shut);
     }
 
+    fn send(&mut self, frame: &[u8]) {
+        frame.iter().for_each(|byte| self.byte(*byte));
+    }
+
     fn event(&mut self, event: u32) {
         let (cal, meas) = (&self.cal[..self.lent.0], &self.meas[..self.lent.1]);
         let result = self.slave.event(cal, meas, event, 0x9B9A);
         if event < 2 {
-            assert!(result / 256 + result % 256 <= 4);
+            let lists = self.slave.session.pool.lists().len() as u32;
+            assert!(lists <= 8 && result / 256 + result % 256 <= lists);
             self.sampled += result / 256;
         } else {
             assert_eq!(result, 8 * 65_536);
@@ -179,14 +226,21 @@ fn any_calls_in_any_order() {
             0 => (LENGTHS[dice.below(8)], LENGTHS[dice.below(8)]),
             _ => (4096, 4096),
         };
-        match dice.below(10) {
+        match dice.below(11) {
             0 => trial.byte(dice.byte()),
             1 => trial.event(dice.below(3) as u32),
             2..=5 => trial.slot([0, 134, 135, 140, 140, 140][dice.below(6)]),
+            6 if dice.below(4) == 0 => {
+                for packet in dice.list(&trial.slave) {
+                    trial.send(&frame(dice.byte(), &packet));
+                    // The answer leaves in the first or second slot.
+                    trial.slot(135);
+                    trial.slot(135);
+                }
+            }
             _ => {
                 let packet = dice.packet(&trial.slave);
-                let bytes = frame(dice.byte(), &packet);
-                bytes.iter().for_each(|byte| trial.byte(*byte));
+                trial.send(&frame(dice.byte(), &packet));
             }
         }
     }

@@ -3,7 +3,7 @@
 use super::{bytes, rising, sizes, Bench};
 
 fn filled() -> Bench {
-    let mut bench = Bench::open();
+    let mut bench = Bench::with_lists();
     for (i, byte) in bench.meas.iter_mut().enumerate() {
         *byte = (i as u8).wrapping_add(1);
     }
@@ -75,7 +75,7 @@ fn a_short_packet_after_a_long_one() {
         format!("FF {}", rising(1, 63))
     );
     bench.told("FC", "FE 00");
-    bench.told("DA", "FF 10 04 00 02 00 00 00");
+    bench.told("DA", "FF 11 04 00 02 00 00 00");
     bench.run(0, 0, &sizes(61), &sizes(63));
     bench.event(0, 7);
     while bench.packet() != "-" {}
@@ -123,7 +123,7 @@ fn an_entry_by_itself() {
 /// All that can be doubled in an answer and in a sample, in no more room than a slot asks for.
 #[test]
 fn the_longest_frames() {
-    let mut bench = Bench::open();
+    let mut bench = Bench::with_lists();
     bench.meas = vec![0x9A; 64];
     bench.run(0, 0, &sizes(61), &sizes(63));
     bench.until_ctr(0x9A);

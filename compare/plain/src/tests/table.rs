@@ -1,7 +1,7 @@
 //! Each row of the command table: every check in its order, then what is done on success.
 //! The packets of a row have all later faults too, so that each shows which check comes first.
 
-use super::{bytes, fresh, hex, rising, sizes, Bench, CONNECT};
+use super::{alloc_daq, bytes, fresh, hex, rising, sizes, Bench, CONNECT};
 use crate::lists::Pointer;
 use crate::memory::{Extension, Mta};
 use crate::session::Session;
@@ -41,7 +41,7 @@ fn without_a_session() {
 fn unknown_codes() {
     let known = [
         0xFF, 0xFE, 0xFD, 0xFC, 0xF8, 0xF7, 0xF6, 0xF5, 0xF4, 0xF3, 0xF0, 0xED, 0xE3, 0xE2, 0xE1,
-        0xE0, 0xDE, 0xDD, 0xDA, 0xD9,
+        0xE0, 0xDE, 0xDD, 0xDA, 0xD9, 0xD6, 0xD5, 0xD4, 0xD3,
     ];
     for mut bench in [locked(), Bench::open()] {
         for code in (0..=0xFFu8).filter(|code| !known.contains(code)) {
@@ -71,6 +71,9 @@ fn too_short() {
         (0xE0, 8),
         (0xDE, 4),
         (0xDD, 2),
+        (0xD5, 4),
+        (0xD4, 5),
+        (0xD3, 6),
     ];
     for mut bench in [locked(), Bench::open()] {
         for (code, fewest) in fewest {
@@ -101,6 +104,11 @@ fn locked_lists_come_before_ranges() {
         "DD 09",
         "DA",
         "D9",
+        "D6",
+        "D5 00 00 00",
+        "D5 00 01 00",
+        "D4 00 09 00 00",
+        "D3 00 09 00 09 00",
     ] {
         bench.refused(packet, "FE 25");
     }
@@ -111,7 +119,7 @@ fn locked_lists_come_before_ranges() {
 
 #[test]
 fn ff_connect() {
-    let mut bench = Bench::open();
+    let mut bench = Bench::with_lists();
     bench.good("F6 00 00 00 07 00 00 00");
     bench.run(0, 0, &[1], &[]);
     bench.entries(1, 1, &[2]);
@@ -131,7 +139,7 @@ fn ff_connect() {
 
 #[test]
 fn fe_disconnect() {
-    let mut bench = Bench::open();
+    let mut bench = Bench::with_lists();
     bench.good("F6 00 00 00 07 00 00 00");
     bench.run(0, 0, &[1], &[]);
     bench.good("E2 00 00 00 00 00");
@@ -146,6 +154,7 @@ fn fd_get_status() {
     bench.told("FD", "FF 00 05 00 00 00");
     bench.unlock(0x04);
     bench.told("FD 01 02 03 04 05 06 07", "FF 00 01 00 00 00");
+    bench.allocate(&[[1, 1]; 4]);
     bench.run(3, 1, &[1], &[]);
     bench.told("FD", "FF 40 01 00 00 00");
     bench.unlock(0x01);
@@ -461,7 +470,8 @@ fn memories_are_judged_at_each_call() {
 
 #[test]
 fn e3_clear_daq_list() {
-    let mut bench = Bench::open();
+    let mut bench = Bench::with_lists();
+    let cleared = bench.slave.session.pool.clone();
     bench.run(0, 0, &[1], &[]);
     bench.refused("E3 00 04", "FE 21");
     for packet in ["E3 00 04 00", "E3 00 00 01", "E3 00 FF FF"] {
@@ -473,14 +483,15 @@ fn e3_clear_daq_list() {
     bench.good("E2 00 00 00 01 02");
     let pointer = bench.slave.session.pointer;
     bench.good("E3 AA 00 00 99");
-    assert_eq!(bench.slave.session.lists, fresh().lists);
+    // Its entries are empty, not gone.
+    assert_eq!(bench.slave.session.pool, cleared);
     assert_eq!(bench.slave.session.pointer, pointer);
     bench.refused("DE 01 00 00", "FE 2A");
 }
 
 #[test]
 fn e2_set_daq_ptr() {
-    let mut bench = Bench::open();
+    let mut bench = Bench::with_lists();
     bench.refused("E2 00 04 00 02", "FE 21");
     for packet in [
         "E2 00 04 00 00 00",
@@ -506,7 +517,7 @@ fn e2_set_daq_ptr() {
 
 #[test]
 fn e1_write_daq() {
-    let mut bench = Bench::open();
+    let mut bench = Bench::with_lists();
     bench.refused("E1 00 05 02 00 10 00", "FE 21");
     bench.refused("E1 00 05 02 00 10 00 00", "FE 29");
     bench.run(0, 0, &[1], &[]);
@@ -546,7 +557,7 @@ fn e1_write_daq() {
 
 #[test]
 fn e0_set_daq_list_mode() {
-    let mut bench = Bench::open();
+    let mut bench = Bench::with_lists();
     bench.run(0, 0, &[1], &[]);
     bench.refused("E0 00 04 00 02 00 00", "FE 21");
     // List 0 runs in those that name it.
@@ -568,7 +579,7 @@ fn e0_set_daq_list_mode() {
     bench.ask("DE 00 00 00");
     bench.ask("DE 02 00 00");
     bench.good("E0 10 00 00 01 00 01 00");
-    assert!(bench.slave.session.lists[0].selected);
+    assert!(bench.slave.session.pool.lists()[0].selected);
     bench.good("DD 01");
     assert_eq!(bench.event(0, 0), 0);
     assert_eq!(bench.event(1, 0), 256);
@@ -576,7 +587,7 @@ fn e0_set_daq_list_mode() {
 
 #[test]
 fn de_start_stop_daq_list() {
-    let mut bench = Bench::open();
+    let mut bench = Bench::with_lists();
     bench.refused("DE 03 04", "FE 21");
     for packet in ["DE 03 00 00", "DE FF 00 00", "DE 01 04 00", "DE 00 00 01"] {
         bench.refused(packet, "FE 22");
@@ -606,25 +617,25 @@ fn de_start_stop_daq_list() {
     assert_eq!(bench.ask("DE 02 02 00"), "FF 04");
     assert_eq!(bench.ask("DE 00 02 00"), "FF 04");
     assert_eq!(bench.ask("DE 01 02 00"), "FF 04");
-    assert!(bench.slave.session.lists[2].selected);
-    assert!(bench.slave.session.lists[3].selected);
+    assert!(bench.slave.session.pool.lists()[2].selected);
+    assert!(bench.slave.session.pool.lists()[3].selected);
     // Stopping a stopped list is done too.
     assert_eq!(bench.ask("DE 00 00 00"), "FF 00");
 }
 
 /// A digit for each list.
 fn running(bench: &Bench) -> String {
-    let lists = bench.slave.session.lists.iter();
+    let lists = bench.slave.session.pool.lists().iter();
     lists.map(|l| if l.runs() { '1' } else { '0' }).collect()
 }
 
 fn any_selected(bench: &Bench) -> bool {
-    bench.slave.session.lists.iter().any(|l| l.selected)
+    bench.slave.session.pool.lists().iter().any(|l| l.selected)
 }
 
 #[test]
 fn dd_start_stop_synch() {
-    let mut bench = Bench::open();
+    let mut bench = Bench::with_lists();
     bench.refused("DD", "FE 21");
     bench.refused("DD 03", "FE 22");
     bench.told("DD 01", "FF");
@@ -651,7 +662,7 @@ fn dd_start_stop_synch() {
 
 #[test]
 fn dd_stops_the_selected_or_all() {
-    let mut bench = Bench::open();
+    let mut bench = Bench::with_lists();
     for list in 0..3 {
         bench.run(list, 0, &[1], &[]);
     }
@@ -670,8 +681,14 @@ fn dd_stops_the_selected_or_all() {
 #[test]
 fn da_and_d9_information() {
     let mut bench = Bench::open();
-    bench.told("DA", "FF 10 04 00 02 00 00 00");
+    bench.told("DA", "FF 11 00 00 02 00 00 00");
     bench.told("D9", "FF 01 04 00 00 6A 01 00");
-    bench.told("DA 01 02", "FF 10 04 00 02 00 00 00");
+    bench.told("DA 01 02", "FF 11 00 00 02 00 00 00");
     bench.told("D9 01 02", "FF 01 04 00 00 6A 01 00");
+    for count in 1..=8 {
+        bench.good("D6");
+        bench.told("DA", "FF 11 00 00 02 00 00 00");
+        bench.good(&alloc_daq(count));
+        bench.told("DA", &format!("FF 11 {:02X} 00 02 00 00 00", count));
+    }
 }
