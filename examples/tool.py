@@ -1,5 +1,6 @@
-"""A setting tool at the controller of host.c: it unlocks, writes the unit byte, reads it back while samples pour out, loads a
-drug table, and leaves all as it was. Then a script tries keys until the controller stays shut, and the power switch opens it.
+"""A setting tool at the controller of host.c: it unlocks, allocates the one long list of a weighing gun and the eight short ones
+of a trough reader, writes the unit byte, reads it back while samples pour out, loads a drug table, and leaves all as it was. Then
+a script tries keys until the controller stays shut, and the power switch opens it.
 
     tool.py HOST WORDS...                   runs the host by these words, which names its line first, and talks to it
     tool.py --port DEVICE [--baud N]        talks to a controller at a serial port of this computer; no script is let near
@@ -24,7 +25,8 @@ FIRST_DOSE, OTHER_DOSE = 25, 30  # tenths of a millilitre: the host's own, and o
 # A table that is made up: twenty drugs, and of each the dose at eight weights, in tenths of a millilitre.
 TABLE = b"".join(((10 + drug) * (1 + weight)).to_bytes(2, "little") for drug in range(20) for weight in range(8))
 DRUG_SIZE, CORRECTED = 2 * 8, 7
-LOCKED = "FE 25"
+POOL_LISTS, POOL_ODTS = 8, 16  # in all lists together
+LOCKED, PASSED = "FE 25", "FE 30"
 SHUT = "three wrong keys since power-up; switch the gun off and on"
 WRONG_KEY = "a wrong key; take the tool for this gun: three wrong keys shut it until it is switched off and on"
 # An answer may come where no sample waits; it is asked for again until one was overtaken.
@@ -42,17 +44,17 @@ def connected(packet):
 
 
 class Sample:
-    """Packets of the four lists as set_up has them made: each repeats the number of weighings, so that two show one event.
-    What a made-up scale shows is known as well."""
+    """A packet of lists with so many ODTs each, as set_up has them made: each repeats the number of weighings, so that several
+    show one event. What a made-up scale shows is known as well."""
 
-    def __init__(self, packet, made_up):
-        if packet[0] > 7 or len(packet) != 8:
+    def __init__(self, packet, lists, odts, made_up):
+        if packet[0] >= lists * odts or len(packet) != 8:
             raise Wrong(f"{hexed(packet)} is no packet of a list")
-        self.list, self.odt = divmod(packet[0], 2)
+        self.list, self.odt = divmod(packet[0], odts)
         body = packet[3:] if self.odt == 0 else packet[1:]
         self.weighings = int.from_bytes(body[:4], "little")
         self.unit = body[-1]
-        if made_up and self.odt == 1 and int.from_bytes(body[4:6], "little") != 1000 + self.weighings * 7 % 50:
+        if made_up and self.odt > 0 and int.from_bytes(body[4:6], "little") != 1000 + self.weighings * 7 % 50:
             raise Wrong(f"{hexed(packet)} has a weight that the scale did not show")
 
     def __str__(self):
@@ -67,22 +69,26 @@ class Tool:
         self.wire = Wire(name, baud)
         self.started = started
         self.connected, self.max_cto = None, 8  # what CONNECT was answered, and how long it says that packets may be
-        self.answers = 0
-        self.samples = [0] * 8
-        self.last = [None] * 8
+        self.answers = self.samples = 0
+        self.has_lists(0, 1)
+
+    def has_lists(self, lists, odts):
+        """From now on there are so many lists, of so many ODTs each, and no sample of theirs has come."""
+        self.lists, self.odts = lists, odts
+        self.last = [None] * (lists * odts)
 
     def sampled(self, packet):
-        """Takes note of a sample: each list's go up, and its second packet is of the same event as its first."""
-        sample = Sample(packet, self.started)
+        """Takes note of a packet: each list's samples go up, and a later packet is of the same event as the one before it."""
+        sample = Sample(packet, self.lists, self.odts, self.started)
         before = self.last[packet[0]]
         if before and sample.weighings <= before.weighings:
             raise Wrong(f"{sample} comes after {before}")
-        if sample.odt == 1:
+        if sample.odt > 0:
             first = self.last[packet[0] - 1]
             if not first or (first.weighings, first.unit) != (sample.weighings, sample.unit):
                 raise Wrong(f"{sample} does not belong to {first}")
         self.last[packet[0]] = sample
-        self.samples[packet[0]] += 1
+        self.samples += 1
         return sample
 
     def answer(self):
@@ -110,10 +116,10 @@ class Tool:
         words("slave", "   answers", self.ask(command, expected), more)
 
     def plug_in(self, name):
-        """At a line anew, where the slave's CTR and the weighings begin again."""
+        """At a line anew, where the slave's CTR and the weighings begin again, and there are no lists."""
         self.wire.close()
         self.wire = Wire(name)
-        self.last = [None] * 8
+        self.has_lists(0, 1)
 
     def connect(self):
         """The answer says how long packets may be: MAX_CTO is of commands and answers, MAX_DTO of samples."""
@@ -185,27 +191,77 @@ def unlocking(key):
     return "F7 04 " + hexed(key.to_bytes(4, "little"))
 
 
+def free(tool):
+    """Also stops what runs, and drops what waits: what comes after the answer is of new lists."""
+    tool.show("frees what lists there are", "D6")
+    tool.has_lists(0, 1)
+
+
+def ask_for_each(tool, what, commands):
+    """The same of every list or ODT; the first is shown."""
+    for command in commands:
+        tool.ask(command)
+    more = f"the first of {len(commands)} packets" if len(commands) > 1 else ""
+    words("tool", what, bytes.fromhex(commands[0]), more)
+    words("slave", "   answers", b"\xff", more and "and so to each")
+
+
+def allocate(tool, lists, odts):
+    """So many lists of so many ODTs each; in the first ODT of a list two entries, in each later one three."""
+    numbers = range(lists)
+    tool.show("wants 1 list" if lists == 1 else f"wants {lists} lists", f"D5 00 {lists:02X} 00")
+    ask_for_each(tool, f"wants {odts} ODTs in {'it' if lists == 1 else 'each'}",
+                 [f"D4 00 {number:02X} 00 {odts:02X}" for number in numbers])
+    ask_for_each(tool, "wants entries in each ODT",
+                 [f"D3 00 {number:02X} 00 {odt:02X} {3 if odt else 2:02X}" for number in numbers for odt in range(odts)])
+    tool.show("asks how many lists there are", "DA", f"FF 11 {lists:02X} 00 02 00 00 00", f"{lists}, as wanted")
+    tool.has_lists(lists, odts)
+
+
 def set_up(tool, number):
-    """A list of two packets: weighings and unit; weighings, weight and unit."""
-    tool.ask(f"E3 00 {number:02X} 00")
-    tool.ask(f"E2 00 {number:02X} 00 00 00")
-    tool.ask(f"E1 FF 04 01 {WEIGHINGS:02X} 00 00 00")
-    tool.ask(f"E1 FF 01 00 {UNIT:02X} 00 00 00")
-    tool.ask(f"E2 00 {number:02X} 00 01 00")
-    tool.ask(f"E1 FF 04 01 {WEIGHINGS:02X} 00 00 00")
-    tool.ask(f"E1 FF 02 01 {WEIGHT:02X} 00 00 00")
-    tool.ask(f"E1 FF 01 00 {UNIT:02X} 00 00 00")
+    """A list's first packet has weighings and unit; each later one has weighings, weight and unit."""
+    for odt in range(tool.odts):
+        tool.ask(f"E2 00 {number:02X} 00 {odt:02X} 00")
+        tool.ask(f"E1 FF 04 01 {WEIGHINGS:02X} 00 00 00")
+        if odt > 0:
+            tool.ask(f"E1 FF 02 01 {WEIGHT:02X} 00 00 00")
+        tool.ask(f"E1 FF 01 00 {UNIT:02X} 00 00 00")
     tool.ask(f"E0 10 {number:02X} 00 00 00 01 00")
-    tool.ask(f"DE 02 {number:02X} 00", f"FF {2 * number:02X}")
+    tool.ask(f"DE 02 {number:02X} 00", f"FF {tool.odts * number:02X}")
 
 
 def pour(tool):
-    """Starts the four lists and lets every one of their packets come twice."""
-    for number in range(4):
+    """Starts all lists and lets every one of their packets come twice."""
+    for number in range(tool.lists):
         set_up(tool, number)
     tool.ask("DD 01")
-    while min(tool.samples) < 2:
-        tool.sampled(tool.wire.packet())
+    came = [0] * len(tool.last)
+    while min(came) < 2:
+        sample = tool.sampled(tool.wire.packet())
+        came[tool.odts * sample.list + sample.odt] += 1
+
+
+def one_long_list(tool):
+    """A weighing gun's: all ODTs of the pool in one list, whose packets are all of the same weighing."""
+    print("tool    wants one long list, as for a weighing gun")
+    free(tool)
+    allocate(tool, 1, POOL_ODTS)
+    pour(tool)
+    print("tool    sets it up and starts it: a packet of each ODT comes, all of one moment")
+    sample = tool.sampled(tool.wire.packet())
+    while sample.odt + 1 < POOL_ODTS:
+        sample = tool.sampled(tool.wire.packet())
+    print(f"slave      sample: list 0, packets 0 to {sample.odt}, each of weighing {sample.weighings}")
+
+
+def eight_short_lists(tool):
+    """A trough reader's: as many lists as there can be; one more is refused."""
+    print("tool    wants eight short lists, as for a trough reader")
+    free(tool)
+    tool.show(f"wants {POOL_LISTS + 1} lists", f"D5 00 {POOL_LISTS + 1:02X} 00", PASSED, f"refused: the pool has {POOL_LISTS}")
+    allocate(tool, POOL_LISTS, POOL_ODTS // POOL_LISTS)
+    pour(tool)
+    print("tool    sets them up and starts them: the line is full of samples from here on")
 
 
 def write_unit(tool, unit):
@@ -294,8 +350,9 @@ def exchange(tool):
     other = 1 - found
     tool.unlock(CALIBRATION, LISTS)
     tool.unlock(LISTS, 0)
-    pour(tool)
-    print("tool    unlocks both resources, sets up four lists and starts them: the line is full of samples from here on")
+    print("tool    unlocks both resources")
+    one_long_list(tool)
+    eight_short_lists(tool)
     write_unit(tool, other)
     see_unit(tool, other)
     print(f"tool    writes {other}, {UNITS[other]}, and waits until the samples have it")
@@ -407,7 +464,7 @@ def main():
     options = arguments()
     try:
         tool = talk_at_port(options) if options.port else talk_to_host(options)
-        print(f"\n{tool.answers} answers and {sum(tool.samples)} samples came, each as it should be.")
+        print(f"\n{tool.answers} answers and {tool.samples} samples came, each as it should be.")
     except (Wrong, OSError) as why:
         print(f"tool: {why}", flush=True)
         sys.exit(1)

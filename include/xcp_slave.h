@@ -15,11 +15,12 @@
  *
  * Seed and key are a guard against mistakes. They are no security: who listens can compute the key.
  *
- * The longest call is xcp_event where it samples four full lists, 496 bytes in 128 entries: on a
- * Cortex-M4 (-Os) it takes up to 8,826 instructions (lists of a few bytes, a fifth of that). The
- * last byte of BUILD_CHECKSUM, which reads 4,096 bytes of memory, takes 5,005; no other call takes
- * 2,000. Let the ring buffer hold what can arrive in that time. Bytes lost there are damage on the
- * line like any other: the message is dropped, as far as one checksum byte can tell.
+ * The longest call is xcp_event where it samples the whole pool, 512 bytes in 128 entries: on a
+ * Cortex-M4 (-Os) it takes up to 12,402 instructions (lists of a few bytes, a fifth of that). The
+ * last byte of ALLOC_ODT_ENTRY, which may move 127 entries, takes up to 5,615, that of
+ * BUILD_CHECKSUM, which reads 4,096 bytes of memory, 5,012; no other call takes more than these. Let
+ * the ring buffer hold what can arrive in that time. Bytes lost there are damage on the line like
+ * any other: the message is dropped, as far as one checksum byte can tell.
  *
  * A main loop (examples/host.c is a whole one):
  *
@@ -57,10 +58,10 @@ extern "C" {
 #endif
 
 /* Of this header and the archives made with it; CHANGELOG.md says what each version changed. */
-#define XCP_SLAVE_VERSION "1.3.0"
+#define XCP_SLAVE_VERSION "1.4.0"
 
 /* The state's one size: a shorter or longer buffer is refused. */
-#define XCP_STATE_SIZE 945
+#define XCP_STATE_SIZE 1486
 
 /* The room that a slot needs, whatever waits: the longest frame, one SYNC and each of the 67 bytes
  * of the longest message as a pair. */
@@ -69,8 +70,8 @@ extern "C" {
 /* What a call returns is its number and, when it is done, a value beside it. */
 #define XCP_NUMBER(r) ((uint32_t)(r) >> 16)
 #define XCP_SIZE(r) ((uint32_t)(r) & 0xFFFFu)         /* a slot: bytes of the frame, 0 for none */
-#define XCP_SAMPLED(r) (((uint32_t)(r) >> 8) & 0xFFu) /* an event: lists that took a sample */
-#define XCP_MISSED(r) ((uint32_t)(r) & 0xFFu)         /* an event: lists that missed it */
+#define XCP_SAMPLED(r) (((uint32_t)(r) >> 8) & 0xFFu) /* an event: lists that sampled, up to 8 */
+#define XCP_MISSED(r) ((uint32_t)(r) & 0xFFu)         /* an event: lists that missed it, up to 8 */
 
 /* The numbers. Only 1 takes a command; 2 to 7 drop a message; 8 to 10 change nothing at all. */
 enum xcp_number {
@@ -102,7 +103,9 @@ uint32_t xcp_receive_byte(uint8_t *state, uint64_t state_len, uint8_t *cal, uint
                           const uint8_t *meas, uint64_t meas_len, uint8_t byte);
 
 /* Event 0 or 1: each running list of that event takes its sample within this call, or misses it
- * while packets of its last one are unsent. Returns 0 with both counts, 8, or 10. */
+ * while packets of its last one are unsent. How many lists there are, and what they have, is the
+ * tool's: up to 8 lists, with 16 packets and 128 entries in all. Returns 0 with both counts, 8, or
+ * 10. */
 uint32_t xcp_event(uint8_t *state, uint64_t state_len, const uint8_t *cal, uint64_t cal_len,
                    const uint8_t *meas, uint64_t meas_len, uint32_t event, uint16_t clock);
 

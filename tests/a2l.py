@@ -12,7 +12,7 @@ CODES = {
     "GET_SEED": 0xF8, "UNLOCK": 0xF7, "SET_MTA": 0xF6, "UPLOAD": 0xF5, "SHORT_UPLOAD": 0xF4, "BUILD_CHECKSUM": 0xF3,
     "DOWNLOAD": 0xF0, "SHORT_DOWNLOAD": 0xED, "CLEAR_DAQ_LIST": 0xE3, "SET_DAQ_PTR": 0xE2, "WRITE_DAQ": 0xE1,
     "SET_DAQ_LIST_MODE": 0xE0, "START_STOP_DAQ_LIST": 0xDE, "START_STOP_SYNCH": 0xDD, "GET_DAQ_PROCESSOR_INFO": 0xDA,
-    "GET_DAQ_RESOLUTION_INFO": 0xD9,
+    "GET_DAQ_RESOLUTION_INFO": 0xD9, "FREE_DAQ": 0xD6, "ALLOC_DAQ": 0xD5, "ALLOC_ODT": 0xD4, "ALLOC_ODT_ENTRY": 0xD3,
 }
 SIZES = {"SIZE_BYTE": 1, "SIZE_WORD": 2, "SIZE_DWORD": 4}
 TYPES = {"UBYTE": 1, "UWORD": 2, "ULONG": 4}
@@ -129,7 +129,7 @@ def lists(c, daq):
     processor, resolution = asked("DA", "D9")
     _, properties, lists_low, lists_high, events, events_high, fewest, key = processor
     c.same("kind of lists", words[0], ["STATIC", "DYNAMIC"][properties & 1])
-    c.same("MAX_DAQ", words[1], lists_low + 256 * lists_high)
+    c.same("MAX_DAQ", words[1], granted("D5 00 {:02X} 00"))
     c.same("MAX_EVENT_CHANNEL", words[2], events + 256 * events_high)
     c.same("events described", [e.values()[2] for e in daq.all("EVENT")], list(range(events)))
     c.same("MIN_DAQ", words[3], fewest)
@@ -147,11 +147,29 @@ def lists(c, daq):
     c.same("bytes of a timestamp", SIZES[described[1]], stamp & 7)
     c.same("unit of a timestamp", described[2] == "UNIT_1MS", stamp >> 4 == 6)
     c.same("timestamp fixed", "TIMESTAMP_FIXED" in described, bool(stamp & 8))
-    c.same("lists described", [one.values()[0] for one in daq.all("DAQ_LIST")], list(range(lists_low)))
-    for one in daq.all("DAQ_LIST"):
-        each_list(c, one)
+    c.same("lists described, as many as there are at first", len(daq.all("DAQ_LIST")), lists_low + 256 * lists_high)
     for one in daq.all("EVENT"):
-        each_event(c, one)
+        each_event(c, one, words[1])
+
+
+def granted(request, *before):
+    """The largest count, put into such a request, that the slave has room for; before it and FREE_DAQ come these."""
+    counts = range(255, 0, -1)
+    answers = asked("D6", *before, *map(request.format, counts))[1 + len(before):]
+    return counts[answers.index(b"\xff")]
+
+
+def pool(c, text):
+    """The comment above the events: how much there is, and what more is answered."""
+    said = re.search(r"a pool of (\d+) lists, (\d+) ODTs and (\d+) entries", text).groups()
+    code = re.search(r"What passes the pool is refused with (0x\w\w)", text)[1]
+    c.same("the pool", list(map(int, said)), [
+        granted("D5 00 {:02X} 00"), granted("D4 00 00 00 {:02X}", "D5 00 01 00"),
+        granted("D3 00 00 00 00 {:02X}", "D5 00 01 00", "D4 00 00 00 01")])
+    c.same("what passes the pool", bytes([0xFE, value(code)]), asked("D6", f"D5 00 {int(said[0]) + 1:02X} 00")[-1])
+    names = re.search(r"together: (\w+)[\s*]+first, then (\w+), (\w+) and (\w+), in this order", text).groups()
+    rests = ["", " 00 01 00", " 00 00 00 01", " 00 00 00 00 01"]
+    c.same("the order of the four", asked(*(f"{CODES[name]:02X}{rest}" for name, rest in zip(names, rests))), [b"\xff"] * 4)
 
 
 def direction(answers):
@@ -159,33 +177,25 @@ def direction(answers):
     return {(True, False): "DAQ", (False, True): "STIM", (True, True): "DAQ_STIM"}[tuple(a == b"\xff" for a in answers)]
 
 
-def each_event(c, one):
+def each_event(c, one, most):
+    """So many lists can be allocated, and each of them be on it."""
     _, _, number, described, lists, *_ = one.values()
+    made = ["D6", f"D5 00 {most:02X} 00"]
     c.same(f"direction of event {number}", described,
-           direction(asked(f"E0 10 00 00 {number:02X} 00 01 00", f"E0 12 00 00 {number:02X} 00 01 00")))
-    modes = asked(*(f"E0 10 {which:02X} 00 {number:02X} 00 01 00" for which in range(255)))
+           direction(asked(*made, f"E0 10 00 00 {number:02X} 00 01 00", f"E0 12 00 00 {number:02X} 00 01 00")[2:]))
+    modes = asked(*made, *(f"E0 10 {which:02X} 00 {number:02X} 00 01 00" for which in range(255)))[2:]
     c.same(f"lists of event {number}", lists, modes.count(b"\xff"))
 
 
-def each_list(c, one):
-    number, odts, entries = value(one.words[0]), value(one.after("MAX_ODT")), value(one.after("MAX_ODT_ENTRIES"))
-    places = [(odts - 1, entries - 1, True), (odts, 0, False), (0, entries, False)]
-    pointed = (f"E2 00 {number:02X} 00 {odt:02X} {entry:02X}" for odt, entry, _ in places)
-    selected, *answers = asked(f"DE 02 {number:02X} 00", *pointed)
-    c.same(f"FIRST_PID of list {number}", value(one.after("FIRST_PID")), selected[1])
-    c.same(f"direction of list {number}", one.after("DAQ_LIST_TYPE"),
-           direction(asked(f"E0 10 {number:02X} 00 00 00 01 00", f"E0 12 {number:02X} 00 00 00 01 00")))
-    for (odt, entry, there), answer in zip(places, answers):
-        c.same(f"entry {entry} of ODT {odt} of list {number}", there, answer == b"\xff")
-
-
 def rooms(c, text):
-    """The comment above the lists: what each ODT has room for starts, and a byte more does not."""
-    said = re.search(r"ODT 0 of a list has room for (\d+) bytes, and ODT 1 for (\d+)", text).groups()
-    for odt, most in enumerate(map(int, said)):
+    """The comment above the events: what each ODT of a long list has room for starts, and a byte more does not."""
+    first, later = re.search(r"the first ODT of a list has room for (\d+) bytes, and each later one for (\d+)", text).groups()
+    for odt in range(16):
+        most = int(later if odt else first)
         for size in (most, most + 1):
             parts = [min(4, size - at) for at in range(0, size, 4)]
-            answers = asked("E0 10 00 00 00 00 01 00", f"E2 00 00 00 {odt:02X} 00",
+            answers = asked("D6", "D5 00 01 00", "D4 00 00 00 10", f"D3 00 00 00 {odt:02X} {len(parts):02X}",
+                            "E0 10 00 00 00 00 01 00", f"E2 00 00 00 {odt:02X} 00",
                             *(f"E1 FF {part:02X} 00 00 00 00 00" for part in parts), "DE 01 00 00")
             c.same(f"{size} bytes in ODT {odt}", size <= most, answers[-1] == b"\xff\x00")
 
@@ -293,6 +303,7 @@ def main():
     protocol(c, module)
     wrong_keys(c, text)
     lists(c, module.one("IF_DATA", "DAQ"))
+    pool(c, text)
     rooms(c, text)
     checksum(c, module.one("MOD_PAR", "MEMORY_SEGMENT", "IF_DATA", "SEGMENT"))
     example(c, module)

@@ -13,6 +13,8 @@ HEX = {"mode", "extension", "length", "resource", "bit offset"}  # fields whose 
 RESOURCES = {"calibration": 0x01, "lists": 0x04}
 COUNTS = ["no", "one", "two", "three", "four", "five", "six"]
 SHUT, NO_SEED = b"\xfe\x25", b"\xfe\x29"
+SHOWING = ("F5", "F4", "FD", "E2", "DE", "DA")  # commands that show what another one has done
+COUNTING = ("D5", "D4", "D3")  # commands whose last number is a count, and no list, ODT or entry
 
 
 # The page.
@@ -65,6 +67,15 @@ def commands_of(quotation):
     """The commands of a quotation, of which some may be there many times."""
     parts = [re.fullmatch(r"(?:(\d+) times )?(.*)", part).groups() for part in quotation.split("; ")]
     return [spelled(command) for times, command in parts for _ in range(int(times or 1))]
+
+
+def situations_of(page):
+    """The commands of each situation, those of one that it goes on from first."""
+    situations = {}
+    for row in page.table("Command by command", "Situation"):
+        before = row["Commands"].partition("`")[0].rstrip(", ")
+        situations[row["Situation"]] = (situations[before] if before else []) + commands_of(quoted(row["Commands"])[0])
+    return situations
 
 
 def leading(cell):
@@ -238,10 +249,10 @@ def lengths(c, page, slave):
     c.same("packets of CONNECT's answer", [most, most], [answer[3], int.from_bytes(answer[4:6], "little")])
     c.same("LEN of the longest packet, and the next", [0, 3],
            [slave.run(slave.power_up() + slave.bytes([SYNC, length]))[-1][0] for length in (most, most + 1)])
-    of_odts = r"(\d+) bytes in ODT 0 (?:or|and) (\d+) in ODT 1"
+    of_odts = r"(\d+) bytes in (?:its|the) first ODT (?:or|and) (\d+) in a later one"
     heading = "DE START_STOP_DAQ_LIST"
     told = page.prose[heading] + " ".join(row["Check"] for row in page.table(heading, "Check"))
-    # Most, one too many, and most again; before them go the number and in ODT 0 the clock.
+    # Most, one too many, and most again; before them go the number and in the first ODT the clock.
     c.same("bytes of ODTs, in words", [tuple(map(int, pair)) for pair in re.findall(of_odts, told)],
            [(most - 3 + more, most - 1 + more) for more in (0, 1, 0)])
 
@@ -283,7 +294,7 @@ def all_commands(c, page, slave, opened, resource_of):
         c.same(f"layout of {name}", sizes(row["Bytes after the code"]) + 1 > fewest, missing)
         if not missing:
             c.same(f"layout of {name}, bytes", sizes(row["Bytes after the code"]) + 1, fewest)
-        goods = [check["Answer"] for check in section if re.fullmatch(r"good\b[^:]*(: twice .*|: nothing .*)?", check["Check"])]
+        goods = [check["Answer"] for check in section if re.fullmatch(r"good\b[^:]*(: the ODTs .*|: nothing .*)?", check["Check"])]
         c.same(f"answer of {name}", all(leading(g).startswith(leading(row["Answer"])[:1]) for g in goods), bool(goods))
         if len(leading(row["Answer"])) > 2:
             c.same(f"whole answer of {name}", leading(row["Answer"]), leading(goods[0])[: len(leading(row["Answer"]))])
@@ -318,7 +329,7 @@ def sections(c, page, slave, situations):
             situation, _, tried = row["Shown by"].partition(" ")
             for commands in quoted(tried):
                 sent = commands_of(commands)
-                c.same(f"{heading}, {row['Check']}: the last command", sent[-1][:2] in (heading[:2], "F5", "F4", "FD", "DE"), True)
+                c.same(f"{heading}, {row['Check']}: the last command", sent[-1][:2] in (heading[:2], *SHOWING), True)
                 answers = slave.asked(situations[situation] + sent)
                 c.same(f"{heading}, {row['Check']}: `{commands}`", spelled(row["Answer"]), (answers[-1] or b"").hex(" ").upper())
             if "session ends" in row["Check"]:
@@ -385,32 +396,64 @@ def worded(c, page, slave, situations):
                 c.same(f"{heading}, {check}", [True, same], [told == answer for told in cut])
 
 
-def limits(c, page, slave, opened):
+def limits(c, page, slave, situations):
     for row in page.table("Memories, lists, samples", "What"):
         (last,), (none,) = quoted(row["The last one"]), quoted(row["None any more"])
         a, b = bytes.fromhex(last), bytes.fromhex(none)
         places = [i for i in range(len(a)) if a[i] != b[i]]
-        part = slice(places[0], places[-1] + 1)
-        c.same(f"{row['What']}: the numbers tried", [int(row["Are"]) - 1, int(row["Are"])],
+        part, most = slice(places[0], places[-1] + 1), int(row["Are"]) - (last[:2] not in COUNTING)
+        c.same(f"{row['What']}: the numbers tried", [most, most + 1],
                [int.from_bytes(a[part], "little"), int.from_bytes(b[part], "little")])
-        answers = [slave.asked(opened + [command])[-1] for command in (last, none)]
+        answers = [slave.asked(situations[row["In"]] + [command])[-1] for command in (last, none)]
         c.same(f"{row['What']}: {row['Are']}", [0xFF, 0xFE], [answer[0] for answer in answers])
+    pool = [row["Are"] for row in page.table("Memories, lists, samples", "What") if row["What"].endswith("in the pool")]
+    passed = next(row["Means"] for row in page.table("What can be wrong", "Code") if row["Code"] == "30")
+    c.same("the pool, in words", list(re.search(r"(\d+) lists, (\d+) ODTs, (\d+) entries", passed).groups()), pool)
+    return list(map(int, pool))
 
 
-def sample(c, page, slave, opened):
+def sample(c, page, slave, situations):
     number, clock, values = (bytes.fromhex("".join(quoted(row["Sent"]))) for row in page.table("Memories, lists, samples", "Sent"))
-    which = number[0] // 2
+    listed = re.search(r"list (\d), ODT (\d)", page.table("Memories, lists, samples", "Sent")[0]["Is"])
+    told = re.search(r"In the situation \"(\w+)\", where list 0 has (\w+) ODTs, list (\d) with one entry of two measured bytes, "
+                     r"([0-9A-F ]+), at clock 0x(\w{4})", page.prose["Memories, lists, samples"])
+    before, which = situations[told[1]], int(told[3])
     prepare = [f"E2 00 {which:02X} 00 00 00", f"E1 FF {len(values):02X} 01 40 00 00 00",
                f"E0 10 {which:02X} 00 00 00 01 00", f"DE 01 {which:02X} 00"]
-    script = slave.power_up() + slave.measured(0x40, values) + slave.exchanges(opened + prepare)
+    script = slave.power_up() + slave.measured(0x40, values) + slave.exchanges(before + prepare)
     script += slave.event(0, int.from_bytes(clock, "little")) + slave.slot()
-    listed = re.search(r"list (\d), ODT (\d)", page.table("Memories, lists, samples", "Sent")[0]["Is"])
-    c.same("the packet's number", 2 * int(listed[1]) + int(listed[2]), number[0])
-    told = re.search(r"List (\d) with one entry of two measured bytes, ([0-9A-F ]+), at clock 0x(\w{4})",
-                     page.prose["Memories, lists, samples"])
-    c.same("the sample, in words", [int(told[1]), bytes.fromhex(told[2]), int(told[3], 16)],
-           [which, values, int.from_bytes(clock, "little")])
+    c.same("the packet's number", [COUNTS.index(told[2]), slave.asked(before + prepare)[-1]], [number[0], b"\xff" + number])
+    c.same("the sample, in words", [int(listed[1]), int(listed[2]), bytes.fromhex(told[4]), int(told[5], 16)],
+           [which, 0, values, int.from_bytes(clock, "little")])
     c.same("the sample", number + clock + values, plain(slave.run(script)[-1][1][1:])[2:-1])
+
+
+def sampling(lists, packets):
+    """Commands after FREE_DAQ: so many lists of so many packets, a byte each, that run on event 0."""
+    odts = [(which, odt) for which in range(lists) for odt in range(packets)]
+    return [f"D5 00 {lists:02X} 00", *(f"D4 00 {which:02X} 00 {packets:02X}" for which in range(lists)),
+            *(f"D3 00 {which:02X} 00 {odt:02X} 01" for which, odt in odts),
+            *(command for which, odt in odts for command in (f"E2 00 {which:02X} 00 {odt:02X} 00", "E1 FF 01 00 00 00 00 00")),
+            *(f"{command} {which:02X} 00{rest}" for which in range(lists)
+              for command, rest in (("E0 10", " 00 00 01 00"), ("DE 01", "")))]
+
+
+def turns(c, page, slave, freed, pool):
+    """With answers coming all the time: by which slot a list's next packet has left, and a sample whole."""
+    prose = page.prose["Memories, lists, samples"]
+    each, whole = map(int, re.search(r"next packet by slot (\d)L, and a sample of p packets whole by slot (\d)Lp", prose).groups())
+    for lists in range(1, pool[0] + 1):
+        packets = pool[1] // lists
+        # After a first sample, all of it sent, the last frame is the last list's. Then two slots after each SYNCH.
+        before = slave.power_up() + slave.exchanges(freed + sampling(lists, packets)) + slave.event(0)
+        before += slave.slot() * (lists * packets) + slave.event(0)
+        asking = slave.bytes(frame(b"\xfc")) + slave.slot() * 2
+        calls = slave.run(before + asking * (lists * packets))[len(slave.run(before)):]
+        sent = [plain(wire[1:])[2:-1] for _, wire in calls if wire]
+        left = [[i + 1 for i, packet in enumerate(sent) if packet[0] // packets == which] for which in range(lists)]
+        apart = [later - earlier for slots in left for earlier, later in zip([0, *slots], slots)]
+        c.same(f"slots to the next packet of {lists} lists", each * lists, max(apart))
+        c.same(f"slots of a sample of {packets} packets, of {lists} lists", whole * lists * packets, max(map(max, left)))
 
 
 def seeds(c, page, slave):
@@ -488,14 +531,14 @@ def main():
     lengths(c, page, slave)
     addends = seeds(c, page, slave)
     resource_of = {name: opening(slave, code, addends[name]) for name, code in RESOURCES.items()}
-    situations = {row["Situation"]: commands_of(quoted(row["Commands"])[0])
-                  for row in page.table("Command by command", "Situation")}
+    situations = situations_of(page)
     opened = situations["open"]
     all_commands(c, page, slave, opened, resource_of)
     sections(c, page, slave, situations)
     worded(c, page, slave, situations)
-    limits(c, page, slave, opened)
-    sample(c, page, slave, opened)
+    pool = limits(c, page, slave, situations)
+    sample(c, page, slave, situations)
+    turns(c, page, slave, situations["freed"], pool)
     wrong_keys(c, page, slave, situations, addends)
     words(c, page)
     c.same("tables that nothing here reads", sorted(set(page.tables) - page.used), [])

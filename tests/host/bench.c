@@ -1,6 +1,7 @@
 #include "host.h"
 
-/* The bench sheet, byte for byte on the wire, from a power-up with start 1. */
+/* The bench sheet, byte for byte on the wire, from a power-up with start 1. Cases 7, 10 and 11 come
+ * after an allocation of four lists of two ODTs. */
 
 static void cases_1_to_3(void)
 {
@@ -56,10 +57,11 @@ static void case_7(void)
     memcpy(r.meas + 0x40, "\x64\x00", 2);
     HERE();
     unlock(&r, LISTS);
+    allocate_usual(&r);
     entry(&r, 1, 0, 0, 2, 1, 0x40);
     mode(&r, 1, 0);
     start(&r, 1);
-    for (int ctr = r.slave_ctr; ctr < 9; ctr++)
+    while (r.slave_ctr != 9) /* round to 9 again: setting up takes more messages than that */
         ASK(&r, "FF 40 01 00 00 00", "FD");
     NUMBER("sampled", 256, event(&r, 0, 0x1234));
     SENDS_FRAME(&r, "9A 05 09 02 34 12 64 00 BA");
@@ -86,7 +88,7 @@ static void cases_8_and_9(void)
 static void case_10(void)
 {
     struct rig r;
-    unlocked(&r);
+    allocated(&r);
     HERE();
     entries(&r, 0, 0, 62, 0, 0);
     mode(&r, 0, 0);
@@ -104,8 +106,8 @@ static void case_11(void)
                                         "FE 00", "04 07 00 %02X", "FE 00", "06 07 00 %02X"};
     struct rig r;
     uint8_t packet[PACKET] = {0};
-    unlocked(&r);
-    for (unsigned list = 0; list < 4; list++) {
+    allocated(&r);
+    for (unsigned list = 0; list < LIST_COUNT; list++) {
         HERE();
         entry(&r, list, 0, 0, 1, 1, 0);
         mode(&r, list, 0);
@@ -138,7 +140,10 @@ static void examples(void)
     ASK(&r, "FF", "F6 FF FF 00 60 00 00 00");
     ASK(&r, "FF", "F0 04 00 00 80 3F");
     ASK(&r, "FF 00 00 80 3F", "F4 04 FF 00 60 00 00 00");
-    ASK(&r, "FF", "E3 FF 00 00");
+    ASK(&r, "FF", "D6");
+    ASK(&r, "FF", "D5 FF 01 00");
+    ASK(&r, "FF", "D4 FF 00 00 01");
+    ASK(&r, "FF", "D3 FF 00 00 00 02");
     ASK(&r, "FF", "E2 FF 00 00 00 00");
     ASK(&r, "FF", "E1 FF 04 00 08 05 00 00");
     ASK(&r, "FF", "E0 10 00 00 00 00 01 00");

@@ -45,9 +45,9 @@ static void bad_state(const struct rig *r, uint8_t *state, size_t len)
 
 static void wrong_sizes(void)
 {
-    /* 248 and 249 are those of earlier versions */
-    static const size_t sizes[] = {0,   1,   4,   23,   134, 135, 248,
-                                   249, 944, 946, 1024, 2 * XCP_STATE_SIZE};
+    /* 248, 249 and 945 are those of earlier versions */
+    static const size_t sizes[] = {0,   1,   4,    23,   134,  135, 248,
+                                   249, 945, 1485, 1487, 2048, 2 * XCP_STATE_SIZE};
     for (size_t i = 0; i < COUNT(sizes); i++) {
         struct rig r;
         struct kept k;
@@ -91,7 +91,7 @@ static void marks(void)
 {
     struct rig r;
     rig_start(&r, 16, 16, 1);
-    BYTES("mark", (const uint8_t *)"XCP4", 4, r.state, 4);
+    BYTES("mark", (const uint8_t *)"XCP5", 4, r.state, 4);
     for (unsigned bit = 0; bit < 32; bit++) {
         uint8_t other = (uint8_t)(1 << bit % 8);
         check_note("bit %u of the mark", bit);
@@ -223,6 +223,7 @@ static void no_memories(void)
     HERE();
     unlock(&r, CALIBRATION);
     unlock(&r, LISTS);
+    allocate_usual(&r);
     for (unsigned ext = 0; ext < 2; ext++) {
         ASK(&r, "FF", "F6 00 00 %02X 00 00 00 00", ext);
         ASK(&r, "FE 24", "F5 01");
@@ -259,6 +260,7 @@ static void moved_state(void)
         ASK(&r, CONNECTED, "FF 00");
         HERE();
         unlock(&r, LISTS);
+        allocate_usual(&r);
         entry(&r, 0, 0, 0, 4, 1, i);
         mode(&r, 0, 0);
         start(&r, 0);

@@ -81,14 +81,14 @@ static void one_key_left(struct rig *r)
 /* The pointer is at a list that does not run. */
 static void pointing(struct rig *r)
 {
-    unlocked(r);
+    allocated(r);
     ask(r, "FF", "E2 00 03 00 01 02");
 }
 
 /* List 1 lacks one thing that a start needs, and is selected together with list 0, which is fit. */
 static void selected(struct rig *r)
 {
-    unlocked(r);
+    allocated(r);
     entry(r, 0, 0, 0, 1, 0, 0);
     mode(r, 0, 0);
     ask(r, "FF 00", "DE 02 00 00");
@@ -389,6 +389,68 @@ static const struct row rows[] = {
     {__LINE__, lists_locked, "D9", "FE 25"},
     {__LINE__, connected, "DA 01 02 03 04 05 06 07", "FE 25"},
     {__LINE__, shut, "D9", "FE 25"},
+    /* FREE_DAQ needs lists, and no more */
+    {__LINE__, lists_locked, "D6", "FE 25"},
+    {__LINE__, connected, "D6 01 02 03 04 05 06 07", "FE 25"},
+    {__LINE__, shut, "D6", "FE 25"},
+    /* ALLOC_DAQ: short, locked, no FREE_DAQ yet or lists there already, count, pool (more of these
+     * four commands in pool.c) */
+    {__LINE__, lists_locked, "D5", "FE 21"},
+    {__LINE__, lists_locked, "D5 00 00", "FE 21"},
+    {__LINE__, unlocked, "D5 00 09", "FE 21"},
+    {__LINE__, lists_locked, "D5 00 00 00", "FE 25"},
+    {__LINE__, connected, "D5 00 FF FF", "FE 25"},
+    {__LINE__, unlocked, "D5 00 00 00", "FE 29"},
+    {__LINE__, unlocked, "D5 00 01 00", "FE 29"},
+    {__LINE__, unlocked, "D5 00 09 00", "FE 29"},
+    {__LINE__, busy, "D5 00 00 00", "FE 29"},
+    {__LINE__, busy, "D5 00 04 00", "FE 29"},
+    {__LINE__, no_entries, "D5 00 09 00", "FE 29"},
+    {__LINE__, freed, "D5 00 00 00", "FE 22"},
+    {__LINE__, freed, "D5 00 09 00", "FE 30"},
+    {__LINE__, freed, "D5 00 00 01", "FE 30"},
+    {__LINE__, freed, "D5 00 FF FF", "FE 30"},
+    /* ALLOC_ODT: short, locked, no lists yet or entries there already or a second time, numbers,
+     * pool */
+    {__LINE__, lists_locked, "D4", "FE 21"},
+    {__LINE__, lists_locked, "D4 00 08 00", "FE 21"},
+    {__LINE__, lists_locked, "D4 00 08 00 00", "FE 25"},
+    {__LINE__, unlocked, "D4 00 00 00 01", "FE 29"},
+    {__LINE__, freed, "D4 00 08 00 00", "FE 29"},
+    {__LINE__, freed, "D4 00 00 00 11", "FE 29"},
+    {__LINE__, busy, "D4 00 02 00 01", "FE 29"},
+    {__LINE__, busy, "D4 00 04 00 00", "FE 29"},
+    {__LINE__, no_entries, "D4 00 01 00 01", "FE 29"},
+    {__LINE__, no_entries, "D4 00 01 00 00", "FE 29"},
+    {__LINE__, no_entries, "D4 00 01 00 FF", "FE 29"},
+    {__LINE__, no_entries, "D4 00 02 00 11", "FE 22"},
+    {__LINE__, no_entries, "D4 00 01 01 01", "FE 22"},
+    {__LINE__, no_entries, "D4 00 FF FF 01", "FE 22"},
+    {__LINE__, no_entries, "D4 00 00 00 00", "FE 22"},
+    {__LINE__, no_entries, "D4 00 00 00 0E", "FE 30"},
+    {__LINE__, no_entries, "D4 00 00 00 FF", "FE 30"},
+    /* ALLOC_ODT_ENTRY: short, locked, no ODT yet or a second time, numbers, list runs, pool */
+    {__LINE__, lists_locked, "D3", "FE 21"},
+    {__LINE__, lists_locked, "D3 00 08 00 00", "FE 21"},
+    {__LINE__, lists_locked, "D3 00 08 00 00 00", "FE 25"},
+    {__LINE__, unlocked, "D3 00 00 00 00 01", "FE 29"},
+    {__LINE__, freed, "D3 00 08 00 00 00", "FE 29"},
+    {__LINE__, no_odts, "D3 00 08 00 00 00", "FE 29"},
+    {__LINE__, no_odts, "D3 00 00 00 00 81", "FE 29"},
+    {__LINE__, busy, "D3 00 02 00 01 00", "FE 29"},
+    {__LINE__, busy, "D3 00 03 00 01 FF", "FE 29"},
+    {__LINE__, busy, "D3 00 04 00 00 01", "FE 22"},
+    {__LINE__, no_entries, "D3 00 02 00 00 81", "FE 22"},
+    {__LINE__, no_entries, "D3 00 01 01 00 81", "FE 22"},
+    {__LINE__, no_entries, "D3 00 01 00 03 81", "FE 22"},
+    {__LINE__, no_entries, "D3 00 00 00 00 01", "FE 22"},
+    {__LINE__, no_entries, "D3 00 01 00 00 00", "FE 22"},
+    {__LINE__, half_running, "D3 00 00 00 01 00", "FE 22"},
+    {__LINE__, half_running, "D3 00 00 00 01 FF", "FE 11"},
+    {__LINE__, half_running, "D3 00 00 00 01 01", "FE 11"},
+    {__LINE__, half_running, "D3 00 01 00 00 80", "FE 30"},
+    {__LINE__, no_entries, "D3 00 01 00 00 81", "FE 30"},
+    {__LINE__, no_entries, "D3 00 01 00 02 FF", "FE 30"},
     /* Not refused, and changing nothing either: status, infos, a seed for what is open (one for
      * the other resource stays good, and the generator stays), a start of a running list */
     {__LINE__, busy, "FD", "FF 40 00 00 00 00"},
@@ -397,7 +459,8 @@ static const struct row rows[] = {
     {__LINE__, seeded_lists, "F8 00 01", "FF 00"},
     {__LINE__, one_key_left, "F8 00 01", "FF 00"},
     {__LINE__, busy, "F8 00 04", "FF 00"},
-    {__LINE__, busy, "DA", "FF 10 04 00 02 00 00 00"},
+    {__LINE__, busy, "DA", "FF 11 04 00 02 00 00 00"},
+    {__LINE__, unlocked, "DA", "FF 11 00 00 02 00 00 00"},
     {__LINE__, busy, "D9", "FF 01 04 00 00 6A 01 00"},
     {__LINE__, busy, "DE 01 02 00", "FF 04"},
     {__LINE__, busy, "DE 02 01 00", "FF 02"},
@@ -417,14 +480,13 @@ static void every_row(void)
 /* Fewest bytes of each known code; 0 is no code of ours. */
 static size_t fewest(unsigned code)
 {
-    static const uint8_t of[] = {
-        [0xFF - 0xD9] = 2, [0xFE - 0xD9] = 1, [0xFD - 0xD9] = 1, [0xFC - 0xD9] = 1,
-        [0xF8 - 0xD9] = 3, [0xF7 - 0xD9] = 2, [0xF6 - 0xD9] = 8, [0xF5 - 0xD9] = 2,
-        [0xF4 - 0xD9] = 8, [0xF3 - 0xD9] = 8, [0xF0 - 0xD9] = 2, [0xED - 0xD9] = 8,
-        [0xE3 - 0xD9] = 4, [0xE2 - 0xD9] = 6, [0xE1 - 0xD9] = 8, [0xE0 - 0xD9] = 8,
-        [0xDE - 0xD9] = 4, [0xDD - 0xD9] = 2, [0xDA - 0xD9] = 1, [0xD9 - 0xD9] = 1,
+    static const uint8_t of[256] = {
+        [0xFF] = 2, [0xFE] = 1, [0xFD] = 1, [0xFC] = 1, [0xF8] = 3, [0xF7] = 2,
+        [0xF6] = 8, [0xF5] = 2, [0xF4] = 8, [0xF3] = 8, [0xF0] = 2, [0xED] = 8,
+        [0xE3] = 4, [0xE2] = 6, [0xE1] = 8, [0xE0] = 8, [0xDE] = 4, [0xDD] = 2,
+        [0xDA] = 1, [0xD9] = 1, [0xD6] = 1, [0xD5] = 4, [0xD4] = 5, [0xD3] = 6,
     };
-    return code < 0xD9 ? 0 : of[code - 0xD9];
+    return of[code];
 }
 
 /* Every code at every length: unknown is 0x20 even alone, a known one too short is 0x21. */
@@ -452,8 +514,8 @@ static void every_code(void)
 
 static void unknown_changes_nothing(void)
 {
-    static const char *const codes[] = {"00", "BF", "C0", "CF", "D8", "DB", "DC", "DF", "E4",
-                                        "EC", "EE", "EF", "F1", "F2", "F9", "FA", "FB"};
+    static const char *const codes[] = {"00", "BF", "C0", "CF", "D2", "D7", "D8", "DB", "DC", "DF",
+                                        "E4", "EC", "EE", "EF", "F1", "F2", "F9", "FA", "FB"};
     for (size_t i = 0; i < COUNT(codes); i++) {
         struct rig r;
         busy(&r);
@@ -469,6 +531,7 @@ static void unknown_changes_nothing(void)
 static void all_set(struct rig *r)
 {
     writing(r);
+    allocate_usual(r);
     ask(r, "FF", "E2 00 03 00 00 00");
 }
 
@@ -574,6 +637,11 @@ static void ignored_bytes(void)
     BYTES("one byte written", (const uint8_t *)"\x41\x42\x43\x54", 4, r.cal + 0x100, 4);
     ASK(&r, "FF", "ED 01 BB 00 03 01 00 00 44 AA*55");
     BYTES("one byte written", (const uint8_t *)"\x41\x42\x43\x44", 4, r.cal + 0x100, 4);
+    ASK(&r, "FF", "D6 AA BB CC DD EE FF 01");
+    ASK(&r, "FF", "D5 AA 02 00 BB CC DD EE");
+    ASK(&r, "FF", "D4 AA 00 00 02 BB CC DD");
+    ASK(&r, "FF", "D4 BB 01 00 01 CC DD EE");
+    ASK(&r, "FF", "D3 AA 01 00 00 01 BB CC");
     ASK(&r, "FF", "E3 AA 01 00 BB CC DD EE");
     ASK(&r, "FF", "E2 AA 01 00 00 00 BB CC");
     ASK(&r, "FF", "E1 FF 01 00 02 01 00 00");
@@ -582,7 +650,7 @@ static void ignored_bytes(void)
     NUMBER("sampled", 0x100, event(&r, 1, 0xABCD));
     SENDS(&r, "02 CD AB 43");
     ASK(&r, "FF", "DD 00 AA BB CC DD EE FF");
-    ASK(&r, "FF 10 04 00 02 00 00 00", "DA AA BB CC DD EE FF 01");
+    ASK(&r, "FF 11 02 00 02 00 00 00", "DA AA BB CC DD EE FF 01");
     ASK(&r, "FF 01 04 00 00 6A 01 00", "D9 AA BB CC DD EE FF 01");
     ASK(&r, "FF", "FE AA BB CC DD EE FF 01");
     rig_end(&r);

@@ -20,6 +20,11 @@ static const char *const session[] = {
     "F4 07 9A 00 9C 00 00 00", /* SHORT_UPLOAD up to where DOWNLOAD left the MTA */
     "F8 00 04",                /* lists: seed, key */
     "F7 04 04 01 E0 08",
+    "D6",                      /* two lists; the second has two ODTs with an entry each */
+    "D5 9A 02 00",
+    "D4 9B 01 00 02",
+    "D3 00 01 00 00 01",
+    "D3 00 01 00 01 01",
     "E2 00 01 00 00 00",
     "E1 FF 04 01 10 00 00 00",
     "E2 00 01 00 01 00",
@@ -326,6 +331,7 @@ static void whole_session(damage *by)
     struct witness w;
     struct moment m;
     uint8_t packet[PACKET], frame[FRAME];
+    uint32_t sampled = 0;
     memset(&w, 0, sizeof w);
     one_key_left(&r);
     memcpy(w.cal, r.cal, MEMORY);
@@ -333,7 +339,7 @@ static void whole_session(damage *by)
         size_t len = bytes_of(session[step], packet, sizeof packet);
         size_t size = frame_of(r.master_ctr++, packet, len, frame);
         HERE();
-        event(&r, 0, (uint16_t)step);
+        sampled += event(&r, 0, (uint16_t)step);
         m.rig = r;
         m.witness = w;
         memcpy(m.state, r.state, sizeof m.state);
@@ -348,6 +354,7 @@ static void whole_session(damage *by)
         check_bytes("memory", w.cal, MEMORY, r.cal, MEMORY);
     }
     check_note("%s", "");
+    check_numbers("and its list had samples", 1, sampled > 0);
     check_bytes("what the session wrote", written, sizeof written, r.cal + 0x9A, sizeof written);
     bytes_of("9A*28 9B*28 9B*31 9A*31", table, sizeof table);
     check_bytes("and in long packets", table, sizeof table, r.cal + 0x140, sizeof table);

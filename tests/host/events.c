@@ -3,7 +3,7 @@
 /* Lists 0 and 1 have two packets, lists 2 and 3 one; 0 and 2 are on event 0, 1 and 3 on event 1. */
 static void sampling(struct rig *r)
 {
-    unlocked(r);
+    allocated(r);
     for (unsigned list = 0; list < LIST_COUNT; list++) {
         entry(r, list, 0, 0, 2, 1, 16 * list);
         if (list < 2)
@@ -17,7 +17,7 @@ static void sampling(struct rig *r)
 static void captured_at_once(void)
 {
     struct rig r;
-    unlocked(&r);
+    allocated(&r);
     memcpy(r.cal, "\x10\x11\x12\x13\x14\x15\x16\x17", 8);
     memcpy(r.meas, "\x20\x21\x22\x23\x24\x25\x26\x27", 8);
     HERE();
@@ -65,7 +65,7 @@ static void missed(void)
 static void counts(void)
 {
     struct rig r;
-    unlocked(&r);
+    allocated(&r);
     for (unsigned list = 0; list < LIST_COUNT; list++) {
         HERE();
         entry(&r, list, 0, 0, 1, 0, 0);
@@ -85,7 +85,7 @@ static void counts(void)
 
 static void no_list_runs(void)
 {
-    static void (*const situations[])(struct rig *) = {powered, connected, unlocked};
+    static void (*const situations[])(struct rig *) = {powered, connected, unlocked, allocated};
     for (size_t i = 0; i < COUNT(situations); i++)
         for (uint32_t number = 0; number < 2; number++) {
             struct rig r;
@@ -105,7 +105,7 @@ static void shrunk(void)
     for (size_t len = 0; len <= 8; len++) {
         struct rig r;
         uint8_t expected[PACKET] = {0, 0x34, 0x12}, packet[PACKET];
-        unlocked(&r);
+        allocated(&r);
         memcpy(r.cal, "\x10\x11\x12\x13\x14\x15\x16\x17", 8);
         memcpy(r.meas, "\x20\x21\x22\x23\x24\x25\x26\x27", 8);
         check_note("%zu bytes left", len);
@@ -142,6 +142,7 @@ static void other_memories(void)
     rig_start(&r, 5000, 5000, 1);
     ask(&r, CONNECTED, "FF 00");
     unlock(&r, LISTS);
+    allocate_usual(&r);
     ASK(&r, "FF", "E2 00 00 00 00 00");
     REFUSED(&r, "FE 24", "E1 FF 02 01 FF 0F 00 00");
     ASK(&r, "FF", "E1 FF 01 01 FF 0F 00 00");
@@ -161,10 +162,10 @@ static void other_memories(void)
 /* Lists as full as they can be: 61 measured bytes in ODT 0, 63 of calibration in ODT 1. */
 static void full_lists(struct rig *r)
 {
-    unlocked(r);
+    allocated(r);
     for (unsigned list = 0; list < LIST_COUNT; list++) {
-        entries(r, list, 0, ODT_0_MOST, 1, 0x400 * list);
-        entries(r, list, 1, ODT_1_MOST, 0, 0x400 * list + 7);
+        entries(r, list, 0, FIRST_MOST, 1, 0x400 * list);
+        entries(r, list, 1, LATER_MOST, 0, 0x400 * list + 7);
         mode(r, list, 0);
         start(r, list);
     }
@@ -177,9 +178,9 @@ static void sends_full(struct rig *r, uint16_t clock)
         for (unsigned list = 0; list < LIST_COUNT; list++)
             if (odt == 0)
                 sends(r, "%02X %02X %02X %s", 2 * list, LE16(clock),
-                      hex_of(r->meas + 0x400 * list, ODT_0_MOST));
+                      hex_of(r->meas + 0x400 * list, FIRST_MOST));
             else
-                sends(r, "%02X %s", 2 * list + 1, hex_of(r->cal + 0x400 * list + 7, ODT_1_MOST));
+                sends(r, "%02X %s", 2 * list + 1, hex_of(r->cal + 0x400 * list + 7, LATER_MOST));
     sends(r, "");
 }
 
@@ -250,10 +251,10 @@ static void shrunk_full(void)
         rig_resize_meas(&r, lengths[i]);
         check_note("%zu bytes left", lengths[i]);
         NUMBER("sampled all the same", 0x400, event(&r, 0, 0x0201));
-        SENDS(&r, "00 01 02 %s", hex_of(expected, ODT_0_MOST));
+        SENDS(&r, "00 01 02 %s", hex_of(expected, FIRST_MOST));
         for (unsigned list = 1; list < LIST_COUNT; list++)
             SENDS(&r, "%02X 01 02 00*61", 2 * list);
-        SENDS(&r, "01 %s", hex_of(r.cal + 7, ODT_1_MOST));
+        SENDS(&r, "01 %s", hex_of(r.cal + 7, LATER_MOST));
         check_note("%s", "");
         rig_end(&r);
     }
@@ -263,7 +264,7 @@ static void shrunk_full(void)
 static void empty_odts(void)
 {
     struct rig r;
-    unlocked(&r);
+    allocated(&r);
     HERE();
     entry(&r, 3, 1, 2, 1, 0, 4);
     mode(&r, 3, 1);
@@ -278,7 +279,7 @@ static void empty_odts(void)
 /* What stops a list drops its second packet, though the first has left. */
 static void half_a_sample(void)
 {
-    static const char *const commands[] = {"DE 00 00 00", "DD 00", "DD 02", "FE", "FF 00"};
+    static const char *const commands[] = {"DE 00 00 00", "DD 00", "DD 02", "D6", "FE", "FF 00"};
     for (size_t i = 0; i < COUNT(commands); i++) {
         struct rig r;
         uint8_t packet[PACKET];
@@ -299,18 +300,22 @@ static void half_a_sample(void)
     }
 }
 
-/* The round runs on across sessions, and an answer does not move it. */
-static void round_runs_on(void)
+/* What frees the lists begins the round at list 0, in the same session or in the next; an answer
+ * does not move it. */
+static void round_begins_anew(int connects)
 {
     struct rig r;
     uint8_t packet[PACKET];
     sampling(&r);
     NUMBER("sampled", 0x200, event(&r, 1, 1));
-    NUMBER("list 1", 5, (uint32_t)slot(&r, packet)); /* the last one served is list 1 */
-    NUMBER("taken", 1, give(&r, "FF 00"));
-    SENDS(&r, CONNECTED);
+    NUMBER("list 1", 5, (uint32_t)slot(&r, packet)); /* list 2 would be next */
+    if (connects) {
+        ASK(&r, CONNECTED, "FF 00");
+        HERE();
+        unlock(&r, LISTS);
+    }
     HERE();
-    unlock(&r, LISTS);
+    allocate_usual(&r);
     for (unsigned list = 0; list < LIST_COUNT; list++) {
         entry(&r, list, 0, 0, 1, 0, 0);
         mode(&r, list, 0);
@@ -318,11 +323,11 @@ static void round_runs_on(void)
     }
     NUMBER("sampled", 0x400, event(&r, 0, 0));
     NUMBER("taken", 1, give(&r, "FC"));
-    SENDS(&r, "04 00 00 %02X", r.cal[0]); /* after 1 comes 2; the last frame was an answer */
+    SENDS(&r, "00 00 00 %02X", r.cal[0]); /* the last frame was an answer */
     SENDS(&r, "FE 00");
-    SENDS(&r, "06 00 00 %02X", r.cal[0]);
-    SENDS(&r, "00 00 00 %02X", r.cal[0]);
     SENDS(&r, "02 00 00 %02X", r.cal[0]);
+    SENDS(&r, "04 00 00 %02X", r.cal[0]);
+    SENDS(&r, "06 00 00 %02X", r.cal[0]);
     SENDS(&r, "");
     rig_end(&r);
 }
@@ -353,105 +358,6 @@ static void between_bytes(size_t count)
     rig_end(&r);
 }
 
-/* The rule of turns, as a model to run against: whose frame is next, or -1 for none, 4 for the
- * answer. waiting[l] is how many packets list l has unsent. */
-struct turns {
-    int answer, last_was_answer, served, waiting[4];
-};
-
-static int whose_turn(const struct turns *t)
-{
-    if (t->answer && !t->last_was_answer)
-        return 4;
-    for (int i = 1; i <= 4; i++)
-        if (t->waiting[(t->served + i) % 4] > 0)
-            return (t->served + i) % 4;
-    return t->answer ? 4 : -1;
-}
-
-static void one_turn(struct rig *r, struct turns *t)
-{
-    uint8_t packet[PACKET] = {0};
-    int turn = whose_turn(t);
-    size_t len = slot(r, packet);
-    int got = len == 0 ? -1 : packet[0] >= 0xFE ? 4 : packet[0] / 2;
-    NUMBER("turn", (uint32_t)turn, (uint32_t)got);
-    if (turn == 4) {
-        t->answer = 0;
-        t->last_was_answer = 1;
-    } else if (turn >= 0) {
-        int second = turn < 2 && t->waiting[turn] == 1;
-        NUMBER("packet", (uint32_t)(2 * turn + second), packet[0]);
-        t->waiting[turn]--;
-        t->served = turn;
-        t->last_was_answer = 0;
-    }
-}
-
-static void one_event(struct rig *r, struct turns *t, unsigned number)
-{
-    uint32_t expected = 0;
-    for (unsigned list = number; list < 4; list += 2)
-        if (t->waiting[list] > 0) {
-            expected += 1;
-        } else {
-            expected += 256;
-            t->waiting[list] = list < 2 ? 2 : 1;
-        }
-    NUMBER("event", expected, event(r, number, (uint16_t)expected));
-}
-
-static void turns(void)
-{
-    struct rig r;
-    struct turns t = {0, 1, 3, {0, 0, 0, 0}};
-    uint32_t number = 12345;
-    sampling(&r);
-    for (int step = 0; step < 4000; step++) {
-        number = number * 1664525u + 1013904223u;
-        check_note("step %d", step);
-        unsigned choice = number >> 24;
-        if (choice < 48)
-            one_event(&r, &t, choice % 2);
-        else if (choice < 128) {
-            NUMBER("SYNCH", t.answer ? 6 : 1, give(&r, "FC"));
-            t.answer = 1;
-        } else
-            one_turn(&r, &t);
-    }
-    check_note("%s", "");
-    rig_end(&r);
-}
-
-/* With answers coming all the time, the last of eight packets leaves in the sixteenth slot. */
-static void sixteen_slots(void)
-{
-    struct rig r;
-    uint8_t packet[PACKET];
-    unlocked(&r);
-    for (unsigned list = 0; list < LIST_COUNT; list++) {
-        HERE();
-        entry(&r, list, 0, 0, 1, 0, 0);
-        entry(&r, list, 1, 0, 1, 0, 1);
-        mode(&r, list, 0);
-        start(&r, list);
-    }
-    NUMBER("sampled", 0x400, event(&r, 0, 0));
-    drain(&r, packet); /* the last frame is list 3's */
-    NUMBER("sampled", 0x400, event(&r, 0, 0));
-    for (unsigned i = 0; i < 16; i++) {
-        check_note("slot %u", i + 1);
-        if (i % 2 == 0)
-            NUMBER("SYNCH", 1, give(&r, "FC"));
-        NUMBER("a frame", 1, slot(&r, packet) > 0);
-        unsigned list = i / 2 % 4, odt = i / 8;
-        NUMBER("its first byte", i % 2 == 0 ? 0xFE : 2 * list + odt, packet[0]);
-    }
-    check_note("%s", "");
-    SENDS(&r, "");
-    rig_end(&r);
-}
-
 void test_events(void)
 {
     captured_at_once();
@@ -465,9 +371,8 @@ void test_events(void)
     shrunk_full();
     empty_odts();
     half_a_sample();
-    round_runs_on();
+    round_begins_anew(0);
+    round_begins_anew(1);
     between_bytes(6);
     between_bytes(DOWNLOAD_MOST);
-    turns();
-    sixteen_slots();
 }

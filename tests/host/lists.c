@@ -10,7 +10,7 @@ static void small_list(struct rig *r, unsigned list, unsigned event_number)
 /* Four small lists on event 0; all waiting packets of an event, then no more. */
 static void four_lists(struct rig *r)
 {
-    unlocked(r);
+    allocated(r);
     memcpy(r->meas, "\xB0\xB1\xB2\xB3", 4);
     for (unsigned list = 0; list < LIST_COUNT; list++)
         small_list(r, list, 0);
@@ -44,7 +44,7 @@ static void pointer_steps(void)
     for (unsigned odt = 0; odt < ODT_COUNT; odt++)
         for (unsigned first = 0; first < ENTRY_COUNT; first++) {
             struct rig r;
-            unlocked(&r);
+            allocated(&r);
             check_note("ODT %u from entry %u", odt, first);
             ASK(&r, "FF", "E2 00 03 00 %02X %02X", odt, first);
             for (unsigned at = first; at < ENTRY_COUNT; at++)
@@ -197,7 +197,7 @@ static void select_then_start(void)
 static void select_any(void)
 {
     struct rig r;
-    unlocked(&r);
+    allocated(&r);
     memcpy(r.meas, "\xB0\xB1\xB2\xB3", 4);
     HERE();
     small_list(&r, 0, 0);
@@ -282,7 +282,7 @@ static void starts_if_it_fits(struct rig *r, unsigned odt, const uint8_t sizes[E
 static void every_size(void)
 {
     struct rig r;
-    unlocked(&r);
+    allocated(&r);
     for (unsigned i = 0; i < 2 * 2 * 3 * 625; i++) {
         uint8_t sizes[ENTRY_COUNT];
         unsigned first = i / 625 % 3 * 6, left = i % 625;
@@ -298,7 +298,7 @@ static void every_size(void)
 static void every_sum(void)
 {
     struct rig r;
-    unlocked(&r);
+    allocated(&r);
     for (unsigned odt = 0; odt < ODT_COUNT; odt++)
         for (unsigned sum = 0; sum <= ENTRY_COUNT * ENTRY_MOST; sum++) {
             uint8_t large[ENTRY_COUNT], even[ENTRY_COUNT];
@@ -333,8 +333,8 @@ static void size_0(void)
 static void infos(void)
 {
     struct rig r;
-    unlocked(&r);
-    ASK(&r, "FF 10 04 00 02 00 00 00", "DA");
+    allocated(&r);
+    ASK(&r, "FF 11 04 00 02 00 00 00", "DA");
     ASK(&r, "FF 01 04 00 00 6A 01 00", "D9");
     rig_end(&r);
 }

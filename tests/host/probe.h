@@ -11,10 +11,11 @@ struct seen {
 };
 
 /* Writes down the packets that wait, locks, MTA, pointer, seed, generator, the count of wrong keys,
- * selections and lists. */
+ * how many lists there are and what can still be allocated, selections and lists. */
 void probe(struct rig *r, struct seen *seen);
 
-/* A command that must be refused so, and leave all that a probe and the memories show. */
+/* A command that must be refused so, and leave all that a probe and the memories show, and every
+ * byte of the state but the reader's place and what sending its answer changes. */
 void refused(struct rig *r, const char *answer, const char *format, ...);
 #define REFUSED(r, ...) (HERE(), refused(r, __VA_ARGS__))
 

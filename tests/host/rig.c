@@ -210,10 +210,10 @@ size_t slot(struct rig *r, uint8_t packet[PACKET])
 
 void drain(struct rig *r, uint8_t packet[PACKET])
 {
-    int slots = 0;
-    while (slots <= 16 && slot(r, packet) > 0)
-        slots++;
-    insist("nothing waits after sixteen slots", 1, slots <= 16);
+    int frames = 0, most = POOL_ODTS + 1; /* a packet of each, and an answer */
+    while (frames <= most && slot(r, packet) > 0)
+        frames++;
+    insist("nothing waits after seventeen frames", 1, frames <= most);
 }
 
 uint32_t event(struct rig *r, uint32_t number, uint16_t clock)
@@ -297,6 +297,22 @@ void spend_key(struct rig *r, uint8_t resource)
     ask(r, CONNECTED, "FF 00");
 }
 
+void allocate(struct rig *r, unsigned lists, unsigned odts, unsigned count)
+{
+    ask(r, "FF", "D6");
+    ask(r, "FF", "D5 00 %02X 00", lists);
+    for (unsigned list = 0; list < lists; list++)
+        ask(r, "FF", "D4 00 %02X 00 %02X", list, odts);
+    for (unsigned odt = 0; odt < lists * odts; odt++)
+        ask(r, "FF", "D3 00 %02X 00 %02X %02X", odt / odts, odt % odts, count);
+    r->odts = odts;
+}
+
+void allocate_usual(struct rig *r)
+{
+    allocate(r, LIST_COUNT, ODT_COUNT, ENTRY_COUNT);
+}
+
 void entry(struct rig *r, unsigned list, unsigned odt, unsigned at, unsigned size, unsigned ext,
            uint32_t address)
 {
@@ -321,6 +337,6 @@ void mode(struct rig *r, unsigned list, unsigned event_number)
 void start(struct rig *r, unsigned list)
 {
     char answer[8];
-    snprintf(answer, sizeof answer, "FF %02X", 2 * list);
+    snprintf(answer, sizeof answer, "FF %02X", r->odts * list);
     ask(r, answer, "DE 01 %02X 00", list);
 }

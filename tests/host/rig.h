@@ -17,6 +17,7 @@ struct rig {
     uint8_t master_ctr; /* of the next frame to the slave; it is not judged */
     uint8_t slave_ctr;  /* that the slave's next frame must carry */
     uint32_t seed;      /* the last one that the slave gave */
+    unsigned odts;      /* that each list was last allocated with */
 };
 
 /* The four bytes of a number, for the formats below. */
@@ -51,7 +52,7 @@ uint32_t give(struct rig *r, const char *format, ...);
 /* One slot; gives the packet's length, 0 for none. Frame, CTR and the rest of out are checked. */
 size_t slot(struct rig *r, uint8_t packet[PACKET]);
 
-/* Slots until nothing waits, which must be soon; the last packet is left in packet. */
+/* Slots until nothing waits: no more than frames can wait. The last packet is left in packet. */
 void drain(struct rig *r, uint8_t packet[PACKET]);
 
 /* An event; gives 256 times the sampled lists plus the missed. */
@@ -83,6 +84,11 @@ void unlock(struct rig *r, uint8_t resource);
 /* One of the three keys that may be wrong: a seed, and its key with one wrong bit. That ends the
  * session, and CONNECT begins another. */
 void spend_key(struct rig *r, uint8_t resource);
+
+/* FREE_DAQ, and then so many lists, with so many ODTs each, with so many entries each; or as many
+ * as most tests have. All must be done. */
+void allocate(struct rig *r, unsigned lists, unsigned odts, unsigned count);
+void allocate_usual(struct rig *r);
 
 /* An entry through SET_DAQ_PTR and WRITE_DAQ; a list's mode; a start. All must be done. */
 void entry(struct rig *r, unsigned list, unsigned odt, unsigned at, unsigned size, unsigned ext,

@@ -90,13 +90,14 @@ static void wrong_key(void)
     rig_end(&r);
 }
 
-/* A seed is out, lists are open, MTA and pointer are set. */
+/* A seed is out, lists are open and allocated, MTA and pointer are set. */
 static void key_wanted(struct rig *r)
 {
     connected(r);
     unlock(r, LISTS);
     get_seed(r, CALIBRATION);
     ask(r, "FF", "F6 00 00 01 60 00 00 00");
+    allocate_usual(r);
     ask(r, "FF", "E2 00 01 00 01 02");
 }
 
@@ -114,13 +115,16 @@ static const struct {
     {__LINE__, key_wanted, "F7 04 00 00 00 00", 1},
 };
 
-/* What a session shows as it is, and with both resources open: a lock hides what it guards. */
+/* What a session shows as it is, and with both resources open: a lock hides what it guards. Then
+ * with lists, of which nothing that was there before may be left. */
 static void probe_open(struct rig *r, struct seen *seen)
 {
     seen->len = 0;
     probe(r, seen);
     unlock(r, CALIBRATION);
     unlock(r, LISTS);
+    probe(r, seen);
+    allocate_usual(r);
     probe(r, seen);
 }
 
@@ -224,7 +228,7 @@ static void keys(void)
             LE32(key_of(r.seed, one)));
         ASK(&r, i == 0 ? "FF 00 04 00 00 00" : "FF 00 01 00 00 00", "FD");
         ASK(&r, "FE 29", "F7 04 %02X %02X %02X %02X", LE32(key_of(r.seed, one))); /* used up */
-        ASK(&r, i == 0 ? "FE 25" : "FF 10 04 00 02 00 00 00", "DA");
+        ASK(&r, i == 0 ? "FE 25" : "FF 11 00 00 02 00 00 00", "DA");
         ASK(&r, i == 0 ? "FE 29" : "FE 25", "F0 01 00");
         get_seed(&r, other);
         ASK(&r, "FF 00", "F8 00 %02X", one); /* open already: the other's seed stays good */

@@ -12,6 +12,7 @@ static const uint8_t resources[] = {CALIBRATION, LISTS};
 static const char *const locked[] = {
     "F0 01 00", "ED 01 00 00 13 00 00 00 00", "E3 00 00 00", "E2 00 00 00 00 00",
     "E1 FF 00 00 00 00 00 00", "E0 10 00 00 00 00 01 00", "DE 00 00 00", "DD 00", "DA", "D9",
+    "D6", "D5 00 01 00", "D4 00 00 00 01", "D3 00 00 00 00 01",
 };
 
 /* In a new session no seed is to be had, so nothing can be unlocked; and reading goes on. */

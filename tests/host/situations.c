@@ -18,6 +18,46 @@ void unlocked(struct rig *r)
     unlock(r, LISTS);
 }
 
+void freed(struct rig *r)
+{
+    unlocked(r);
+    ask(r, "FF", "D6");
+}
+
+void no_odts(struct rig *r)
+{
+    freed(r);
+    ask(r, "FF", "D5 00 02 00");
+}
+
+void no_entries(struct rig *r)
+{
+    no_odts(r);
+    ask(r, "FF", "D4 00 01 00 03");
+}
+
+void half_allocated(struct rig *r)
+{
+    no_odts(r);
+    ask(r, "FF", "D4 00 00 00 02");
+    ask(r, "FF", "D4 00 01 00 01");
+    ask(r, "FF", "D3 00 00 00 00 01");
+}
+
+void half_running(struct rig *r)
+{
+    half_allocated(r);
+    entry(r, 0, 0, 0, 1, 0, 0);
+    mode(r, 0, 0);
+    ask(r, "FF 00", "DE 01 00 00");
+}
+
+void allocated(struct rig *r)
+{
+    unlocked(r);
+    allocate_usual(r);
+}
+
 void shut(struct rig *r)
 {
     connected(r);
@@ -38,7 +78,7 @@ void closed_waiting(struct rig *r)
 void busy(struct rig *r)
 {
     uint8_t packet[PACKET];
-    unlocked(r);
+    allocated(r);
     entry(r, 0, 1, 2, 3, 0, 0x20);
     entry(r, 1, 0, 0, 2, 1, 0x30);
     mode(r, 1, 0);

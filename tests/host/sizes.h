@@ -11,12 +11,15 @@ enum {
     UPLOAD_MOST = PACKET - 1,         /* behind FF */
     DOWNLOAD_MOST = PACKET - 2,       /* behind code and count */
     SHORT_DOWNLOAD_MOST = PACKET - 8, /* behind code, count, reserved byte, extension, address */
-    LIST_COUNT = 4,
+    POOL_LISTS = 8,                   /* what there is for all lists together */
+    POOL_ODTS = 16,
+    POOL_ENTRIES = 128,
+    LIST_COUNT = 4,                   /* what most tests allocate of it */
     ODT_COUNT = 2,                    /* of a list */
     ENTRY_COUNT = 16,                 /* of an ODT */
     ENTRY_MOST = 4,                   /* bytes of an entry */
-    ODT_0_MOST = PACKET - 3,          /* behind number and clock */
-    ODT_1_MOST = PACKET - 1           /* behind number */
+    FIRST_MOST = PACKET - 3,          /* bytes of a list's first ODT, behind number and clock */
+    LATER_MOST = PACKET - 1           /* of a later one, behind number */
 };
 
 #endif
