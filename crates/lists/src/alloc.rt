@@ -4,28 +4,17 @@ ghost use mathlib.Core.Bool.{cond};
 ghost use Prim.Native.Nat.{_+_, _*_, _-_, _≤_};
 ghost use lib.ListN.{length};
 ghost use Rattle.state.specs.Layout.{size, allEntries, entrySize};
-ghost use Rattle.state.specs.Bytes.{copied, cleared};
+ghost use Rattle.state.specs.Bytes.{copied};
 ghost use Rattle.state.specs.Pool.{firstOdt};
 ghost use Rattle.lists.specs.Lists.{isState};
 ghost use Rattle.lists.specs.Alloc.{listsFreed, listsAllocated, odtsAllocated, roomMade, entriesAllocated};
+use crate::zeros::put_zeros;
 use state::bytes::clear;
 use state::bytes::get;
 use state::bytes::put;
 use state::fields;
 use state::layout;
 use state::pool;
-
-// n zeros from `at`. Each is asked for by itself: as one run they become a call, and a received byte gets that call's stack.
-pub fn put_zeros(s: &mut [u8], at: usize, n: usize)
-    requires { ⌜ at + n ≤ 4294967295 ⌝ }
-    ensures { λ _. ⌜ now (s .exit) ≡ cleared (now (s .entry)) at n ⌝ }
-{
-    let mut i = 0;
-    while i < n {
-        put(s, at + i, 0);
-        i += 1;
-    }
-}
 
 // The n bytes from `at`, d places further on, the last first: they may lie one upon the other.
 fn shift(s: &mut [u8], at: usize, d: usize, n: usize)

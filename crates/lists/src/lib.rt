@@ -6,6 +6,7 @@ pub mod changes;
 mod events;
 mod list;
 mod slots;
+mod zeros;
 
 pub use events::event;
 pub use slots::slot;

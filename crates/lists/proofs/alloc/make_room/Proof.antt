@@ -8,7 +8,7 @@ use borrow.Author.Needs.{needs}
 use Rattle.lists.proofs.alloc.make_room.Statement.{statement}
 use Rattle.lists.proofs.alloc.make_room.Tie as tie
 use Rattle.lists.proofs.alloc.bytes_behind.Reads as bytes-behind-reads
-use Rattle.lists.proofs.alloc.put_zeros.Reads as put-zeros-reads
+use Rattle.lists.proofs.zeros.put_zeros.Reads as put-zeros-reads
 use Rattle.lists.proofs.alloc.shift.Reads as shift-reads
 use Rattle.state.proofs.layout.entries_at.Reads as entries-at-reads
 

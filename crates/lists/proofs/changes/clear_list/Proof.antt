@@ -9,7 +9,7 @@ use Rattle.lists.specs.Lists.{listCleared, entriesOfList}
 use borrow.Author.Needs.{needs}
 use Rattle.lists.proofs.changes.clear_list.Statement.{statement}
 use Rattle.lists.proofs.changes.clear_list.Tie as tie
-use Rattle.lists.proofs.alloc.put_zeros.Reads as put-zeros-reads
+use Rattle.lists.proofs.zeros.put_zeros.Reads as put-zeros-reads
 use Rattle.state.proofs.bytes.clear.Reads as clear-reads
 use Rattle.state.proofs.layout.entries_at.Reads as entries-at-reads
 use Rattle.state.proofs.layout.mode_at.Reads as mode-at-reads

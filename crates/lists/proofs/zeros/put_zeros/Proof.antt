@@ -5,8 +5,8 @@ use lib.ListN.{length}
 use Rattle.state.specs.Bytes.{cleared}
 use Rattle.state.proofs.Sets.{cleared-next}
 use borrow.Author.Needs.{needs}
-use Rattle.lists.proofs.alloc.put_zeros.Statement.{statement}
-use Rattle.lists.proofs.alloc.put_zeros.Tie as tie
+use Rattle.lists.proofs.zeros.put_zeros.Statement.{statement}
+use Rattle.lists.proofs.zeros.put_zeros.Tie as tie
 
 abbrev Inv-loop : tie.InvT-loop
 Inv-loop s₀ at n i₀ s i = (i ≤ n) × (s ≡ cleared s₀ at i) × (length s ≡ length s₀)
