@@ -1,11 +1,16 @@
 -- What each call shows is what document 01 says of it, of ours and so of every slave that meets the first two demands; likewise the laws of its
 -- commands, of the pool and of its locks. Assumes nothing.
-use mathlib.Core.Path.{sym, subst}
+use mathlib.Core.Path.{sym, ap, subst}
+use Rattle.model.specs.Calls.{turnIn}
+use Rattle.model.specs.Whole.{AfterSlot}
+use Rattle.model.specs.View.{viewOf}
 use Rattle.views.specs.Commands.{Obeys}
 use Rattle.views.specs.Full.{Fills}
+use Rattle.views.specs.Turns.{Leaves}
 use Rattle.views.proofs.Receiving.{view-receive}
 use Rattle.views.proofs.Happening.{view-event}
 use Rattle.views.proofs.Sending.{view-slot, view-powerUp}
+use Rattle.views.proofs.TurnLaws.{slot-leaves}
 use Rattle.views.proofs.SampleLaws.{event-samples}
 use Rattle.demands.specs.Slave.{AnySlave, ours}
 use Rattle.demands.specs.Demand1.{Demand1}
@@ -25,6 +30,7 @@ ours-shows = record {
   byte = view-receive;
   event = view-event;
   slot = view-slot;
+  leaves = λ s out c h. subst (Leaves (turnIn (viewOf s)) (viewOf s)) (sym (ap (λ (o : AfterSlot). o .slave) (view-slot s out c))) (slot-leaves (viewOf s) out h);
   powerUp = λ s start h k. view-powerUp s start h k .1;
   sample = λ s cal meas number clock l c h e. event-samples s cal meas number clock l c (event-low number h) e;
 }

@@ -5,14 +5,16 @@ use mathlib.Core.Path.{_≡_}
 use mathlib.Core.Bool.{true}
 use mathlib.Core.List.{List}
 use lib.ListN.{length}
+use Rattle.line.specs.Message.{room}
 use Rattle.state.specs.Layout.{size}
 use Rattle.state.specs.State.{consistent}
 use Rattle.model.specs.Model.{Bytes}
-use Rattle.model.specs.Calls.{samplingIn, poweredUp}
+use Rattle.model.specs.Calls.{turnIn, samplingIn, poweredUp}
 use Rattle.model.specs.Whole.{receivedIn, eventIn, slotIn}
 use Rattle.model.specs.View.{sessionOf, viewOf}
 use Rattle.model.specs.declared.Sampling.the-variants.{Sampled}
 use Rattle.views.specs.Samples.{Samples}
+use Rattle.views.specs.Turns.{Leaves}
 use Rattle.views.specs.Shown.{byteShown, eventShown, slotShown}
 use Rattle.demands.specs.Slave.{AnySlave}
 
@@ -21,6 +23,8 @@ pub record Shows (v : AnySlave) : Type 0 where
   pub byte : (s cal meas : List ℕ) (b : ℕ) → consistent s ≡ true → Bytes s → b < 256 → byteShown (v .receive s cal meas b) ≡ receivedIn b (viewOf s) cal meas
   pub event : (s cal meas : List ℕ) (number clock : ℕ) → consistent s ≡ true → eventShown (v .event s cal meas number clock) ≡ eventIn number clock (viewOf s) cal meas
   pub slot : (s out : List ℕ) → consistent s ≡ true → slotShown (v .slot s out) ≡ slotIn (viewOf s) out
+  -- whose packet it was is gone, and the round begins with the list after it
+  pub leaves : (s out : List ℕ) → consistent s ≡ true → room ≤ length out → Leaves (turnIn (viewOf s)) (viewOf s) (viewOf (v .slot s out .state))
   pub powerUp : (s : List ℕ) (start : ℕ) → length s ≡ size → start < 2 ^ 32 → viewOf (v .powerUp s start .state) ≡ poweredUp start
   -- each byte of a sample is that of its own place
   pub sample : (s cal meas : List ℕ) (number clock l : ℕ) → consistent s ≡ true → number ≤ 1 → samplingIn (sessionOf s) l number ≡ Sampled

@@ -1,20 +1,25 @@
--- Whose turn it is goes by document 01's rule: the answer and the lists by turns, the lists round and round, a list's ODTs in their order. Assumes
--- nothing.
-use Prim.Native.Nat.{ℕ, zero, suc, _+_, _%_, _<_}
-use mathlib.Core.Path.{_≡_, refl, sym, subst, _∙_}
+-- Whose turn it is goes by document 01's rule: the answer and the lists by turns, the lists round and round, a list's ODTs in their order; and what a
+-- slot leaves goes by whose turn it was. Assumes nothing.
+use Prim.Native.Nat.{ℕ, zero, suc, _+_, _%_, _≤_, _<_}
+use mathlib.Core.Path.{_≡_, refl, sym, ap, subst, _∙_}
 use mathlib.Core.Bool.{true, false}
-use mathlib.Core.List.{[]}
+use mathlib.Core.List.{List, []}
 use native.Mathlib.Omega.{arith}
-use borrow.Author.Tests.{ltb-true}
+use native.Mathlib.Nat.{mod-lt}
+use borrow.Author.Tests.{ltb-true, le-ltb}
 use lib.ListN.{length}
+use Rattle.line.specs.Message.{room}
 use Rattle.line.proofs.Laws.{cond-ind, false-true}
-use Rattle.model.specs.Model.{DaqList, Session, Slave, runsIn, hasAnswer, hasPacket}
-use Rattle.model.specs.Calls.{firstPacket, packetIn, orElse, roundFrom, roundIn, turnIn}
+use Rattle.model.specs.Model.{Odt, DaqList, Session, Slave, runsIn, hasAnswer, hasPacket}
+use Rattle.model.specs.Step.{emptied}
+use Rattle.model.specs.Calls.{firstPacket, packetIn, orElse, roundFrom, roundIn, turnIn, answerGone, withoutPacket, packetGone}
+use Rattle.model.specs.Whole.{sentIn, slotIn}
 use Rattle.model.specs.declared.Turn.{Turn}
 use Rattle.model.specs.declared.Turn.the-variants.{Nobody, Answer, Packet}
-use Rattle.views.specs.Turns.{NoPacket, NextPacket, NextList, NoList, Goes, answer-first, list-next, answer-else, nobody}
-use Rattle.views.proofs.Parts.{this-or-other}
-use Rattle.views.proofs.Round.{Far, far-of}
+use Rattle.views.specs.Commands.{TheGenerator, TheWrongKeys, Whether-open, TheLocks, TheSeed, TheMta, ThePointer, Whether-freed, HowManyLists, TheRound, TheLists, AllButBoth}
+use Rattle.views.specs.Turns.{NoPacket, NextPacket, NextList, NoList, Goes, answer-first, list-next, answer-else, nobody, AnswerLeft, PacketLeft, Leaves}
+use Rattle.views.proofs.Parts.{this-or-other, put-here, put-there}
+use Rattle.views.proofs.Round.{Far, far-of, list-after}
 use Rattle.views.proofs.Waits.{Empty, no-packet}
 
 -- ---- one list
@@ -123,3 +128,65 @@ module _ (v : Slave) where
       cond-ind (Goes v) (hasAnswer v)
       (λ w. cond-ind (Goes v) (v .lastAnswer) (λ f. or-answer w f (roundIn c) found) (λ f. answer-first w f))
       (λ w. no-answer w (roundIn c) found)
+
+-- ---- what a slot leaves
+module _ (v : Slave) (l o : ℕ) where
+  abbrev w : Slave
+  w = packetGone l o v
+
+  but-round : AllButBoth TheRound TheLists (v .session) (w .session)
+  but-round TheGenerator n m = refl
+  but-round TheWrongKeys n m = refl
+  but-round Whether-open n m = refl
+  but-round TheLocks n m = λ r. refl
+  but-round TheSeed n m = refl
+  but-round TheMta n m = refl
+  but-round ThePointer n m = refl
+  but-round Whether-freed n m = refl
+  but-round HowManyLists n m = refl
+  but-round TheRound n m = absurd (n refl)
+  but-round TheLists n m = absurd (m refl)
+
+  -- list l is as it was, but for that packet
+  itself : w .session .list l ≡ withoutPacket o (v .session .list l)
+  itself = put-here l (withoutPacket o (v .session .list l)) (v .session .list)
+
+  its-odt : w .session .list l .odt o ≡ emptied (v .session .list l .odt o)
+  its-odt = ap (λ (x : DaqList). x .odt o) itself ∙ put-here o (emptied (v .session .list l .odt o)) (v .session .list l .odt)
+
+  packet-left : l < v .session .lists → PacketLeft v w l o
+  packet-left h = record {
+    gone = ap (λ (y : Odt). y .store) its-odt;
+    last = refl;
+    round = list-after (v .session .lists) l h;
+    counts = ap (λ (y : Odt). y .entries) its-odt;
+    entries = λ e. ap (λ (y : Odt). y .entry e) its-odt;
+    otherOdts = λ k n. ap (λ (x : DaqList). x .odt k) itself ∙ put-there o (emptied (v .session .list l .odt o)) (v .session .list l .odt) k n;
+    mode = ap (λ (x : DaqList). x .mode) itself;
+    selected = ap (λ (x : DaqList). x .selected) itself;
+    started = ap (λ (x : DaqList). x .started) itself;
+    odts = ap (λ (x : DaqList). x .odts) itself;
+    others = λ j n. put-there l (withoutPacket o (v .session .list l)) (v .session .list) j n;
+    rest = but-round;
+    answer = refl;
+    frame = record { place = refl; message = refl; ctr = refl };
+  }
+
+module _ (v : Slave) (out : List ℕ) where
+  answer-left : AnswerLeft v (answerGone v)
+  answer-left = record { gone = refl; last = refl; session = refl; frame = record { place = refl; message = refl; ctr = refl } }
+
+  -- the list whose turn it is is one that there is
+  is-there : (l o : ℕ) → NextList v l o → l < v .session .lists
+  is-there l o n = let some : 0 < v .session .lists = omega (arith, n .few) in rw (n .round) (mod-lt (v .session .round + n .on) some)
+
+  by-turn : (t : Turn) → Goes v t → Leaves t v (sentIn t v out .slave)
+  unfolding sentIn
+  by-turn _ (answer-first a f) = answer-left
+  by-turn _ (list-next f l o n) = packet-left v l o (is-there l o n)
+  by-turn _ (answer-else a f n) = answer-left
+  by-turn _ (nobody a n) = refl
+
+  pub slot-leaves : room ≤ length out → Leaves (turnIn v) v (slotIn v out .slave)
+  unfolding slotIn
+  slot-leaves h = rw (le-ltb (length out) room h) (by-turn (turnIn v) (turn-goes v))
