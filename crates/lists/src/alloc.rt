@@ -8,9 +8,7 @@ ghost use Rattle.state.specs.Bytes.{copied};
 ghost use Rattle.state.specs.Pool.{firstOdt};
 ghost use Rattle.lists.specs.Lists.{isState};
 ghost use Rattle.lists.specs.Alloc.{listsFreed, listsAllocated, odtsAllocated, roomMade, entriesAllocated};
-use crate::zeros::put_zeros;
 use state::bytes::clear;
-use state::bytes::get;
 use state::bytes::put;
 use state::fields;
 use state::layout;
@@ -18,14 +16,13 @@ use state::pool;
 
 // The n bytes from `at`, d places further on, the last first: they may lie one upon the other.
 fn shift(s: &mut [u8], at: usize, d: usize, n: usize)
-    requires { ⌜ (at + n ≤ length (now s)) × (length (now s) ≡ size) × (d ≤ 65535) ⌝ }
+    requires { ⌜ (at + d + n ≤ length (now s)) × (length (now s) ≡ size) ⌝ }
     ensures { λ _. ⌜ now (s .exit) ≡ copied (now (s .entry)) (at + d) (now (s .entry)) at n ⌝ }
 {
     let mut j = n;
     while 0 < j {
         j -= 1;
-        let b = get(s, at + j);
-        put(s, at + d + j, b);
+        s[at + d + j] = s[at + j];
     }
 }
 
@@ -71,7 +68,7 @@ fn make_room(s: &mut [u8], i: u16, m: u16, n: u8)
     let at = layout::entries_at(i);
     let d = layout::ENTRY_SIZE * n as usize;
     shift(s, at, d, bytes_behind(i, m));
-    put_zeros(s, at, d);
+    clear(s, at, d);
 }
 
 fn make_entries(s: &mut [u8], k: u16, n: u8)

@@ -8,7 +8,6 @@ ghost use Rattle.state.specs.Pool.{listCount, firstOdt};
 ghost use Rattle.lists.specs.Lists.{isState, switched, stopped, started, listCleared, modeSet, tagOf, headOf, entrySet, stopEach, startOne, startSelected, stopOne, stopSelected};
 use crate::list::runs;
 use crate::list::selected;
-use crate::zeros::put_zeros;
 use state::bytes::clear;
 use state::bytes::low;
 use state::bytes::put;
@@ -53,7 +52,7 @@ pub fn clear_list(s: &mut [u8], l: u8)
     let end = pool::entries(s, span.odt + span.odts).first;
     clear(s, layout::mode_at(l as u16), layout::LIST_SIZE);
     let at = layout::entries_at(span.entry);
-    put_zeros(s, at, layout::entries_at(end) - at);
+    clear(s, at, layout::entries_at(end) - at);
 }
 
 pub fn set_mode(s: &mut [u8], l: u8, event: u8)

@@ -5,7 +5,7 @@ ghost use Prim.Native.Nat.{_+_, _≤_, _<_};
 ghost use lib.ListN.{length};
 ghost use lib.Seq.{sets};
 ghost use Rattle.state.specs.Layout.{lists, allOdts, allEntries, events, odtMost, entryMost, clockSize, size, sampleAt};
-ghost use Rattle.state.specs.Pool.{listCount, firstEntry, entryCount};
+ghost use Rattle.state.specs.Pool.{listCount, firstOdt, odtCount, firstEntry, entryCount};
 ghost use Rattle.state.specs.Memory.{reach, pick, byteOf, bytesOf};
 ghost use Rattle.state.specs.Lists.{extensionAt, addressIn};
 ghost use Rattle.lists.specs.Lists.{odtBytes, fitOf, Spans};
@@ -126,9 +126,18 @@ fn capture(s: &mut [u8], cal: &[u8], meas: &[u8], l: u8, span: Span, clock: u16)
     }
 }
 
-// One list: what the event is to it, and its sample.
-fn sample(s: &mut [u8], cal: &[u8], meas: &[u8], l: u8, event: u8, clock: u16) -> Sampling
-    requires { ⌜ (length (now s) ≡ size) × (l < listCount (now s)) × (event < events) ⌝ }
+// One list, of which the ODTs are known: what the event is to it, and its sample.
+fn sample(
+    s: &mut [u8],
+    cal: &[u8],
+    meas: &[u8],
+    l: u8,
+    k: u16,
+    n: u16,
+    event: u8,
+    clock: u16,
+) -> Sampling
+    requires { ⌜ (length (now s) ≡ size) × (l < listCount (now s)) × (event < events) × (k ≡ firstOdt (now s) l) × (n ≡ odtCount (now s) l) × (k + n ≤ allOdts) ⌝ }
     ensures { λ r. ⌜ (r ≡ samplingOf (now (s .entry)) l event) × (now (s .exit) ≡ sampledState r (now (s .entry)) l clock (now (cal .entry)) (now (meas .entry))) ⌝ }
 {
     if list::mode(s, l) != event + 1 {
@@ -137,7 +146,7 @@ fn sample(s: &mut [u8], cal: &[u8], meas: &[u8], l: u8, event: u8, clock: u16) -
     if !list::started(s, l) {
         return Sampling::Idle;
     }
-    let span = list::span(s, l);
+    let span = list::span_from(s, l, k, n);
     if !list::fit(s, l, span) {
         return Sampling::Idle;
     }
@@ -168,17 +177,20 @@ fn missed_by(c: Sampling) -> u8
     }
 }
 
-// All lists: how many sampled and how many missed.
+// All lists: how many sampled and how many missed. The first ODT of each is kept on the way.
 fn happen(s: &mut [u8], cal: &[u8], meas: &[u8], event: u8, clock: u16) -> Counted
     requires { ⌜ (length (now s) ≡ size) × (event < events) ⌝ }
     ensures { λ r. ⌜ Counts (tally (now (s .entry)) event clock (now (cal .entry)) (now (meas .entry)) (listCount (now (s .entry)))) (now (s .exit)) (r .sampled) (r .missed) ⌝ }
 {
     let mut sampled: u8 = 0;
     let mut missed: u8 = 0;
-    let n = pool::list_count(s);
+    let count = pool::list_count(s);
+    let mut k: u16 = 0;
     let mut l: u8 = 0;
-    while l < n {
-        let c = sample(s, cal, meas, l, event, clock);
+    while l < count {
+        let n = list::odts_in(s, l, k);
+        let c = sample(s, cal, meas, l, k, n, event, clock);
+        k += n;
         sampled += sampled_by(c);
         missed += missed_by(c);
         l += 1;

@@ -6,7 +6,6 @@ pub mod changes;
 mod events;
 mod list;
 mod slots;
-mod zeros;
 
 pub use events::event;
 pub use slots::slot;

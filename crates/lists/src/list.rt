@@ -1,11 +1,12 @@
 // The lists: how they read, for any bytes of a state. Each goes straight to its bytes: events and slots read them often.
 ghost use mathlib.Core.Path.{_≡_};
 ghost use mathlib.Core.Bool.{cond, false};
-ghost use Prim.Native.Nat.{_+_, _*_, _≤_, _<_};
+ghost use Prim.Native.Nat.{_+_, _*_, _-_, _≤_, _<_, min};
 ghost use lib.Dec.{eqb};
-ghost use lib.ListN.{length};
+ghost use lib.ListN.{length, getD};
 ghost use Rattle.state.specs.Layout.{lists, allOdts, allEntries, events, storedMost, entryMost, runningAt, size};
-ghost use Rattle.state.specs.Pool.{listCount, odtCount, firstEntry, entryCount};
+ghost use Rattle.state.specs.Ranges.{startIn};
+ghost use Rattle.state.specs.Pool.{listCount, firstOdt, odtCount, firstEntry, entryCount};
 ghost use Rattle.state.specs.State.{flagOf, openOf};
 ghost use Rattle.state.specs.Lists.{sizeAt, extensionAt, addressIn, modeOf, selectedOf, storedLength};
 ghost use Rattle.model.specs.Model.{allBytes, eachFits, unsent, someRuns};
@@ -26,20 +27,90 @@ pub fn on(s: &[u8], at: usize) -> bool
     s[at] == 1
 }
 
-// ---- entries
+// ---- what there is of the pool
 
-// How many entries an ODT has, of which the first is known.
+// The first n counts from `at`, added up to `most`. What is too much is cut off once, behind the loop.
+fn counts_before(s: &[u8], at: usize, most: u16, n: u16) -> u16
+    requires { ⌜ (length (now s) ≡ size) × (at + n ≤ length (now s)) × (n ≤ allOdts) ⌝ }
+    ensures { λ r. ⌜ (r ≡ startIn most (λ i. getD (now (s .entry)) (at + i) 0) n) × (r ≤ most) ⌝ }
+{
+    let mut sum: u16 = 0;
+    let mut i: u16 = 0;
+    while i < n {
+        sum += s[at + i as usize] as u16;
+        i += 1;
+    }
+    if most < sum {
+        return most;
+    }
+    sum
+}
+
+// A count, of which no more is there than the pool has behind `first`.
+fn cut(count: u8, first: u16, most: u16) -> u16
+    requires { ⌜ first ≤ most ⌝ }
+    ensures { λ r. ⌜ (r ≡ min most (first + count) - first) × (first + r ≤ most) ⌝ }
+{
+    let room = most - first;
+    if room < count as u16 {
+        return room;
+    }
+    count as u16
+}
+
+// Where the ODTs of a list begin, and how many they are.
+pub fn first_odt(s: &[u8], l: u8) -> u16
+    requires { ⌜ (length (now s) ≡ size) × (l < lists) ⌝ }
+    ensures { λ r. ⌜ (r ≡ firstOdt (now (s .entry)) l) × (r ≤ allOdts) ⌝ }
+{
+    counts_before(s, layout::ODTS, layout::ALL_ODTS_U16, l as u16)
+}
+
+pub fn odts_in(s: &[u8], l: u8, first: u16) -> u16
+    requires { ⌜ (length (now s) ≡ size) × (l < lists) × (first ≡ firstOdt (now s) l) × (first ≤ allOdts) ⌝ }
+    ensures { λ r. ⌜ (r ≡ odtCount (now (s .entry)) l) × (first + r ≤ allOdts) ⌝ }
+{
+    cut(s[layout::ODTS + l as usize], first, layout::ALL_ODTS_U16)
+}
+
+// Where the entries of an ODT begin, and how many they are.
+pub fn first_entry(s: &[u8], k: u16) -> u16
+    requires { ⌜ (length (now s) ≡ size) × (k ≤ allOdts) ⌝ }
+    ensures { λ r. ⌜ (r ≡ firstEntry (now (s .entry)) k) × (r ≤ allEntries) ⌝ }
+{
+    counts_before(s, layout::COUNTS, layout::ALL_ENTRIES_U16, k)
+}
+
 pub fn entries_in(s: &[u8], k: u16, first: u16) -> u16
     requires { ⌜ (length (now s) ≡ size) × (k < allOdts) × (first ≡ firstEntry (now s) k) × (first ≤ allEntries) ⌝ }
     ensures { λ r. ⌜ (r ≡ entryCount (now (s .entry)) k) × (first + r ≤ allEntries) ⌝ }
 {
-    let n = s[layout::COUNTS + k as usize] as u16;
-    let room = layout::ALL_ENTRIES_U16 - first;
-    if room < n {
-        return room;
-    }
-    n
+    cut(
+        s[layout::COUNTS + k as usize],
+        first,
+        layout::ALL_ENTRIES_U16,
+    )
 }
+
+// What a list has, of which the ODTs are known.
+pub fn span_from(s: &[u8], l: u8, odt: u16, odts: u16) -> Span
+    requires { ⌜ (length (now s) ≡ size) × (odt ≡ firstOdt (now s) l) × (odts ≡ odtCount (now s) l) × (odt + odts ≤ allOdts) ⌝ }
+    ensures { λ r. ⌜ Spans (now (s .entry)) l (r .odt) (r .odts) (r .entry) ⌝ }
+{
+    let entry = first_entry(s, odt);
+    Span { odt, odts, entry }
+}
+
+pub fn span(s: &[u8], l: u8) -> Span
+    requires { ⌜ (length (now s) ≡ size) × (l < lists) ⌝ }
+    ensures { λ r. ⌜ Spans (now (s .entry)) l (r .odt) (r .odts) (r .entry) ⌝ }
+{
+    let odt = first_odt(s, l);
+    let odts = odts_in(s, l, odt);
+    span_from(s, l, odt, odts)
+}
+
+// ---- entries
 
 // An entry's size; above 4 it reads as 0.
 pub fn entry_size(s: &[u8], at: usize) -> u8
@@ -108,13 +179,6 @@ pub fn selected(s: &[u8], l: u8) -> bool
     on(s, layout::selected_at(l as u16))
 }
 
-// What a list has of the pool.
-pub fn span(s: &[u8], l: u8) -> Span
-    ensures { λ r. ⌜ Spans (now (s .entry)) l (r .odt) (r .odts) (r .entry) ⌝ }
-{
-    pool::span(s, l as u16)
-}
-
 // Whether a list's ODTs have some byte, and none has too many.
 fn odts_fit(s: &[u8], l: u8, span: Span) -> bool
     requires { ⌜ (length (now s) ≡ size) × (l < listCount (now s)) × Spans (now s) l (span .odt) (span .odts) (span .entry) ⌝ }
@@ -170,6 +234,17 @@ pub fn runs(s: &[u8], l: u8) -> bool
         return false;
     }
     fit(s, l, span(s, l))
+}
+
+// The same where the list's ODTs are known.
+pub fn runs_from(s: &[u8], l: u8, odt: u16, odts: u16) -> bool
+    requires { ⌜ (length (now s) ≡ size) × (l < listCount (now s)) × (odt ≡ firstOdt (now s) l) × (odts ≡ odtCount (now s) l) × (odt + odts ≤ allOdts) ⌝ }
+    ensures { λ r. ⌜ r ≡ runsOf (now (s .entry)) l ⌝ }
+{
+    if !started(s, l) {
+        return false;
+    }
+    fit(s, l, span_from(s, l, odt, odts))
 }
 
 pub fn any_runs(s: &[u8]) -> bool

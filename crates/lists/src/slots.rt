@@ -35,7 +35,7 @@ fn first_stored(s: &[u8], l: u8, k: u16, n: u16) -> Turn
     Turn::Nobody
 }
 
-// A list's next packet. Whether the list runs is asked in full only where it has one: that takes longer.
+// A list's next packet. Whether the list runs is asked in full only where it has one: that goes through its entries.
 fn packet_in(s: &[u8], l: u8, k: u16, n: u16) -> Turn
     requires { ⌜ (length (now s) ≡ size) × (l < listCount (now s)) × (k ≡ firstOdt (now s) l) × (n ≡ odtCount (now s) l) × (k + n ≤ allOdts) ⌝ }
     ensures { λ r. ⌜ r ≡ packetIn (sessionOf (now (s .entry))) l ⌝ }
@@ -47,23 +47,10 @@ fn packet_in(s: &[u8], l: u8, k: u16, n: u16) -> Turn
     if let Turn::Nobody = turn {
         return Turn::Nobody;
     }
-    if list::runs(s, l) {
+    if list::runs_from(s, l, k, n) {
         return turn;
     }
     Turn::Nobody
-}
-
-// How many ODTs a list has, of which the first is known.
-fn odts_in(s: &[u8], l: u8, first: u16) -> u16
-    requires { ⌜ (length (now s) ≡ size) × (l < lists) × (first ≡ firstOdt (now s) l) × (first ≤ allOdts) ⌝ }
-    ensures { λ r. ⌜ (r ≡ odtCount (now (s .entry)) l) × (first + r ≤ allOdts) ⌝ }
-{
-    let n = s[layout::ODTS + l as usize] as u16;
-    let room = layout::ALL_ODTS_U16 - first;
-    if room < n {
-        return room;
-    }
-    n
 }
 
 // After the last of the lists comes list 0.
@@ -94,10 +81,10 @@ fn round(s: &[u8]) -> Turn
 {
     let count = pool::list_count(s);
     let mut l = pool::round(s);
-    let mut k = pool::odts(s, l as u16).first;
+    let mut k = list::first_odt(s, l);
     let mut left = count;
     while 0 < left {
-        let n = odts_in(s, l, k);
+        let n = list::odts_in(s, l, k);
         let turn = packet_in(s, l, k, n);
         match turn {
             Turn::Nobody => {
@@ -184,7 +171,7 @@ fn send_packet(s: &mut [u8], out: &mut [u8], l: u8, odt: u8) -> Slotted
     requires { ⌜ (length (now s) ≡ size) × (l < listCount (now s)) × (odt < odtCount (now s) l) ⌝ }
     ensures { λ r. ⌜ Sends (sentBy (Turn.Packet l odt) (now (s .entry)) (now (out .entry))) r (now (s .exit)) (now (out .exit)) ⌝ }
 {
-    let k = pool::odts(s, l as u16).first + odt as u16;
+    let k = list::first_odt(s, l) + odt as u16;
     let at = layout::sample_at(k);
     let n = list::stored_length(s, k) as usize;
     let ctr = s[layout::CTR];

@@ -24,6 +24,11 @@ module _ (s : List ℕ) where
   unfolding roundOf
   round-there h = cond-ind (λ (l : ℕ). l < listCount s) (ltb (getD s roundAt 0) (listCount s)) (λ e. ltb-true _ _ e) (λ _. h)
 
+  pub round-most : roundOf s < lists
+  unfolding roundOf
+  round-most =
+      cond-ind (λ (l : ℕ). l < lists) (ltb (getD s roundAt 0) (listCount s)) (λ e. omega (arith, lists-most, ltb-true (getD s roundAt 0) (listCount s) e)) (λ _. omega arith)
+
   -- ---- ODTs
   pub odt-next : (l : ℕ) → firstOdt s (suc l) ≡ firstOdt s l + odtCount s l
   odt-next l = start-next allOdts (odtsIn s) l

@@ -2,10 +2,12 @@
 use mathlib.Core.Path.{_≡_, refl, subst}
 use mathlib.Core.Logic.{_≢_}
 use mathlib.Core.Bool.{Bool, true, false}
+use mathlib.Core.List.{List}
 use Prim.Native.Nat.{ℕ, zero, suc, _+_, _-_, _≤_, _<_, min}
 use native.Mathlib.Nat.{add-zero, add-suc}
 use native.Mathlib.Omega.{arith}
 use lib.Dec.{ltb}
+use lib.ListN.{length, getD, List·getD-eq-default}
 use borrow.Author.Tests.{ltb-true, ltb-false}
 use Rattle.state.specs.Ranges.{startIn, countIn}
 
@@ -62,6 +64,22 @@ sumTo f (suc n) = sumTo f n + f n
 pub cut-once : (pool : ℕ) (f : ℕ → ℕ) (n : ℕ) → startIn pool f n ≡ min pool (sumTo f n)
 cut-once pool f zero = omega (arith, start-zero pool f)
 cut-once pool f (suc n) = omega (arith, start-suc pool f n, cut-once pool f n)
+
+-- bytes of a buffer that are not there add nothing
+sum-more : (f : ℕ → ℕ) (m d : ℕ) → ((i : ℕ) → m ≤ i → f i ≡ 0) → sumTo f (m + d) ≡ sumTo f m
+sum-more f m zero h = rw add-zero refl
+sum-more f m (suc d) h = rw add-suc (omega (arith, sum-more f m d h, h (m + d) (omega arith)))
+
+pub sum-there : (s : List ℕ) (at n : ℕ) → sumTo (λ (i : ℕ). getD s (at + i) 0) n ≡ sumTo (λ (i : ℕ). getD s (at + i) 0) (min n (length s - at))
+sum-there s at n =
+    by-lt (length s - at) n
+    (λ h. let m : min n (length s - at) ≡ length s - at = omega arith in
+    let e : length s - at + (n - (length s - at)) ≡ n = omega arith in
+    rw m (subst (λ (k : ℕ). sumTo f k ≡ sumTo f (length s - at)) e (sum-more f (length s - at) (n - (length s - at)) (λ i q. List·getD-eq-default s 0 (omega arith)))))
+    (λ h. let m : min n (length s - at) ≡ n = omega arith in rw m refl)
+  where
+    f : ℕ → ℕ
+    f i = getD s (at + i) 0
 
 -- equal counts, equal places
 pub start-same : (pool : ℕ) (f g : ℕ → ℕ) (n : ℕ) → ((i : ℕ) → i < n → g i ≡ f i) → startIn pool g n ≡ startIn pool f n

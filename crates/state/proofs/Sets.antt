@@ -1,16 +1,14 @@
 -- Laws of runs of stores. Assumes nothing.
 use mathlib.Core.Path.{_≡_, refl, sym, ap, _∙_}
-use mathlib.Core.Bool.{cond}
 use mathlib.Core.List.{List, [], _∷_, _++_, append-nil}
-use Prim.Native.Nat.{ℕ, suc, _+_, _-_, _≤_, _<_}
+use Prim.Native.Nat.{ℕ, suc, _+_, _-_, _≤_, _<_, min}
 use native.Mathlib.Numerals.{add-one}
 use native.Mathlib.Omega.{arith}
-use borrow.Author.Tests.{ltb-false}
-use lib.Dec.{ltb}
 use lib.ListN.{drop-of-length-le, length, getD, set, drop, replicate, length-set, length-drop, length-replicate, replicate-append-replicate}
 use lib.Seq.{set-out, sets-eq, sets, take-suc, length-take-le, getD-drop, length-sets}
-use Rattle.line.proofs.Laws.{cond-ind, sets-append}
+use Rattle.line.proofs.Laws.{sets-append}
 use Rattle.state.specs.Bytes.{block, copied, cleared, put32}
+use Rattle.state.proofs.Ranges.{by-lt}
 
 -- one byte more
 pub sets-next : (l : List ℕ) (i : ℕ) (xs : List ℕ) (n a : ℕ) → length xs ≡ n → set (sets l i xs) (i + n) a ≡ sets l i (xs ++ a ∷ [])
@@ -60,10 +58,6 @@ sets-out [] l i h = refl
 sets-out (x ∷ xs) l i h = sets-out xs (set l i x) (suc i) (rw length-set (omega arith)) ∙ set-out l i x h
 
 -- zeros up to the end are as many as there are bytes
-pub cleared-out : (s : List ℕ) (i n : ℕ) → length s ≤ i → cleared s i n ≡ s
-unfolding cleared
-cleared-out s i n h = sets-out (replicate n 0) s i h
-
 pub cleared-past : (s : List ℕ) (i m n : ℕ) → m ≤ n → length s ≤ i + m → cleared s i m ≡ cleared s i n
 unfolding cleared
 cleared-past s i m n few past =
@@ -75,7 +69,8 @@ cleared-past s i m n few past =
     ∙ sets-append zeros rest s i
     ∙ ap (sets s i) (replicate-append-replicate m (n - m) 0 ∙ ap (λ (k : ℕ). replicate k 0) whole)
 
-pub cleared-cut : (s : List ℕ) (i n : ℕ) → i ≤ length s → cleared s i (cond (ltb n (length s - i)) n (length s - i)) ≡ cleared s i n
-cleared-cut s i n h =
-    cond-ind (λ (m : ℕ). cleared s i m ≡ cleared s i n) (ltb n (length s - i)) (λ _. refl)
-    (λ many. cleared-past s i (length s - i) n (ltb-false n (length s - i) many) (omega arith))
+pub cleared-cut : (s : List ℕ) (i n : ℕ) → cleared s i (min n (length s - i)) ≡ cleared s i n
+cleared-cut s i n =
+    by-lt (length s - i) n
+    (λ many. let m : min n (length s - i) ≡ length s - i = omega arith in rw m (cleared-past s i (length s - i) n (omega arith) (omega arith)))
+    (λ few. let m : min n (length s - i) ≡ n = omega arith in rw m refl)

@@ -1,8 +1,6 @@
 // Numbers in bytes, lowest byte first, and runs of bytes.
 ghost use mathlib.Core.Path.{_≡_};
-ghost use Prim.Native.Nat.{_-_, _≤_, _<_, _%_};
-ghost use mathlib.Core.Bool.{cond};
-ghost use lib.Dec.{ltb};
+ghost use Prim.Native.Nat.{_-_, _<_, _%_, min};
 ghost use lib.ListN.{getD, set};
 ghost use Rattle.state.specs.Bytes.{u16At, u32At, put32, cleared};
 
@@ -66,21 +64,23 @@ pub fn store32(s: &mut [u8], at: usize, x: u32)
     }
 }
 
-// How many of n bytes from `at` on there are among len.
-fn there(at: usize, n: usize, len: usize) -> usize
-    requires { ⌜ at ≤ len ⌝ }
-    ensures { λ r. ⌜ (r ≡ cond (ltb n (len - at)) n (len - at)) × (r ≤ len - at) ⌝ }
+// How many of the n bytes from `at` there are among len.
+pub fn there(at: usize, n: usize, len: usize) -> usize
+    ensures { λ r. ⌜ r ≡ min n (len - at) ⌝ }
 {
-    if n < len - at { n } else { len - at }
+    if len <= at {
+        return 0;
+    }
+    if n < len - at {
+        return n;
+    }
+    len - at
 }
 
 // n zeros from `at`, where there are bytes.
 pub fn clear(s: &mut [u8], at: usize, n: usize)
     ensures { λ _. ⌜ now (s .exit) ≡ cleared (now (s .entry)) at n ⌝ }
 {
-    if s.len() <= at {
-        return;
-    }
     let m = there(at, n, s.len());
     let mut i = 0;
     while i < m {

@@ -8,6 +8,7 @@ ghost use Rattle.state.specs.Pool.{phaseOf, freedOf, listCount, roundOf,
 use crate::Range;
 use crate::Span;
 use crate::bytes::get;
+use crate::bytes::there;
 use crate::bytes::wide;
 use crate::layout;
 
@@ -60,14 +61,15 @@ fn capped(most: u16, a: u16, b: u8) -> u16
     a + b as u16
 }
 
-// The first n bytes from `at`, added up to `most`. What is too much is cut off once, behind the loop.
+// The first n bytes from `at`, added up to `most`. Which of them are there is asked once, and what is too much is cut off once, behind the loop.
 fn start_in(s: &[u8], at: u16, most: u16, n: u16) -> u16
     ensures { λ r. ⌜ (r ≡ startIn most (λ i. getD (now (s .entry)) (at + i) 0) n) × (r ≤ most) ⌝ }
 {
+    let end = there(at as usize, n as usize, s.len()) as u16;
     let mut sum: u32 = 0;
     let mut i: u16 = 0;
-    while i < n {
-        sum += wide(get(s, at as usize + i as usize));
+    while i < end {
+        sum += wide(s[at as usize + i as usize]);
         i += 1;
     }
     if (most as u32) < sum {

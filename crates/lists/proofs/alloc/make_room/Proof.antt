@@ -8,7 +8,7 @@ use borrow.Author.Needs.{needs}
 use Rattle.lists.proofs.alloc.make_room.Statement.{statement}
 use Rattle.lists.proofs.alloc.make_room.Tie as tie
 use Rattle.lists.proofs.alloc.bytes_behind.Reads as bytes-behind-reads
-use Rattle.lists.proofs.zeros.put_zeros.Reads as put-zeros-reads
+use Rattle.state.proofs.bytes.clear.Reads as clear-reads
 use Rattle.lists.proofs.alloc.shift.Reads as shift-reads
 use Rattle.state.proofs.layout.entries_at.Reads as entries-at-reads
 
@@ -22,17 +22,17 @@ bytes-behind-requires : tie.Need-bytes-behind-requires
 bytes-behind-requires c κs = search needs
 
 shift-requires : tie.Need-shift-requires
-shift-requires c κs = (omega (arith, c .before .before .entries-at .ensures, c .bytes-behind .ensures, c .before .before .before .before .pre .0, c .before .before .before .before .pre .1, c .before .before .before .before .pre .2), c .before .before .before .before .pre .0, omega arith)
+shift-requires c κs = (omega (arith, c .before .before .entries-at .ensures, c .bytes-behind .ensures, c .before .before .before .before .pre .0, c .before .before .before .before .pre .1, c .before .before .before .before .pre .2), c .before .before .before .before .pre .0)
 
-put-zeros-requires : tie.Need-put-zeros-requires
-put-zeros-requires c κs = omega (arith, c .before .before .before .before .before .before .entries-at .ensures, c .before .before .before .before .before .before .before .before .pre .1)
+clear-requires : tie.Need-clear-requires
+clear-requires c κs = search needs
 
 same-length : tie.Need-same-length
 same-length c = search needs
 
 returns : tie.Need-returns
 unfolding roomMade
-returns c = let e : entriesAt (c .before .before .before .before .before .before .before .before .before .before .before .args .i) + 2 * c .before .before .before .before .before .before .before .before .before .before .before .args .n ≡ entriesAt (c .before .before .before .before .before .before .before .before .before .before .before .args .i + c .before .before .before .before .before .before .before .before .before .before .before .args .n) = omega arith in c .before .before .put-zeros .ensures ∙ rw (c .before .before .before .before .before .before .shift .ensures, c .before .before .before .before .before .before .before .bytes-behind .ensures, c .before .before .before .before .before .before .before .before .before .entries-at .ensures, e)
+returns c = let e : entriesAt (c .before .before .before .before .before .before .before .before .before .before .before .args .i) + 2 * c .before .before .before .before .before .before .before .before .before .before .before .args .n ≡ entriesAt (c .before .before .before .before .before .before .before .before .before .before .before .args .i + c .before .before .before .before .before .before .before .before .before .before .before .args .n) = omega arith in c .before .before .clear .ensures ∙ rw (c .before .before .before .before .before .before .shift .ensures, c .before .before .before .before .before .before .before .bytes-behind .ensures, c .before .before .before .before .before .before .before .before .before .entries-at .ensures, e)
 
 pub make-room-spec : {M : Type 1} → statement M
 make-room-spec =
@@ -42,6 +42,6 @@ make-room-spec =
     mul-d
     bytes-behind-requires
     shift-requires
-    put-zeros-requires
+    clear-requires
     same-length
     returns)

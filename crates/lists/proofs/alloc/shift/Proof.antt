@@ -5,14 +5,12 @@ use Prim.Native.Nat.{_+_, _-_, _≤_}
 use mathlib.Core.Path.{_≡_, refl, sym, ap, _∙_}
 use native.Mathlib.Omega.{arith}
 use native.Mathlib.Nat.{add-zero}
-use lib.ListN.{length, getD}
+use lib.ListN.{length, getD, length-set}
 use Rattle.state.specs.Bytes.{copied}
 use Rattle.lists.proofs.Moving.{copied-down, copied-kept}
 use borrow.Author.Needs.{needs}
 use Rattle.lists.proofs.alloc.shift.Statement.{statement}
 use Rattle.lists.proofs.alloc.shift.Tie as tie
-use Rattle.state.proofs.bytes.get.Reads as get-reads
-use Rattle.state.proofs.bytes.put.Reads as put-reads
 
 abbrev Inv-loop : tie.InvT-loop
 Inv-loop s₀ at d n j₀ s j = (j ≤ n) × (s ≡ copied s₀ (at + d + j) s₀ (at + j) (n - j)) × (length s ≡ length s₀)
@@ -22,37 +20,37 @@ abbrev μ-loop : tie.MeasureT-loop
 
 loop-holds : tie.Need-loop-holds Inv-loop μ-loop
 unfolding copied
-loop-holds c = let e : c .before .args .n - c .before .args .n ≡ 0 = omega arith in (omega arith, rw e refl, refl)
+loop-holds c = let e : c .args .n - c .args .n ≡ 0 = omega arith in (omega arith, rw e refl, refl)
 
 sub-j : tie.Need-sub-j Inv-loop μ-loop
 sub-j c = search needs
 
-add-get : tie.Need-add-get Inv-loop μ-loop
-add-get c = search needs
+add-s : tie.Need-add-s Inv-loop μ-loop
+add-s c = omega (arith, c .before .before .pre .0, c .before .before .pre .1, c .before .loop .inv .0)
 
-get-requires : tie.Need-get-requires Inv-loop μ-loop
-get-requires c κs = search needs
+slice-read-s : tie.Need-slice-read-s Inv-loop μ-loop
+slice-read-s c = omega (arith, c .before .before .before .pre .0, c .before .before .loop .inv .0, c .before .before .loop .inv .2)
 
-add-put : tie.Need-add-put Inv-loop μ-loop
-add-put c = search needs
+add-s-2 : tie.Need-add-s-2 Inv-loop μ-loop
+add-s-2 c = omega (arith, c .before .before .before .pre .0, c .before .before .before .pre .1, c .before .before .loop .inv .0)
 
-add-put-2 : tie.Need-add-put-2 Inv-loop μ-loop
-add-put-2 c = search needs
+add-s-3 : tie.Need-add-s-3 Inv-loop μ-loop
+add-s-3 c = omega (arith, c .before .before .before .pre .0, c .before .before .before .pre .1, c .before .before .loop .inv .0)
 
-put-requires : tie.Need-put-requires Inv-loop μ-loop
-put-requires c κs = search needs
+slice-write-s : tie.Need-slice-write-s Inv-loop μ-loop
+slice-write-s c = omega (arith, c .before .before .before .pre .0, c .before .before .loop .inv .0, c .before .before .loop .inv .2)
 
 loop-less : tie.Need-loop-less Inv-loop μ-loop
 loop-less c = search needs
 
 loop-again : tie.Need-loop-again Inv-loop μ-loop
-loop-again c = let e : c .before .before .before .before .before .before .before .loop .j ≡ suc (c .before .before .before .before .before .before .before .loop .j - 1) = omega arith in (omega arith, c .before .before .put .ensures ∙ rw (c .before .before .before .before .get .ensures) (ap (λ (t : List ℕ). set t (c .before .before .before .before .before .before .before .before .before .args .at + c .before .before .before .before .before .before .before .before .before .args .d + (c .before .before .before .before .before .before .before .loop .j - 1)) (getD t (c .before .before .before .before .before .before .before .before .before .args .at + (c .before .before .before .before .before .before .before .loop .j - 1)) 0)) (c .before .before .before .before .before .before .before .loop .inv .1 ∙ ap (λ (i : ℕ). copied (c .before .before .before .before .before .before .before .before .before .args .s .now) (c .before .before .before .before .before .before .before .before .before .args .at + c .before .before .before .before .before .before .before .before .before .args .d + i) (c .before .before .before .before .before .before .before .before .before .args .s .now) (c .before .before .before .before .before .before .before .before .before .args .at + i) (c .before .before .before .before .before .before .before .before .before .args .n - i)) e) ∙ ap (set (copied (c .before .before .before .before .before .before .before .before .before .args .s .now) (c .before .before .before .before .before .before .before .before .before .args .at + c .before .before .before .before .before .before .before .before .before .args .d + suc (c .before .before .before .before .before .before .before .loop .j - 1)) (c .before .before .before .before .before .before .before .before .before .args .s .now) (c .before .before .before .before .before .before .before .before .before .args .at + suc (c .before .before .before .before .before .before .before .loop .j - 1)) (c .before .before .before .before .before .before .before .before .before .args .n - suc (c .before .before .before .before .before .before .before .loop .j - 1))) (c .before .before .before .before .before .before .before .before .before .args .at + c .before .before .before .before .before .before .before .before .before .args .d + (c .before .before .before .before .before .before .before .loop .j - 1))) (copied-kept (c .before .before .before .before .before .before .before .before .before .args .s .now) (c .before .before .before .before .before .before .before .before .before .args .at + c .before .before .before .before .before .before .before .before .before .args .d) (c .before .before .before .before .before .before .before .before .before .args .at) (c .before .before .before .before .before .before .before .before .before .args .n) (c .before .before .before .before .before .before .before .loop .j - 1) (c .before .before .before .before .before .before .before .before .before .pre .0) (omega (arith, c .before .before .before .before .before .before .before .loop .inv .0)) (omega arith)) ∙ sym (copied-down (c .before .before .before .before .before .before .before .before .before .args .s .now) (c .before .before .before .before .before .before .before .before .before .args .at + c .before .before .before .before .before .before .before .before .before .args .d) (c .before .before .before .before .before .before .before .before .before .args .at) (c .before .before .before .before .before .before .before .before .before .args .n) (c .before .before .before .before .before .before .before .loop .j - 1) (c .before .before .before .before .before .before .before .before .before .pre .0) (omega (arith, c .before .before .before .before .before .before .before .loop .inv .0)))), c .before .before .put .kept .0 ∙ c .before .before .before .before .before .before .before .loop .inv .2)
+loop-again c = let e : c .before .before .loop .j ≡ suc (c .before .before .loop .j - 1) = omega arith in (omega arith, ap (λ (t : List ℕ). set t (c .before .before .before .args .at + c .before .before .before .args .d + (c .before .before .loop .j - 1)) (getD t (c .before .before .before .args .at + (c .before .before .loop .j - 1)) 0)) (c .before .before .loop .inv .1 ∙ ap (λ (i : ℕ). copied (c .before .before .before .args .s .now) (c .before .before .before .args .at + c .before .before .before .args .d + i) (c .before .before .before .args .s .now) (c .before .before .before .args .at + i) (c .before .before .before .args .n - i)) e) ∙ ap (set (copied (c .before .before .before .args .s .now) (c .before .before .before .args .at + c .before .before .before .args .d + suc (c .before .before .loop .j - 1)) (c .before .before .before .args .s .now) (c .before .before .before .args .at + suc (c .before .before .loop .j - 1)) (c .before .before .before .args .n - suc (c .before .before .loop .j - 1))) (c .before .before .before .args .at + c .before .before .before .args .d + (c .before .before .loop .j - 1))) (copied-kept (c .before .before .before .args .s .now) (c .before .before .before .args .at + c .before .before .before .args .d) (c .before .before .before .args .at) (c .before .before .before .args .n) (c .before .before .loop .j - 1) (omega (arith, c .before .before .before .pre .0)) (omega (arith, c .before .before .loop .inv .0)) (omega arith)) ∙ sym (copied-down (c .before .before .before .args .s .now) (c .before .before .before .args .at + c .before .before .before .args .d) (c .before .before .before .args .at) (c .before .before .before .args .n) (c .before .before .loop .j - 1) (omega (arith, c .before .before .before .pre .0)) (omega (arith, c .before .before .loop .inv .0))), simp length-set (c .before .before .loop .inv .2))
 
 same-length : tie.Need-same-length Inv-loop μ-loop
 same-length c = c .before .loop .inv .2
 
 returns : tie.Need-returns Inv-loop μ-loop
-returns c = let e : c .before .loop .j ≡ 0 = omega arith in let z : c .before .before .before .args .n - 0 ≡ c .before .before .before .args .n = omega arith in c .before .loop .inv .1 ∙ ap (λ (i : ℕ). copied (c .before .before .before .args .s .now) (c .before .before .before .args .at + c .before .before .before .args .d + i) (c .before .before .before .args .s .now) (c .before .before .before .args .at + i) (c .before .before .before .args .n - i)) e ∙ rw (add-zero, add-zero, z) refl
+returns c = let e : c .before .loop .j ≡ 0 = omega arith in let z : c .before .before .args .n - 0 ≡ c .before .before .args .n = omega arith in c .before .loop .inv .1 ∙ ap (λ (i : ℕ). copied (c .before .before .args .s .now) (c .before .before .args .at + c .before .before .args .d + i) (c .before .before .args .s .now) (c .before .before .args .at + i) (c .before .before .args .n - i)) e ∙ rw (add-zero, add-zero, z) refl
 
 pub shift-spec : {M : Type 1} → statement M
 shift-spec =
@@ -62,11 +60,11 @@ shift-spec =
     μ-loop
     loop-holds
     sub-j
-    add-get
-    get-requires
-    add-put
-    add-put-2
-    put-requires
+    add-s
+    slice-read-s
+    add-s-2
+    add-s-3
+    slice-write-s
     loop-less
     loop-again
     same-length

@@ -21,7 +21,7 @@ cast-span : tie.Need-cast-span
 cast-span c = omega (arith, lists-most (c .before .before .before .args .s .now), list-there (c .before .before .before .args .s .now) (c .before .before .before .args .l) (sym (c .before .is-list .ensures) ∙ c .if1 .taken) .1)
 
 span-requires : tie.Need-span-requires
-span-requires c κs = search needs
+span-requires c κs = (list-there (c .before .before .before .args .s .now) (c .before .before .before .args .l) (sym (c .before .is-list .ensures) ∙ c .if1 .taken) .0, omega (arith, lists-most (c .before .before .before .args .s .now), list-there (c .before .before .before .args .s .now) (c .before .before .before .args .l) (sym (c .before .is-list .ensures) ∙ c .if1 .taken) .1))
 
 fit-requires : tie.Need-fit-requires
 fit-requires c κs = (list-there (c .before .before .before .before .args .s .now) (c .before .before .before .before .args .l) (sym (c .before .before .is-list .ensures) ∙ c .before .if1 .taken) .0, list-there (c .before .before .before .before .args .s .now) (c .before .before .before .before .args .l) (sym (c .before .before .is-list .ensures) ∙ c .before .if1 .taken) .1, c .span .ensures)

@@ -9,7 +9,6 @@ use Rattle.lists.specs.Lists.{listCleared, entriesOfList}
 use borrow.Author.Needs.{needs}
 use Rattle.lists.proofs.changes.clear_list.Statement.{statement}
 use Rattle.lists.proofs.changes.clear_list.Tie as tie
-use Rattle.lists.proofs.zeros.put_zeros.Reads as put-zeros-reads
 use Rattle.state.proofs.bytes.clear.Reads as clear-reads
 use Rattle.state.proofs.layout.entries_at.Reads as entries-at-reads
 use Rattle.state.proofs.layout.mode_at.Reads as mode-at-reads
@@ -37,18 +36,18 @@ entries-at-requires c κs = search needs
 entries-at-requires-2 : tie.Need-entries-at-requires-2
 entries-at-requires-2 c κs = search needs
 
-sub-put-zeros : tie.Need-sub-put-zeros
-sub-put-zeros c = omega (arith, c .before .before .entries-at .ensures, c .entries-at2 .ensures, c .before .before .before .before .before .before .before .before .before .before .before .span .ensures .2, c .before .before .before .before .before .before .before .before .entries .ensures .0, start-mono allEntries (entriesIn (c .before .before .before .before .before .before .before .before .before .before .before .before .before .before .args .s .now)) (c .before .before .before .before .before .before .before .before .before .before .before .span .result .odt) (c .before .before .before .before .before .before .before .before .before .before .before .span .result .odt + c .before .before .before .before .before .before .before .before .before .before .before .span .result .odts) (omega arith))
+sub-clear : tie.Need-sub-clear
+sub-clear c = omega (arith, c .before .before .entries-at .ensures, c .entries-at2 .ensures, c .before .before .before .before .before .before .before .before .before .before .before .span .ensures .2, c .before .before .before .before .before .before .before .before .entries .ensures .0, start-mono allEntries (entriesIn (c .before .before .before .before .before .before .before .before .before .before .before .before .before .before .args .s .now)) (c .before .before .before .before .before .before .before .before .before .before .before .span .result .odt) (c .before .before .before .before .before .before .before .before .before .before .before .span .result .odt + c .before .before .before .before .before .before .before .before .before .before .before .span .result .odts) (omega arith))
 
-put-zeros-requires : tie.Need-put-zeros-requires
-put-zeros-requires c κs = omega (arith, c .before .before .entries-at .ensures, c .entries-at2 .ensures, c .before .before .before .before .before .before .before .before .before .before .before .span .ensures .4, c .before .before .before .before .before .before .before .before .entries .ensures .2)
+clear-requires-2 : tie.Need-clear-requires-2
+clear-requires-2 c κs = search needs
 
 same-length : tie.Need-same-length
 same-length c = search needs
 
 returns : tie.Need-returns
 unfolding listCleared
-returns c = let f : c .before .before .before .before .before .before .before .before .before .before .before .before .before .before .span .result .odt + c .before .before .before .before .before .before .before .before .before .before .before .before .before .before .span .result .odts ≡ firstOdt (c .before .before .before .before .before .before .before .before .before .before .before .before .before .before .before .before .before .args .s .now) (suc (c .before .before .before .before .before .before .before .before .before .before .before .before .before .before .before .before .before .args .l)) = omega (arith, c .before .before .before .before .before .before .before .before .before .before .before .before .before .before .span .ensures .0, c .before .before .before .before .before .before .before .before .before .before .before .before .before .before .span .ensures .1, odt-next (c .before .before .before .before .before .before .before .before .before .before .before .before .before .before .before .before .before .args .s .now) (c .before .before .before .before .before .before .before .before .before .before .before .before .before .before .before .before .before .args .l)) in let i : c .before .before .before .before .before .before .before .before .before .before .before .before .before .before .span .result .entry ≡ firstEntry (c .before .before .before .before .before .before .before .before .before .before .before .before .before .before .before .before .before .args .s .now) (firstOdt (c .before .before .before .before .before .before .before .before .before .before .before .before .before .before .before .before .before .args .s .now) (c .before .before .before .before .before .before .before .before .before .before .before .before .before .before .before .before .before .args .l)) = c .before .before .before .before .before .before .before .before .before .before .before .before .before .before .span .ensures .2 ∙ ap (firstEntry (c .before .before .before .before .before .before .before .before .before .before .before .before .before .before .before .before .before .args .s .now)) (c .before .before .before .before .before .before .before .before .before .before .before .before .before .before .span .ensures .0) in let j : c .before .before .before .before .before .before .before .before .before .before .before .entries .result .first ≡ firstEntry (c .before .before .before .before .before .before .before .before .before .before .before .before .before .before .before .before .before .args .s .now) (firstOdt (c .before .before .before .before .before .before .before .before .before .before .before .before .before .before .before .before .before .args .s .now) (suc (c .before .before .before .before .before .before .before .before .before .before .before .before .before .before .before .before .before .args .l))) = c .before .before .before .before .before .before .before .before .before .before .before .entries .ensures .0 ∙ ap (firstEntry (c .before .before .before .before .before .before .before .before .before .before .before .before .before .before .before .before .before .args .s .now)) f in let e : c .before .before .before .entries-at2 .result - c .before .before .before .before .before .entries-at .result ≡ entrySize * entriesOfList (c .before .before .before .before .before .before .before .before .before .before .before .before .before .before .before .before .before .args .s .now) (c .before .before .before .before .before .before .before .before .before .before .before .before .before .before .before .before .before .args .l) = omega (arith, c .before .before .before .before .before .entries-at .ensures, c .before .before .before .entries-at2 .ensures, i, j) in c .before .before .put-zeros .ensures ∙ rw (e, c .before .before .before .before .before .before .before .before .clear .ensures, c .before .before .before .before .before .before .before .before .before .mode-at .ensures, c .before .before .before .before .before .entries-at .ensures, i)
+returns c = let f : c .before .before .before .before .before .before .before .before .before .before .before .before .before .before .span .result .odt + c .before .before .before .before .before .before .before .before .before .before .before .before .before .before .span .result .odts ≡ firstOdt (c .before .before .before .before .before .before .before .before .before .before .before .before .before .before .before .before .before .args .s .now) (suc (c .before .before .before .before .before .before .before .before .before .before .before .before .before .before .before .before .before .args .l)) = omega (arith, c .before .before .before .before .before .before .before .before .before .before .before .before .before .before .span .ensures .0, c .before .before .before .before .before .before .before .before .before .before .before .before .before .before .span .ensures .1, odt-next (c .before .before .before .before .before .before .before .before .before .before .before .before .before .before .before .before .before .args .s .now) (c .before .before .before .before .before .before .before .before .before .before .before .before .before .before .before .before .before .args .l)) in let i : c .before .before .before .before .before .before .before .before .before .before .before .before .before .before .span .result .entry ≡ firstEntry (c .before .before .before .before .before .before .before .before .before .before .before .before .before .before .before .before .before .args .s .now) (firstOdt (c .before .before .before .before .before .before .before .before .before .before .before .before .before .before .before .before .before .args .s .now) (c .before .before .before .before .before .before .before .before .before .before .before .before .before .before .before .before .before .args .l)) = c .before .before .before .before .before .before .before .before .before .before .before .before .before .before .span .ensures .2 ∙ ap (firstEntry (c .before .before .before .before .before .before .before .before .before .before .before .before .before .before .before .before .before .args .s .now)) (c .before .before .before .before .before .before .before .before .before .before .before .before .before .before .span .ensures .0) in let j : c .before .before .before .before .before .before .before .before .before .before .before .entries .result .first ≡ firstEntry (c .before .before .before .before .before .before .before .before .before .before .before .before .before .before .before .before .before .args .s .now) (firstOdt (c .before .before .before .before .before .before .before .before .before .before .before .before .before .before .before .before .before .args .s .now) (suc (c .before .before .before .before .before .before .before .before .before .before .before .before .before .before .before .before .before .args .l))) = c .before .before .before .before .before .before .before .before .before .before .before .entries .ensures .0 ∙ ap (firstEntry (c .before .before .before .before .before .before .before .before .before .before .before .before .before .before .before .before .before .args .s .now)) f in let e : c .before .before .before .entries-at2 .result - c .before .before .before .before .before .entries-at .result ≡ entrySize * entriesOfList (c .before .before .before .before .before .before .before .before .before .before .before .before .before .before .before .before .before .args .s .now) (c .before .before .before .before .before .before .before .before .before .before .before .before .before .before .before .before .before .args .l) = omega (arith, c .before .before .before .before .before .entries-at .ensures, c .before .before .before .entries-at2 .ensures, i, j) in c .before .before .clear2 .ensures ∙ rw (e, c .before .before .before .before .before .before .before .before .clear .ensures, c .before .before .before .before .before .before .before .before .before .mode-at .ensures, c .before .before .before .before .before .entries-at .ensures, i)
 
 pub clear-list-spec : {M : Type 1} → statement M
 clear-list-spec =
@@ -61,7 +60,7 @@ clear-list-spec =
     clear-requires
     entries-at-requires
     entries-at-requires-2
-    sub-put-zeros
-    put-zeros-requires
+    sub-clear
+    clear-requires-2
     same-length
     returns)

@@ -11,7 +11,7 @@ use Rattle.lists.proofs.events.capture.Reads as capture-reads
 use Rattle.lists.proofs.list.fit.Reads as fit-reads
 use Rattle.lists.proofs.list.is_unsent.Reads as is-unsent-reads
 use Rattle.lists.proofs.list.mode.Reads as mode-reads
-use Rattle.lists.proofs.list.span.Reads as span-reads
+use Rattle.lists.proofs.list.span_from.Reads as span-from-reads
 use Rattle.lists.proofs.list.started.Reads as started-reads
 
 mode-requires : tie.Need-mode-requires
@@ -37,11 +37,11 @@ returns-2 : tie.Need-returns-2
 unfolding sampledState
 returns-2 c = (sym (not-started (c .before .before .before .before .before .before .before .before .before .args .s .now) (c .before .before .before .before .before .before .before .before .before .args .l) (c .before .before .before .before .before .before .before .before .before .args .event) (c .before .before .before .before .before .before .before .before .before .pre .1) (sym (c .before .before .before .before .mode .ensures .0) ∙ c .before .before .before .if1 .left) (c .before .started .result) (c .before .started .ensures) (not-true (c .before .started .result) (c .if2 .taken))), refl)
 
-span-requires : tie.Need-span-requires
-span-requires c κs = search needs
+span-from-requires : tie.Need-span-from-requires
+span-from-requires c κs = (c .before .before .before .before .before .before .before .before .before .before .pre .0, c .before .before .before .before .before .before .before .before .before .before .pre .3, c .before .before .before .before .before .before .before .before .before .before .pre .4, c .before .before .before .before .before .before .before .before .before .before .pre .5)
 
 fit-requires : tie.Need-fit-requires
-fit-requires c κs = (c .before .before .before .before .before .before .before .before .before .before .before .before .pre .0, c .before .before .before .before .before .before .before .before .before .before .before .before .pre .1, c .before .span .ensures)
+fit-requires c κs = (c .before .before .before .before .before .before .before .before .before .before .before .before .pre .0, c .before .before .before .before .before .before .before .before .before .before .before .before .pre .1, c .before .span-from .ensures)
 
 same-length-3 : tie.Need-same-length-3
 same-length-3 c = search needs
@@ -51,7 +51,7 @@ unfolding sampledState
 returns-3 c = (sym (not-fit (c .before .before .before .before .before .before .before .before .before .before .before .before .before .before .args .s .now) (c .before .before .before .before .before .before .before .before .before .before .before .before .before .before .args .l) (c .before .before .before .before .before .before .before .before .before .before .before .before .before .before .args .event) (c .before .before .before .before .before .before .before .before .before .before .before .before .before .before .pre .1) (sym (c .before .before .before .before .before .before .before .before .before .mode .ensures .0) ∙ c .before .before .before .before .before .before .before .before .if1 .left) (c .before .before .before .before .before .before .started .result) (c .before .before .before .before .before .before .started .ensures) (not-false (c .before .before .before .before .before .before .started .result) (c .before .before .before .before .before .if2 .left)) (sym (c .before .fit .ensures) ∙ not-true (c .before .fit .result) (c .if3 .taken))), refl)
 
 is-unsent-requires : tie.Need-is-unsent-requires
-is-unsent-requires c κs = (c .before .before .before .before .before .before .before .before .before .before .before .before .before .before .before .pre .0, c .before .before .before .before .before .before .before .before .before .before .before .before .before .before .before .pre .1, c .before .before .before .before .span .ensures)
+is-unsent-requires c κs = (c .before .before .before .before .before .before .before .before .before .before .before .before .before .before .before .pre .0, c .before .before .before .before .before .before .before .before .before .before .before .before .before .before .before .pre .1, c .before .before .before .before .span-from .ensures)
 
 same-length-4 : tie.Need-same-length-4
 same-length-4 c = search needs
@@ -61,7 +61,7 @@ unfolding sampledState
 returns-4 c = (sym (still-unsent (c .before .before .before .before .before .before .before .before .before .before .before .before .before .before .before .before .before .args .s .now) (c .before .before .before .before .before .before .before .before .before .before .before .before .before .before .before .before .before .args .l) (c .before .before .before .before .before .before .before .before .before .before .before .before .before .before .before .before .before .args .event) (c .before .before .before .before .before .before .before .before .before .before .before .before .before .before .before .before .before .pre .1) (sym (c .before .before .before .before .before .before .before .before .before .before .before .before .mode .ensures .0) ∙ c .before .before .before .before .before .before .before .before .before .before .before .if1 .left) (c .before .before .before .before .before .before .before .before .before .started .result) (c .before .before .before .before .before .before .before .before .before .started .ensures) (not-false (c .before .before .before .before .before .before .before .before .before .started .result) (c .before .before .before .before .before .before .before .before .if2 .left)) (sym (c .before .before .before .before .fit .ensures) ∙ not-false (c .before .before .before .before .fit .result) (c .before .before .before .if3 .left)) (sym (c .before .is-unsent .ensures) ∙ c .if4 .taken)), refl)
 
 capture-requires : tie.Need-capture-requires
-capture-requires c κs = (c .before .before .before .before .before .before .before .before .before .before .before .before .before .before .before .before .before .before .pre .0, c .before .before .before .before .before .before .before .before .before .before .before .before .before .before .before .before .before .before .pre .1, sym (c .before .before .before .before .before .fit .ensures) ∙ not-false (c .before .before .before .before .before .fit .result) (c .before .before .before .before .if3 .left), c .before .before .before .before .before .before .before .span .ensures)
+capture-requires c κs = (c .before .before .before .before .before .before .before .before .before .before .before .before .before .before .before .before .before .before .pre .0, c .before .before .before .before .before .before .before .before .before .before .before .before .before .before .before .before .before .before .pre .1, sym (c .before .before .before .before .before .fit .ensures) ∙ not-false (c .before .before .before .before .before .fit .result) (c .before .before .before .before .if3 .left), c .before .before .before .before .before .before .before .span-from .ensures)
 
 same-length-5 : tie.Need-same-length-5
 same-length-5 c = search needs
@@ -81,7 +81,7 @@ sample-spec =
     started-requires
     same-length-2
     returns-2
-    span-requires
+    span-from-requires
     fit-requires
     same-length-3
     returns-3

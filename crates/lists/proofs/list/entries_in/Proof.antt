@@ -1,5 +1,3 @@
-use Prim.Native.Nat.{_+_}
-use Rattle.state.specs.Layout.{countsAt}
 use native.Mathlib.Omega.{arith}
 use Rattle.state.specs.Layout.{allEntries}
 use Rattle.state.specs.Pool.{entriesIn}
@@ -7,24 +5,19 @@ use Rattle.state.proofs.Ranges.{start-suc}
 use borrow.Author.Needs.{needs}
 use Rattle.lists.proofs.list.entries_in.Statement.{statement}
 use Rattle.lists.proofs.list.entries_in.Tie as tie
+use Rattle.lists.proofs.list.cut.Reads as cut-reads
 
-add-n : tie.Need-add-n
-add-n c = search needs
+add-cut : tie.Need-add-cut
+add-cut c = search needs
 
-shared-slice-read-n : tie.Need-shared-slice-read-n
-shared-slice-read-n c = search needs
+shared-slice-read-cut : tie.Need-shared-slice-read-cut
+shared-slice-read-cut c = search needs
 
-cast-n : tie.Need-cast-n
-cast-n c = omega (arith, c .shared-slice-known .given (countsAt + c .before .args .k))
-
-sub-room : tie.Need-sub-room
-sub-room c = search needs
+cut-requires : tie.Need-cut-requires
+cut-requires c κs = search needs
 
 returns : tie.Need-returns
-returns c = (omega (arith, c .before .before .pre .2, c .before .before .pre .3, c .if1 .taken, start-suc allEntries (entriesIn (c .before .before .args .s .now)) (c .before .before .args .k)), omega (arith, c .before .before .pre .3))
-
-returns-2 : tie.Need-returns-2
-returns-2 c = (omega (arith, c .before .before .pre .2, c .before .before .pre .3, c .if1 .left, start-suc allEntries (entriesIn (c .before .before .args .s .now)) (c .before .before .args .k)), omega (arith, c .before .before .pre .3, c .if1 .left))
+returns c = (omega (arith, c .cut .ensures .0, c .before .before .before .pre .2, start-suc allEntries (entriesIn (c .before .before .before .args .s .now)) (c .before .before .before .args .k)), c .cut .ensures .1)
 
 pub entries-in-spec : {M : Type 1} → statement M
-entries-in-spec = tie.close (tie.spec add-n shared-slice-read-n cast-n sub-room returns returns-2)
+entries-in-spec = tie.close (tie.spec add-cut shared-slice-read-cut cut-requires returns)

@@ -12,7 +12,7 @@ selected-requires : tie.Need-selected-requires
 selected-requires c κs = (c .before .pre .0, omega (arith, c .before .pre .1, lists-most (c .before .args .s .now)))
 
 span-requires : tie.Need-span-requires
-span-requires c κs = search needs
+span-requires c κs = (c .before .before .before .pre .0, omega (arith, c .before .before .before .pre .1, lists-most (c .before .before .before .args .s .now)))
 
 fit-requires : tie.Need-fit-requires
 fit-requires c κs = (c .before .before .before .before .pre .0, c .before .before .before .before .pre .1, c .span .ensures)

@@ -17,7 +17,7 @@ returns : tie.Need-returns
 returns c = sym (runs-by (c .before .before .before .args .s .now) (c .before .before .before .args .l) (c .before .before .before .pre .1) (c .before .started .result) (c .before .started .ensures) ∙ rw (not-true (c .before .started .result) (c .if1 .taken)))
 
 span-requires : tie.Need-span-requires
-span-requires c κs = search needs
+span-requires c κs = (c .before .before .before .pre .0, omega (arith, c .before .before .before .pre .1, lists-most (c .before .before .before .args .s .now)))
 
 fit-requires : tie.Need-fit-requires
 fit-requires c κs = (c .before .before .before .before .pre .0, c .before .before .before .before .pre .1, c .span .ensures)

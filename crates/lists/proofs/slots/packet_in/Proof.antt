@@ -10,7 +10,7 @@ use borrow.Author.Needs.{needs}
 use Rattle.lists.proofs.slots.packet_in.Statement.{statement}
 use Rattle.lists.proofs.slots.packet_in.Tie as tie
 use Rattle.lists.proofs.list.on.Reads as on-reads
-use Rattle.lists.proofs.list.runs.Reads as runs-reads
+use Rattle.lists.proofs.list.runs_from.Reads as runs-from-reads
 use Rattle.lists.proofs.slots.first_stored.Reads as first-stored-reads
 use Rattle.state.proofs.layout.running_at.Reads as running-at-reads
 
@@ -33,16 +33,16 @@ returns-2 : tie.Need-returns-2
 unfolding packetIn
 returns-2 c = sym (nobody-in (sessionOf (c .before .before .before .before .before .before .before .args .s .now)) (c .before .before .before .before .before .before .before .args .l) (rw (odts-at (c .before .before .before .before .before .before .before .args .s .now) (c .before .before .before .before .before .before .before .args .l) (c .before .before .before .before .before .before .before .pre .1)) (sym (c .before .before .first-stored .ensures) ∙ c .enum-told .given .1)))
 
-runs-requires : tie.Need-runs-requires
-runs-requires c κs = search needs
+runs-from-requires : tie.Need-runs-from-requires
+runs-from-requires c κs = search needs
 
 returns-3 : tie.Need-returns-3
 unfolding packetIn
-returns-3 c = rw (odts-at (c .before .before .before .before .before .before .before .before .args .s .now) (c .before .before .before .before .before .before .before .before .args .l) (c .before .before .before .before .before .before .before .before .pre .1)) (simp (sym (c .before .runs .ensures) ∙ c .if2 .taken, ← (c .before .before .before .first-stored .ensures)))
+returns-3 c = rw (odts-at (c .before .before .before .before .before .before .before .before .args .s .now) (c .before .before .before .before .before .before .before .before .args .l) (c .before .before .before .before .before .before .before .before .pre .1)) (simp (sym (c .before .runs-from .ensures) ∙ c .if2 .taken, ← (c .before .before .before .first-stored .ensures)))
 
 returns-4 : tie.Need-returns-4
 unfolding packetIn
-returns-4 c = simp (sym (c .before .runs .ensures) ∙ c .if2 .left)
+returns-4 c = simp (sym (c .before .runs-from .ensures) ∙ c .if2 .left)
 
 pub packet-in-spec : {M : Type 1} → statement M
 packet-in-spec =
@@ -54,6 +54,6 @@ packet-in-spec =
     first-stored-requires
     enum-told
     returns-2
-    runs-requires
+    runs-from-requires
     returns-3
     returns-4)

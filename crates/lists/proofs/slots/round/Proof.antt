@@ -7,17 +7,17 @@ use Rattle.state.specs.Layout.{allOdts}
 use Rattle.state.specs.Pool.{firstOdt}
 use Rattle.model.specs.Calls.{packetIn, roundFrom, roundIn}
 use Rattle.model.specs.View.{sessionOf}
-use Rattle.state.proofs.Allocated.{first-most, round-there}
+use Rattle.state.proofs.Allocated.{first-most, round-there, round-most}
 use Rattle.lists.proofs.Round.{round-step, round-at, round-after, after-there, after-first}
 use borrow.Author.Needs.{needs}
 use Rattle.lists.proofs.slots.round.Statement.{statement}
 use Rattle.lists.proofs.slots.round.Tie as tie
 use Rattle.lists.proofs.slots.first_after.Reads as first-after-reads
 use Rattle.lists.proofs.slots.list_after.Reads as list-after-reads
-use Rattle.lists.proofs.slots.odts_in.Reads as odts-in-reads
+use Rattle.lists.proofs.list.first_odt.Reads as first-odt-reads
+use Rattle.lists.proofs.list.odts_in.Reads as odts-in-reads
 use Rattle.lists.proofs.slots.packet_in.Reads as packet-in-reads
 use Rattle.state.proofs.pool.list_count.Reads as list-count-reads
-use Rattle.state.proofs.pool.odts.Reads as odts-reads
 use Rattle.state.proofs.pool.round.Reads as round-reads
 
 abbrev Inv-loop : tie.InvT-loop
@@ -32,14 +32,11 @@ list-count-requires c κs = search needs
 round-requires : tie.Need-round-requires Inv-loop μ-loop
 round-requires c κs = search needs
 
-cast-odts : tie.Need-cast-odts Inv-loop μ-loop
-cast-odts c = search needs
-
-odts-requires : tie.Need-odts-requires Inv-loop μ-loop
-odts-requires c κs = search needs
+first-odt-requires : tie.Need-first-odt-requires Inv-loop μ-loop
+first-odt-requires c κs = (c .before .before .before .pre, rw (c .round .ensures) (round-most (c .before .before .before .args .s .now)))
 
 loop-holds : tie.Need-loop-holds Inv-loop μ-loop
-loop-holds c = (rw (c .before .before .list-count .ensures .0, c .before .round .ensures) (sym (round-at (c .before .before .before .before .args .s .now))), c .odts .ensures .0, omega (arith, c .odts .ensures .2), omega arith, λ h. rw (c .before .before .list-count .ensures .0, c .before .round .ensures) (round-there (c .before .before .before .before .args .s .now) (omega (arith, c .before .before .list-count .ensures .0))))
+loop-holds c = (rw (c .before .before .list-count .ensures .0, c .before .round .ensures) (sym (round-at (c .before .before .before .before .args .s .now))), c .first-odt .ensures .0, c .first-odt .ensures .1, omega arith, λ h. rw (c .before .before .list-count .ensures .0, c .before .round .ensures) (round-there (c .before .before .before .before .args .s .now) (omega (arith, c .before .before .list-count .ensures .0))))
 
 odts-in-requires : tie.Need-odts-in-requires Inv-loop μ-loop
 odts-in-requires c κs = (c .before .before .before .before .before .before .pre, omega (arith, c .before .loop .inv .4 (c .loop-test .taken), c .before .before .before .before .list-count .ensures .1), c .before .loop .inv .1, c .before .loop .inv .2)
@@ -92,8 +89,7 @@ round-spec =
     μ-loop
     list-count-requires
     round-requires
-    cast-odts
-    odts-requires
+    first-odt-requires
     loop-holds
     odts-in-requires
     packet-in-requires

@@ -1,21 +1,19 @@
-use mathlib.Core.Path.{_≡_, refl, sym, ap, _∙_}
+use mathlib.Core.Path.{_≡_, refl, ap, _∙_}
 use Prim.Native.Nat.{_-_, _≤_}
 use native.Mathlib.Omega.{arith}
 use lib.ListN.{length}
 use Rattle.state.specs.Bytes.{cleared}
-use Rattle.state.proofs.Sets.{cleared-length, cleared-next, cleared-out, cleared-cut}
+use Rattle.state.proofs.Sets.{cleared-length, cleared-next, cleared-cut}
 use borrow.Author.Needs.{needs}
 use Rattle.state.proofs.bytes.clear.Statement.{statement}
 use Rattle.state.proofs.bytes.clear.Tie as tie
+use Rattle.state.proofs.bytes.there.Reads as there-reads
 
 abbrev Inv-loop : tie.InvT-loop
 Inv-loop s₀ at n m i₀ s i = (i ≤ m) × (s ≡ cleared s₀ at i)
 
 abbrev μ-loop : tie.MeasureT-loop
 μ-loop s₀ at n m i₀ s i = m - i
-
-returns : tie.Need-returns Inv-loop μ-loop
-returns c = sym (cleared-out (c .before .before .args .s .now) (c .before .before .args .at) (c .before .before .args .n) (c .if1 .taken))
 
 there-requires : tie.Need-there-requires Inv-loop μ-loop
 there-requires c κs = search needs
@@ -25,10 +23,10 @@ unfolding cleared
 loop-holds c = (omega arith, refl)
 
 add-s : tie.Need-add-s Inv-loop μ-loop
-add-s c = search needs
+add-s c = omega (arith, c .before .before .there .ensures, c .loop-test .taken)
 
 slice-write-s : tie.Need-slice-write-s Inv-loop μ-loop
-slice-write-s c = omega (arith, c .before .before .there .ensures .1, ap length (c .before .loop .inv .1) ∙ cleared-length (c .before .before .before .before .before .args .s .now) (c .before .before .before .before .before .args .at) (c .before .loop .i))
+slice-write-s c = omega (arith, c .before .before .there .ensures, c .loop-test .taken, ap length (c .before .loop .inv .1) ∙ cleared-length (c .before .before .before .before .args .s .now) (c .before .before .before .before .args .at) (c .before .loop .i))
 
 add-i : tie.Need-add-i Inv-loop μ-loop
 add-i c = search needs
@@ -37,13 +35,13 @@ loop-less : tie.Need-loop-less Inv-loop μ-loop
 loop-less c = search needs
 
 loop-again : tie.Need-loop-again Inv-loop μ-loop
-loop-again c = (omega arith, rw (c .before .loop .inv .1) (cleared-next (c .before .before .before .before .before .args .s .now) (c .before .before .before .before .before .args .at) (c .before .loop .i)))
+loop-again c = (omega arith, rw (c .before .loop .inv .1) (cleared-next (c .before .before .before .before .args .s .now) (c .before .before .before .before .args .at) (c .before .loop .i)))
 
 same-length : tie.Need-same-length Inv-loop μ-loop
-same-length c = ap length (c .before .loop .inv .1) ∙ cleared-length (c .before .before .before .before .before .args .s .now) (c .before .before .before .before .before .args .at) (c .before .loop .i)
+same-length c = ap length (c .before .loop .inv .1) ∙ cleared-length (c .before .before .before .before .args .s .now) (c .before .before .before .before .args .at) (c .before .loop .i)
 
-returns-2 : tie.Need-returns-2 Inv-loop μ-loop
-returns-2 c = let e : c .before .loop .i ≡ c .before .before .there .result = omega arith in c .before .loop .inv .1 ∙ ap (cleared (c .before .before .before .before .before .args .s .now) (c .before .before .before .before .before .args .at)) (e ∙ c .before .before .there .ensures .0) ∙ cleared-cut (c .before .before .before .before .before .args .s .now) (c .before .before .before .before .before .args .at) (c .before .before .before .before .before .args .n) (omega arith)
+returns : tie.Need-returns Inv-loop μ-loop
+returns c = let e : c .before .loop .i ≡ c .before .before .there .result = omega arith in c .before .loop .inv .1 ∙ ap (cleared (c .before .before .before .before .args .s .now) (c .before .before .before .before .args .at)) (e ∙ c .before .before .there .ensures) ∙ cleared-cut (c .before .before .before .before .args .s .now) (c .before .before .before .before .args .at) (c .before .before .before .before .args .n)
 
 pub clear-spec : {M : Type 1} → statement M
 clear-spec =
@@ -51,7 +49,6 @@ clear-spec =
     (tie.spec
     Inv-loop
     μ-loop
-    returns
     there-requires
     loop-holds
     add-s
@@ -60,4 +57,4 @@ clear-spec =
     loop-less
     loop-again
     same-length
-    returns-2)
+    returns)
