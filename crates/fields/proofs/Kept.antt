@@ -27,7 +27,7 @@ use Rattle.model.specs.Step.{nextEntry}
 use Rattle.session.specs.Perform.{entryWritten, effect, reply, after}
 use Rattle.session.specs.Receive.{Step, heededBy, heeded, meant, readOn, fedOf, receiveOf}
 use Rattle.lists.specs.Event.{stored, capturedOdts, captured, samplingOf, sampledState, tally, Happened, eventOf}
-use Rattle.lists.specs.Slot.{Slot, turnOf, ctrNext, answerSent, packetSent, sentBy, slotOf}
+use Rattle.lists.specs.Slot.{Slot, turnOf, ctrNext, answerSent, roundAfter, packetSent, sentBy, slotOf}
 use Rattle.session.specs.PowerUp.{powered, powerUpOf}
 use Rattle.words.specs.declared.Extension.{Extension}
 use Rattle.words.specs.declared.Extension.the-variants.{Calibration}
@@ -334,10 +334,10 @@ marked-packetSent s l o =
     let at : ℕ = sampleAt (firstOdt s l + o) in
     let s₁ : List ℕ = set s at 0 in
     let s₂ : List ℕ = set s₁ ctrAt (ctrNext s) in
-    let s₃ : List ℕ = set s₂ roundAt (l + 1) in
+    let s₃ : List ℕ = set s₂ roundAt (roundAfter l) in
     marked-then (marked-set s at 0 (omega arith))
     (marked-then (marked-set s₁ ctrAt (ctrNext s) (lit≤ tt))
-    (marked-then (marked-set s₂ roundAt (l + 1) (lit≤ tt)) (marked-set s₃ lastAt 0 (lit≤ tt))))
+    (marked-then (marked-set s₂ roundAt (roundAfter l) (lit≤ tt)) (marked-set s₃ lastAt 0 (lit≤ tt))))
 
 marked-sent : (t : Turn) (s out : List ℕ) → Marked s (sentBy t s out .state)
 unfolding sentBy

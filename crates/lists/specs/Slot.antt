@@ -49,9 +49,13 @@ ctrNext s = (ctrOf s + 1) % 256
 unfoldable pub answerSent : List ℕ → List ℕ
 answerSent s = set (set (set (set s answerBytesAt (answerKind s)) answerAt 0) ctrAt (ctrNext s)) lastAt 1
 
+-- with which list the round then begins; one that there is not reads as list 0
+abbrev pub roundAfter : ℕ → ℕ
+roundAfter l = l + 1
+
 -- the packet of list l's ODT o no longer waits; the round then begins with the list after it; the last frame was no answer
 unfoldable pub packetSent : List ℕ → ℕ → ℕ → List ℕ
-packetSent s l o = set (set (set (set s (sampleAt (firstOdt s l + o)) 0) ctrAt (ctrNext s)) roundAt (l + 1)) lastAt 0
+packetSent s l o = set (set (set (set s (sampleAt (firstOdt s l + o)) 0) ctrAt (ctrNext s)) roundAt (roundAfter l)) lastAt 0
 
 unfoldable pub sentBy : Turn → List ℕ → List ℕ → Slot
 sentBy Nobody s out = record { slotted = Idle; state = s; out = out }

@@ -51,7 +51,7 @@ use Rattle.model.proofs.Shown.{first-of, packet-by}
 use Rattle.judge.specs.Doable.{Entered, Doable}
 use Rattle.lists.specs.Lists.{entrySet}
 use Rattle.lists.specs.Event.{samplingOf, contentsOf, stored, capturedOdts, sampledState, tally, Happened, eventOf}
-use Rattle.lists.specs.Slot.{turnOf, Slot, ctrNext, answerSent, packetSent, sentBy, slotOf}
+use Rattle.lists.specs.Slot.{turnOf, Slot, ctrNext, answerSent, roundAfter, packetSent, sentBy, slotOf}
 use Rattle.lists.proofs.Fitting.{Fitting, sampling-fits, fit-each}
 use Rattle.lists.proofs.Gathered.{contents-most}
 use Rattle.lists.proofs.Sending.{Within, turn-within}
@@ -339,8 +339,8 @@ bytes-packetSent s l o h w =
     let at : ℕ = sampleAt (firstOdt s l + o) in
     let s₁ : List ℕ = set s at 0 in
     let s₂ : List ℕ = set s₁ ctrAt (ctrNext s) in
-    bytes-set (set s₂ roundAt (l + 1)) lastAt 0
-    (bytes-set s₂ roundAt (l + 1) (bytes-modulo s₁ ctrAt (ctrOf s + 1) (bytes-set s at 0 w (lit< tt))) (omega (arith, lists-most s))) (lit< tt)
+    bytes-set (set s₂ roundAt (roundAfter l)) lastAt 0
+    (bytes-set s₂ roundAt (roundAfter l) (bytes-modulo s₁ ctrAt (ctrOf s + 1) (bytes-set s at 0 w (lit< tt))) (omega (arith, lists-most s))) (lit< tt)
 
 -- its frame
 bytes-stuffByte : (b : ℕ) → b < 256 → Bytes (stuffByte b)

@@ -2,13 +2,13 @@
 use Prim.Native.Nat.{ℕ, zero, suc, _+_, _^_, _≤_, _<_}
 use mathlib.Core.Path.{_≡_, refl, sym, ap, ap₂, subst, _∙_}
 use mathlib.Core.Logic.{_≢_}
-use mathlib.Core.Bool.{true}
+use mathlib.Core.Bool.{true, cond}
 use mathlib.Core.List.{List, [], _∷_, _++_}
 use native.Mathlib.Nat.{add-zero}
 use native.Mathlib.Numerals.{add-one}
 use native.Mathlib.Omega.{arith}
 use borrow.Author.Tests.{lt-ltb, le-ltb, eqb-true, eqb-false}
-use lib.Dec.{eqb, lit<, lit≤}
+use lib.Dec.{eqb, ltb, lit<, lit≤}
 use lib.ListN.{take, drop, length, getD, set, replicate, length-set, length-replicate, getD-replicate}
 use lib.Seq.{length-take-le, take-at, drop-at, getD-set-same, getD-set-other}
 use Rattle.line.specs.Message.{longest}
@@ -23,7 +23,7 @@ use Rattle.state.specs.State.{flagOf, generatorOf, wrongKeysOf, placeOf, messag
 use Rattle.state.specs.Lists.{storedLength}
 use Rattle.state.proofs.Allocated.{lists-most, odt-most, odt-next, entry-most}
 use Rattle.lists.specs.Event.{contentsOf, stored, capturedOdts, captured}
-use Rattle.lists.specs.Slot.{ctrNext, answerSent, packetSent}
+use Rattle.lists.specs.Slot.{ctrNext, answerSent, roundAfter, packetSent}
 use Rattle.lists.proofs.Fitting.{fit-each}
 use Rattle.lists.proofs.Gathered.{contents-most}
 use Rattle.session.specs.Receive.{readOn}
@@ -36,7 +36,7 @@ use Rattle.fields.proofs.Readers.{Same, apart, same-part, flag-reads, generator
 use Rattle.fields.proofs.Served.{answerSent-front, answerSent-round, answerSent-session, answerSent-reader}
 use Rattle.model.specs.Model.{noOdt, blank, eachFits}
 use Rattle.model.specs.Step.{withSession, withLists, at, emptied}
-use Rattle.model.specs.Calls.{withAnswer, withReader, answerGone, withoutPacket, listAfter, withRound, packetGone, contentsIn, withPacket, sampled, poweredUp}
+use Rattle.model.specs.Calls.{withAnswer, withReader, answerGone, withoutPacket, withRound, packetGone, contentsIn, withPacket, sampled, poweredUp}
 use Rattle.model.specs.View.{odtOf, daqOf, sessionOf, viewOf}
 use Rattle.model.proofs.Bounded.{either, upTo-at, upTo-above, upTo-is, upTo-put}
 use Rattle.views.proofs.Parts.{spared, both, odt-from, list-from, Stays, mode-own, odt-own, odts-as, in-pool, lists-apart, own-one, list-own, lists-reads, freed-reads, locks-reads, in-session, in-lists}
@@ -105,10 +105,10 @@ view-answerSent s h =
     }
 
 -- ---- a packet is sent
--- the round then begins with the list after list l
-round-next : (t : List ℕ) (l : ℕ) → getD t roundAt 0 ≡ l + 1 → roundOf t ≡ listAfter (listCount t) l
+-- the round then begins with the list that is stored, if there is one
+round-next : (t : List ℕ) (i : ℕ) → getD t roundAt 0 ≡ i → roundOf t ≡ cond (ltb i (listCount t)) i 0
 unfolding roundOf
-round-next t l e = rw e
+round-next t i e = rw e
 
 module _ (s : List ℕ) (l o : ℕ) (h : length s ≡ size) (there : l < listCount s) (its : o < odtCount s l) where
   abbrev at-store : ℕ
@@ -136,23 +136,23 @@ module _ (s : List ℕ) (l o : ℕ) (h : length s ≡ size) (there : l < listCou
   view-packetSent =
       let s₁ : List ℕ = set s at-store 0 in
       let s₂ : List ℕ = set s₁ ctrAt (ctrNext s) in
-      let s₃ : List ℕ = set s₂ roundAt (l + 1) in
+      let s₃ : List ℕ = set s₂ roundAt (roundAfter l) in
       let t : List ℕ = set s₃ lastAt 0 in
       let h₁ : length s₁ ≡ size = length-set s at-store 0 ∙ h in
       let h₂ : length s₂ ≡ size = length-set s₁ ctrAt (ctrNext s) ∙ h₁ in
-      let h₃ : length s₃ ≡ size = length-set s₂ roundAt (l + 1) ∙ h₂ in
+      let h₃ : length s₃ ≡ size = length-set s₂ roundAt (roundAfter l) ∙ h₂ in
       let w : Only at-store (at-store + 1) s s₁ = only-set s at-store 0 (omega arith) (omega arith) in
-      let v : Only ctrAt placeAt s₁ t = only-then (only-set s₁ ctrAt (ctrNext s) (lit≤ tt) (lit< tt)) (only-then (only-set s₂ roundAt (l + 1) (lit≤ tt) (lit< tt)) (only-set s₃ lastAt 0 (lit≤ tt) (lit< tt))) in
+      let v : Only ctrAt placeAt s₁ t = only-then (only-set s₁ ctrAt (ctrNext s) (lit≤ tt) (lit< tt)) (only-then (only-set s₂ roundAt (roundAfter l) (lit≤ tt) (lit< tt)) (only-set s₃ lastAt 0 (lit≤ tt) (lit< tt))) in
       let x : Only (modeAt 0) size s s₁ = only-set s at-store 0 (omega arith) (omega (arith, few)) in
       let stays : Stays s t = both w v (omega arith) in
-      let begins : roundOf t ≡ listAfter (listCount s) l
-      = round-next t l (getD-set-other s₃ lastAt roundAt 0 0 (omega arith) ∙ getD-set-same s₂ roundAt (l + 1) 0 (omega arith)) ∙ ap (λ (n : ℕ). listAfter n l) (listCount-reads stays) in
+      let begins : roundOf t ≡ cond (ltb (roundAfter l) (listCount s)) (roundAfter l) 0
+      = round-next t (roundAfter l) (getD-set-other s₃ lastAt roundAt 0 0 (omega arith) ∙ getD-set-same s₂ roundAt (roundAfter l) 0 (omega arith)) ∙ ap (λ (n : ℕ). cond (ltb (roundAfter l) n) (roundAfter l) 0) (listCount-reads stays) in
       λ i. record {
         session = (in-round (apart tt v) (apart tt v) ∙ ap₂ withRound (in-lists x ∙ ap (withLists (sessionOf s)) taken) begins) i;
         place = place-reads (both w v (omega arith)) i;
         message = message-reads (both w v (omega arith)) i;
         answer = answer-reads (both w v (omega arith)) i;
-        ctr = (getD-set-other s₃ lastAt ctrAt 0 0 (omega arith) ∙ getD-set-other s₂ roundAt ctrAt (l + 1) 0 (omega arith) ∙ getD-set-same s₁ ctrAt (ctrNext s) 0 (omega arith)) i;
+        ctr = (getD-set-other s₃ lastAt ctrAt 0 0 (omega arith) ∙ getD-set-other s₂ roundAt ctrAt (roundAfter l) 0 (omega arith) ∙ getD-set-same s₁ ctrAt (ctrNext s) 0 (omega arith)) i;
         lastAnswer = flag-zero t lastAt (getD-set-same s₃ lastAt 0 0 (omega arith)) i;
       }
 

@@ -7,7 +7,7 @@ use lib.Seq.{set-set}
 use Rattle.line.specs.Writer.{writeOf}
 use Rattle.state.specs.Layout.{ctrAt, roundAt, lastAt}
 use Rattle.state.proofs.Allocated.{lists-most, odt-most}
-use Rattle.lists.specs.Slot.{slottedAs, sentBy, packetSent, packetOf}
+use Rattle.lists.specs.Slot.{slottedAs, sentBy, packetSent, packetOf, roundAfter}
 use Rattle.model.proofs.Shown.{packet-by}
 use Rattle.lists.proofs.Sending.{numbered}
 use borrow.Author.Needs.{needs}
@@ -96,7 +96,7 @@ returns c = let at = c .before .before .before .before .before .before .before .
     let e : take ((at + 1 + c .before .before .before .before .before .before .before .before .before .stored-length .result) - at) (drop at (set (c .before .before .before .before .before .before .before .before .before .before .before .before .before .before .before .before .args .s .now) at (c .before .before .before .before .before .before .before .before .before .before .before .before .first-odt .result + c .before .before .before .before .before .before .before .before .before .before .before .before .before .before .before .before .args .odt))) ≡ packetOf (c .before .before .before .before .before .before .before .before .before .before .before .before .before .before .before .before .args .s .now) (c .before .before .before .before .before .before .before .before .before .before .before .before .before .before .before .before .args .l) (c .before .before .before .before .before .before .before .before .before .before .before .before .before .before .before .before .args .odt) = rw n (numbered (c .before .before .before .before .before .before .before .before .before .before .before .before .before .before .before .before .args .s .now) at (c .before .before .before .before .before .before .before .before .before .before .before .before .first-odt .result + c .before .before .before .before .before .before .before .before .before .before .before .before .before .before .before .before .args .odt) (c .before .before .before .before .before .before .before .before .before .stored-length .result) (omega (arith, c .before .before .before .before .before .before .before .before .before .before .before .sample-at .ensures, c .before .before .before .before .before .before .before .before .before .before .before .before .first-odt .ensures .0, odt-most (c .before .before .before .before .before .before .before .before .before .before .before .before .before .before .before .before .args .s .now) (c .before .before .before .before .before .before .before .before .before .before .before .before .before .before .before .before .args .l))) ∙ rw (c .before .before .before .before .before .before .before .before .before .before .before .sample-at .ensures, c .before .before .before .before .before .before .before .before .before .stored-length .ensures .0, c .before .before .before .before .before .before .before .before .before .before .before .before .first-odt .ensures .0) (sym (packet-by (c .before .before .before .before .before .before .before .before .before .before .before .before .before .before .before .before .args .s .now) (c .before .before .before .before .before .before .before .before .before .before .before .before .before .before .before .before .args .l) (c .before .before .before .before .before .before .before .before .before .before .before .before .before .before .before .before .args .odt) (c .before .before .before .before .before .before .before .before .before .before .before .before .before .before .before .before .pre .1) (c .before .before .before .before .before .before .before .before .before .before .before .before .before .before .before .before .pre .2)))) in
     record {
       result = c .slotted .ensures ∙ ap slottedAs (c .before .before .before .before .write .ensures .result) ∙ ap (λ (p : List ℕ). slottedAs (writeOf p (getD (c .before .before .before .before .before .before .before .before .before .before .before .before .before .before .before .before .args .s .now) ctrAt 0) (c .before .before .before .before .before .before .before .before .before .before .before .before .before .before .before .before .args .out .now) .written)) e;
-      state = ap (λ (t : List ℕ). set (set (set t ctrAt (c .before .next-ctr .result)) roundAt (c .before .before .before .before .before .before .before .before .before .before .before .before .before .before .before .before .args .l + 1)) lastAt 0) (set-set (c .before .before .before .before .before .before .before .before .before .before .before .before .before .before .before .before .args .s .now) at (c .before .before .before .before .before .before .before .before .before .before .before .before .first-odt .result + c .before .before .before .before .before .before .before .before .before .before .before .before .before .before .before .before .args .odt) 0) ∙ rw (c .before .next-ctr .ensures, c .before .before .before .before .before .before .before .before .before .before .before .sample-at .ensures, c .before .before .before .before .before .before .before .before .before .before .before .before .first-odt .ensures .0);
+      state = ap (λ (t : List ℕ). set (set (set t ctrAt (c .before .next-ctr .result)) roundAt (roundAfter (c .before .before .before .before .before .before .before .before .before .before .before .before .before .before .before .before .args .l))) lastAt 0) (set-set (c .before .before .before .before .before .before .before .before .before .before .before .before .before .before .before .before .args .s .now) at (c .before .before .before .before .before .before .before .before .before .before .before .before .first-odt .result + c .before .before .before .before .before .before .before .before .before .before .before .before .before .before .before .before .args .odt) 0) ∙ rw (c .before .next-ctr .ensures, c .before .before .before .before .before .before .before .before .before .before .before .sample-at .ensures, c .before .before .before .before .before .before .before .before .before .before .before .before .first-odt .ensures .0);
       bytes = c .before .before .before .before .write .ensures .bytes ∙ ap (λ (p : List ℕ). writeOf p (getD (c .before .before .before .before .before .before .before .before .before .before .before .before .before .before .before .before .args .s .now) ctrAt 0) (c .before .before .before .before .before .before .before .before .before .before .before .before .before .before .before .before .args .out .now) .out) e;
     }
 
