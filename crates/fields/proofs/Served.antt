@@ -7,7 +7,7 @@ use lib.ListN.{set}
 use Rattle.state.specs.Layout.{size, markAt, ctrAt, roundAt, lastAt, placeAt, answerAt, answerBytesAt, sessionAt, sampleAt}
 use Rattle.state.specs.Pool.{firstOdt}
 use Rattle.state.specs.State.{answerKind}
-use Rattle.lists.specs.Slot.{ctrNext, answerSent, packetSent}
+use Rattle.lists.specs.Slot.{ctrNext, answerSent, roundAfter, packetSent}
 use Rattle.fields.proofs.Frames.{Only, only-then, only-set}
 use Rattle.fields.proofs.Readers.{Same, before, behind, same-then}
 
@@ -62,7 +62,7 @@ rounded s c l =
 -- what lies outside its store, behind the round
 packetSent-same : (s : List ℕ) (l o : ℕ) {a b : ℕ} → placeAt ≤ a → Same a b s (set s (sampleAt (firstOdt s l + o)) 0) → Same a b s (packetSent s l o)
 unfolding packetSent
-packetSent-same s l o h w = same-then w (behind h (rounded (set s (sampleAt (firstOdt s l + o)) 0) (ctrNext s) (l + 1)))
+packetSent-same s l o h w = same-then w (behind h (rounded (set s (sampleAt (firstOdt s l + o)) 0) (ctrNext s) (roundAfter l)))
 
 -- the reader, its message, the answer, and the session but for the stores
 pub packetSent-rest : (s : List ℕ) (l o : ℕ) → Same placeAt (sampleAt 0) s (packetSent s l o)

@@ -5,6 +5,7 @@ ghost use Rattle.state.specs.Layout.{allOdts, allEntries};
 ghost use Rattle.model.specs.View.{sessionOf};
 ghost use Rattle.lists.specs.Lists.{isList, runsNamed, fitsNamed, anyRuns, ready};
 use crate::list;
+use crate::spans;
 use state::layout;
 use state::pool;
 
@@ -30,7 +31,7 @@ pub fn fits(s: &[u8], l: u16) -> bool
     ensures { λ r. ⌜ r ≡ fitsNamed (now (s .entry)) l ⌝ }
 {
     if is_list(s, l) {
-        return list::fit(s, l as u8, list::span(s, l as u8));
+        return list::fit(s, l as u8, spans::span(s, l as u8));
     }
     false
 }

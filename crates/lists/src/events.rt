@@ -14,6 +14,7 @@ ghost use Rattle.model.specs.Calls.{blocksIn, leadOf};
 ghost use Rattle.model.specs.View.{odtOf};
 use crate::Counted;
 use crate::list;
+use crate::spans;
 use model::Sampling;
 use state::Span;
 use state::fields;
@@ -119,7 +120,7 @@ fn capture(s: &mut [u8], cal: &[u8], meas: &[u8], l: u8, span: Span, clock: u16)
     let mut first = span.entry;
     let mut o: u16 = 0;
     while o < span.odts {
-        let n = list::entries_in(s, span.odt + o, first);
+        let n = spans::entries_in(s, span.odt + o, first);
         capture_odt(s, cal, meas, span.odt, o, first, n, clock);
         first += n;
         o += 1;
@@ -146,7 +147,7 @@ fn sample(
     if !list::started(s, l) {
         return Sampling::Idle;
     }
-    let span = list::span_from(s, l, k, n);
+    let span = spans::span_from(s, l, k, n);
     if !list::fit(s, l, span) {
         return Sampling::Idle;
     }
@@ -188,7 +189,7 @@ fn happen(s: &mut [u8], cal: &[u8], meas: &[u8], event: u8, clock: u16) -> Count
     let mut k: u16 = 0;
     let mut l: u8 = 0;
     while l < count {
-        let n = list::odts_in(s, l, k);
+        let n = spans::odts_in(s, l, k);
         let c = sample(s, cal, meas, l, k, n, event, clock);
         k += n;
         sampled += sampled_by(c);

@@ -6,6 +6,7 @@ pub mod changes;
 mod events;
 mod list;
 mod slots;
+mod spans;
 
 pub use events::event;
 pub use slots::slot;

@@ -1,11 +1,10 @@
 // The lists: how they read, for any bytes of a state. Each goes straight to its bytes: events and slots read them often.
 ghost use mathlib.Core.Path.{_≡_};
 ghost use mathlib.Core.Bool.{cond, false};
-ghost use Prim.Native.Nat.{_+_, _*_, _-_, _≤_, _<_, min};
+ghost use Prim.Native.Nat.{_+_, _*_, _≤_, _<_};
 ghost use lib.Dec.{eqb};
-ghost use lib.ListN.{length, getD};
+ghost use lib.ListN.{length};
 ghost use Rattle.state.specs.Layout.{lists, allOdts, allEntries, events, storedMost, entryMost, runningAt, size};
-ghost use Rattle.state.specs.Ranges.{startIn};
 ghost use Rattle.state.specs.Pool.{listCount, firstOdt, odtCount, firstEntry, entryCount};
 ghost use Rattle.state.specs.State.{flagOf, openOf};
 ghost use Rattle.state.specs.Lists.{sizeAt, extensionAt, addressIn, modeOf, selectedOf, storedLength};
@@ -13,6 +12,7 @@ ghost use Rattle.model.specs.Model.{allBytes, eachFits, unsent, someRuns};
 ghost use Rattle.model.specs.Judge.{startable, allStartable};
 ghost use Rattle.model.specs.View.{sessionOf};
 ghost use Rattle.lists.specs.Lists.{odtBytes, fitOf, runsOf, Spans};
+use crate::spans;
 use state::Span;
 use state::bytes::wide;
 use state::layout;
@@ -25,89 +25,6 @@ pub fn on(s: &[u8], at: usize) -> bool
     ensures { λ r. ⌜ r ≡ flagOf (now (s .entry)) at ⌝ }
 {
     s[at] == 1
-}
-
-// ---- what there is of the pool
-
-// The first n counts from `at`, added up to `most`. What is too much is cut off once, behind the loop.
-fn counts_before(s: &[u8], at: usize, most: u16, n: u16) -> u16
-    requires { ⌜ (length (now s) ≡ size) × (at + n ≤ length (now s)) × (n ≤ allOdts) ⌝ }
-    ensures { λ r. ⌜ (r ≡ startIn most (λ i. getD (now (s .entry)) (at + i) 0) n) × (r ≤ most) ⌝ }
-{
-    let mut sum: u16 = 0;
-    let mut i: u16 = 0;
-    while i < n {
-        sum += s[at + i as usize] as u16;
-        i += 1;
-    }
-    if most < sum {
-        return most;
-    }
-    sum
-}
-
-// A count, of which no more is there than the pool has behind `first`.
-fn cut(count: u8, first: u16, most: u16) -> u16
-    requires { ⌜ first ≤ most ⌝ }
-    ensures { λ r. ⌜ (r ≡ min most (first + count) - first) × (first + r ≤ most) ⌝ }
-{
-    let room = most - first;
-    if room < count as u16 {
-        return room;
-    }
-    count as u16
-}
-
-// Where the ODTs of a list begin, and how many they are.
-pub fn first_odt(s: &[u8], l: u8) -> u16
-    requires { ⌜ (length (now s) ≡ size) × (l < lists) ⌝ }
-    ensures { λ r. ⌜ (r ≡ firstOdt (now (s .entry)) l) × (r ≤ allOdts) ⌝ }
-{
-    counts_before(s, layout::ODTS, layout::ALL_ODTS_U16, l as u16)
-}
-
-pub fn odts_in(s: &[u8], l: u8, first: u16) -> u16
-    requires { ⌜ (length (now s) ≡ size) × (l < lists) × (first ≡ firstOdt (now s) l) × (first ≤ allOdts) ⌝ }
-    ensures { λ r. ⌜ (r ≡ odtCount (now (s .entry)) l) × (first + r ≤ allOdts) ⌝ }
-{
-    cut(s[layout::ODTS + l as usize], first, layout::ALL_ODTS_U16)
-}
-
-// Where the entries of an ODT begin, and how many they are.
-pub fn first_entry(s: &[u8], k: u16) -> u16
-    requires { ⌜ (length (now s) ≡ size) × (k ≤ allOdts) ⌝ }
-    ensures { λ r. ⌜ (r ≡ firstEntry (now (s .entry)) k) × (r ≤ allEntries) ⌝ }
-{
-    counts_before(s, layout::COUNTS, layout::ALL_ENTRIES_U16, k)
-}
-
-pub fn entries_in(s: &[u8], k: u16, first: u16) -> u16
-    requires { ⌜ (length (now s) ≡ size) × (k < allOdts) × (first ≡ firstEntry (now s) k) × (first ≤ allEntries) ⌝ }
-    ensures { λ r. ⌜ (r ≡ entryCount (now (s .entry)) k) × (first + r ≤ allEntries) ⌝ }
-{
-    cut(
-        s[layout::COUNTS + k as usize],
-        first,
-        layout::ALL_ENTRIES_U16,
-    )
-}
-
-// What a list has, of which the ODTs are known.
-pub fn span_from(s: &[u8], l: u8, odt: u16, odts: u16) -> Span
-    requires { ⌜ (length (now s) ≡ size) × (odt ≡ firstOdt (now s) l) × (odts ≡ odtCount (now s) l) × (odt + odts ≤ allOdts) ⌝ }
-    ensures { λ r. ⌜ Spans (now (s .entry)) l (r .odt) (r .odts) (r .entry) ⌝ }
-{
-    let entry = first_entry(s, odt);
-    Span { odt, odts, entry }
-}
-
-pub fn span(s: &[u8], l: u8) -> Span
-    requires { ⌜ (length (now s) ≡ size) × (l < lists) ⌝ }
-    ensures { λ r. ⌜ Spans (now (s .entry)) l (r .odt) (r .odts) (r .entry) ⌝ }
-{
-    let odt = first_odt(s, l);
-    let odts = odts_in(s, l, odt);
-    span_from(s, l, odt, odts)
 }
 
 // ---- entries
@@ -189,7 +106,7 @@ fn odts_fit(s: &[u8], l: u8, span: Span) -> bool
     let mut o: u16 = 0;
     while o < span.odts {
         let k = span.odt + o;
-        let n = entries_in(s, k, first);
+        let n = spans::entries_in(s, k, first);
         let m = odt_bytes(s, k, first, n);
         if layout::odt_most(o) < m {
             return false;
@@ -233,7 +150,7 @@ pub fn runs(s: &[u8], l: u8) -> bool
     if !started(s, l) {
         return false;
     }
-    fit(s, l, span(s, l))
+    fit(s, l, spans::span(s, l))
 }
 
 // The same where the list's ODTs are known.
@@ -244,7 +161,7 @@ pub fn runs_from(s: &[u8], l: u8, odt: u16, odts: u16) -> bool
     if !started(s, l) {
         return false;
     }
-    fit(s, l, span_from(s, l, odt, odts))
+    fit(s, l, spans::span_from(s, l, odt, odts))
 }
 
 pub fn any_runs(s: &[u8]) -> bool
@@ -268,7 +185,7 @@ fn may_start(s: &[u8], l: u8) -> bool
     ensures { λ r. ⌜ r ≡ startable (sessionOf (now (s .entry))) l ⌝ }
 {
     if selected(s, l) {
-        return fit(s, l, span(s, l));
+        return fit(s, l, spans::span(s, l));
     }
     true
 }

@@ -11,6 +11,7 @@ ghost use Rattle.model.specs.Calls.{firstPacket, packetIn, orElse, roundIn, lis
 ghost use Rattle.model.specs.View.{sessionOf};
 ghost use Rattle.lists.specs.Slot.{turnOf, slottedAs, sentBy, Sends, slotOf};
 use crate::list;
+use crate::spans;
 use line::Written;
 use model::Turn;
 use state::fields;
@@ -81,10 +82,10 @@ fn round(s: &[u8]) -> Turn
 {
     let count = pool::list_count(s);
     let mut l = pool::round(s);
-    let mut k = list::first_odt(s, l);
+    let mut k = spans::first_odt(s, l);
     let mut left = count;
     while 0 < left {
-        let n = list::odts_in(s, l, k);
+        let n = spans::odts_in(s, l, k);
         let turn = packet_in(s, l, k, n);
         match turn {
             Turn::Nobody => {
@@ -171,7 +172,7 @@ fn send_packet(s: &mut [u8], out: &mut [u8], l: u8, odt: u8) -> Slotted
     requires { ⌜ (length (now s) ≡ size) × (l < listCount (now s)) × (odt < odtCount (now s) l) ⌝ }
     ensures { λ r. ⌜ Sends (sentBy (Turn.Packet l odt) (now (s .entry)) (now (out .entry))) r (now (s .exit)) (now (out .exit)) ⌝ }
 {
-    let k = list::first_odt(s, l) + odt as u16;
+    let k = spans::first_odt(s, l) + odt as u16;
     let at = layout::sample_at(k);
     let n = list::stored_length(s, k) as usize;
     let ctr = s[layout::CTR];

@@ -9,7 +9,7 @@ use Rattle.lists.proofs.asked.fits.Statement.{statement}
 use Rattle.lists.proofs.asked.fits.Tie as tie
 use Rattle.lists.proofs.asked.is_list.Reads as is-list-reads
 use Rattle.lists.proofs.list.fit.Reads as fit-reads
-use Rattle.lists.proofs.list.span.Reads as span-reads
+use Rattle.lists.proofs.spans.span.Reads as span-reads
 
 is-list-requires : tie.Need-is-list-requires
 is-list-requires c κs = search needs

@@ -16,7 +16,7 @@ use borrow.Author.Needs.{needs}
 use Rattle.lists.proofs.events.capture.Statement.{statement}
 use Rattle.lists.proofs.events.capture.Tie as tie
 use Rattle.lists.proofs.events.capture_odt.Reads as capture-odt-reads
-use Rattle.lists.proofs.list.entries_in.Reads as entries-in-reads
+use Rattle.lists.proofs.spans.entries_in.Reads as entries-in-reads
 
 abbrev Inv-loop : tie.InvT-loop
 Inv-loop s₀ cal meas l span clock first₀ o₀ s first o = (o ≤ span .odts) × (first ≡ firstEntry s₀ (span .odt + o)) × (first ≤ allEntries) × (s ≡ capturedOdts s₀ (span .odt) clock cal meas o) × (length s ≡ length s₀)

@@ -17,7 +17,7 @@ use Rattle.lists.proofs.events.happen.Tie as tie
 use Rattle.lists.proofs.events.missed_by.Reads as missed-by-reads
 use Rattle.lists.proofs.events.sample.Reads as sample-reads
 use Rattle.lists.proofs.events.sampled_by.Reads as sampled-by-reads
-use Rattle.lists.proofs.list.odts_in.Reads as odts-in-reads
+use Rattle.lists.proofs.spans.odts_in.Reads as odts-in-reads
 use Rattle.state.proofs.pool.list_count.Reads as list-count-reads
 
 abbrev Inv-loop : tie.InvT-loop

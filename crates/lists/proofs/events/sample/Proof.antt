@@ -11,7 +11,7 @@ use Rattle.lists.proofs.events.capture.Reads as capture-reads
 use Rattle.lists.proofs.list.fit.Reads as fit-reads
 use Rattle.lists.proofs.list.is_unsent.Reads as is-unsent-reads
 use Rattle.lists.proofs.list.mode.Reads as mode-reads
-use Rattle.lists.proofs.list.span_from.Reads as span-from-reads
+use Rattle.lists.proofs.spans.span_from.Reads as span-from-reads
 use Rattle.lists.proofs.list.started.Reads as started-reads
 
 mode-requires : tie.Need-mode-requires

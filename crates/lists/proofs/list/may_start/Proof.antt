@@ -6,7 +6,7 @@ use Rattle.lists.proofs.list.may_start.Statement.{statement}
 use Rattle.lists.proofs.list.may_start.Tie as tie
 use Rattle.lists.proofs.list.fit.Reads as fit-reads
 use Rattle.lists.proofs.list.selected.Reads as selected-reads
-use Rattle.lists.proofs.list.span.Reads as span-reads
+use Rattle.lists.proofs.spans.span.Reads as span-reads
 
 selected-requires : tie.Need-selected-requires
 selected-requires c κs = (c .before .pre .0, omega (arith, c .before .pre .1, lists-most (c .before .args .s .now)))

@@ -17,7 +17,7 @@ use Rattle.lists.proofs.Counting.{fit-stays, both-no}
 use borrow.Author.Needs.{needs}
 use Rattle.lists.proofs.list.odts_fit.Statement.{statement}
 use Rattle.lists.proofs.list.odts_fit.Tie as tie
-use Rattle.lists.proofs.list.entries_in.Reads as entries-in-reads
+use Rattle.lists.proofs.spans.entries_in.Reads as entries-in-reads
 use Rattle.lists.proofs.list.odt_bytes.Reads as odt-bytes-reads
 use Rattle.state.proofs.layout.odt_most.Reads as odt-most-reads
 

@@ -7,7 +7,7 @@ use borrow.Author.Needs.{needs}
 use Rattle.lists.proofs.list.runs.Statement.{statement}
 use Rattle.lists.proofs.list.runs.Tie as tie
 use Rattle.lists.proofs.list.fit.Reads as fit-reads
-use Rattle.lists.proofs.list.span.Reads as span-reads
+use Rattle.lists.proofs.spans.span.Reads as span-reads
 use Rattle.lists.proofs.list.started.Reads as started-reads
 
 started-requires : tie.Need-started-requires

@@ -7,7 +7,7 @@ use borrow.Author.Needs.{needs}
 use Rattle.lists.proofs.list.runs_from.Statement.{statement}
 use Rattle.lists.proofs.list.runs_from.Tie as tie
 use Rattle.lists.proofs.list.fit.Reads as fit-reads
-use Rattle.lists.proofs.list.span_from.Reads as span-from-reads
+use Rattle.lists.proofs.spans.span_from.Reads as span-from-reads
 use Rattle.lists.proofs.list.started.Reads as started-reads
 
 started-requires : tie.Need-started-requires

@@ -14,8 +14,8 @@ use Rattle.lists.proofs.slots.round.Statement.{statement}
 use Rattle.lists.proofs.slots.round.Tie as tie
 use Rattle.lists.proofs.slots.first_after.Reads as first-after-reads
 use Rattle.lists.proofs.slots.list_after.Reads as list-after-reads
-use Rattle.lists.proofs.list.first_odt.Reads as first-odt-reads
-use Rattle.lists.proofs.list.odts_in.Reads as odts-in-reads
+use Rattle.lists.proofs.spans.first_odt.Reads as first-odt-reads
+use Rattle.lists.proofs.spans.odts_in.Reads as odts-in-reads
 use Rattle.lists.proofs.slots.packet_in.Reads as packet-in-reads
 use Rattle.state.proofs.pool.list_count.Reads as list-count-reads
 use Rattle.state.proofs.pool.round.Reads as round-reads

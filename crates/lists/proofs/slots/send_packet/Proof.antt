@@ -18,7 +18,7 @@ use Rattle.line.proofs.write.Reads as write-reads
 use Rattle.lists.proofs.list.stored_length.Reads as stored-length-reads
 use Rattle.lists.proofs.slots.slotted.Reads as slotted-reads
 use Rattle.state.proofs.layout.sample_at.Reads as sample-at-reads
-use Rattle.lists.proofs.list.first_odt.Reads as first-odt-reads
+use Rattle.lists.proofs.spans.first_odt.Reads as first-odt-reads
 
 first-odt-requires : tie.Need-first-odt-requires
 first-odt-requires c κs = (c .before .before .before .pre .0, omega (arith, c .before .before .before .pre .1, lists-most (c .before .before .before .args .s .now)))

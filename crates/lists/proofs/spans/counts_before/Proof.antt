@@ -5,8 +5,8 @@ use native.Mathlib.Numerals.{add-one}
 use lib.ListN.{getD}
 use Rattle.state.proofs.Ranges.{sumTo, cut-once}
 use borrow.Author.Needs.{needs}
-use Rattle.lists.proofs.list.counts_before.Statement.{statement}
-use Rattle.lists.proofs.list.counts_before.Tie as tie
+use Rattle.lists.proofs.spans.counts_before.Statement.{statement}
+use Rattle.lists.proofs.spans.counts_before.Tie as tie
 
 abbrev Inv-loop : tie.InvT-loop
 Inv-loop s at most n sum₀ i₀ sum i = (i ≤ n) × (sum ≡ sumTo (λ j. getD s (at + j) 0) i) × (sum ≤ 255 * i)

@@ -3,9 +3,9 @@ use Rattle.state.specs.Layout.{allOdts}
 use Rattle.state.specs.Pool.{odtsIn}
 use Rattle.state.proofs.Ranges.{start-suc}
 use borrow.Author.Needs.{needs}
-use Rattle.lists.proofs.list.odts_in.Statement.{statement}
-use Rattle.lists.proofs.list.odts_in.Tie as tie
-use Rattle.lists.proofs.list.cut.Reads as cut-reads
+use Rattle.lists.proofs.spans.odts_in.Statement.{statement}
+use Rattle.lists.proofs.spans.odts_in.Tie as tie
+use Rattle.lists.proofs.spans.cut.Reads as cut-reads
 
 add-cut : tie.Need-add-cut
 add-cut c = search needs

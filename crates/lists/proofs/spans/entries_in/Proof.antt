@@ -3,9 +3,9 @@ use Rattle.state.specs.Layout.{allEntries}
 use Rattle.state.specs.Pool.{entriesIn}
 use Rattle.state.proofs.Ranges.{start-suc}
 use borrow.Author.Needs.{needs}
-use Rattle.lists.proofs.list.entries_in.Statement.{statement}
-use Rattle.lists.proofs.list.entries_in.Tie as tie
-use Rattle.lists.proofs.list.cut.Reads as cut-reads
+use Rattle.lists.proofs.spans.entries_in.Statement.{statement}
+use Rattle.lists.proofs.spans.entries_in.Tie as tie
+use Rattle.lists.proofs.spans.cut.Reads as cut-reads
 
 add-cut : tie.Need-add-cut
 add-cut c = search needs
