@@ -54,7 +54,8 @@ pub record AnswerLeft (v w : Slave) : Type 0 where
   pub session : w .session ≡ v .session
   pub frame : OneFrame v w
 
--- that of list l's ODT o: this packet no longer waits, the round then begins with the list after l, after the last one with list 0, and all else is as it was
+-- that of list l's ODT o: this packet no longer waits, the round then begins with the list after l, after the last one with list 0, and all else is
+-- as it was
 pub record PacketLeft (v w : Slave) (l o : ℕ) : Type 0 where
   pub gone : w .session .list l .odt o .store ≡ []
   pub last : w .lastAnswer ≡ false
