@@ -11,7 +11,7 @@ use lib.ListN.{length, getD, set, length-append}
 use lib.Seq.{sets, set-comm}
 use Rattle.line.proofs.Laws.{sets-append}
 use Rattle.state.specs.Layout.{isFirst, odtMost, entrySize, sampleAt, allOdts, clockSize, storedMost}
-use Rattle.state.specs.Memory.{pick, byteOf, bytesOf}
+use Rattle.state.specs.Memory.{byteOf, bytesOf}
 use Rattle.state.specs.Pool.{entryCount, entryAt}
 use Rattle.state.specs.Lists.{sizeAt, extensionAt, addressIn, sizeOf, extensionOf, addressOf}
 use Rattle.lists.specs.Lists.{odtBytes}
@@ -79,11 +79,11 @@ module _ (s : List ℕ) (k : ℕ) (cal meas : List ℕ) where
       unfolding sizeOf
       size-there = rw head-there
 
-      pub block-there : bytesOf (pick (extensionAt so-far i) cal meas) (addressIn so-far i) (sizeAt so-far i) ≡ blockIn (entryOf s k n) cal meas
+      block-there : blockIn (record { size = sizeAt so-far i; extension = extensionAt so-far i; address = addressIn so-far i }) cal meas ≡ blockIn (entryOf s k n) cal meas
       unfolding sizeOf extensionOf addressOf
       block-there = rw (head-there, byte-there 1 (lit< tt))
 
-      pub gathered-step : sets so-far (at + length (gathered n)) (bytesOf (pick (extensionAt so-far i) cal meas) (addressIn so-far i) (sizeAt so-far i)) ≡ sets s at (gathered (suc n))
+      pub gathered-step : sets so-far (at + length (gathered n)) (blockIn (record { size = sizeAt so-far i; extension = extensionAt so-far i; address = addressIn so-far i }) cal meas) ≡ sets s at (gathered (suc n))
       gathered-step =
           ap (sets so-far (at + length (gathered n))) block-there ∙ sets-append (gathered n) (blockIn (entryOf s k n) cal meas) s at
           ∙ ap (λ (bs : List ℕ). sets s at bs) (sym (blocks-next s k cal meas n h))

@@ -6,11 +6,11 @@ ghost use lib.ListN.{length};
 ghost use lib.Seq.{sets};
 ghost use Rattle.state.specs.Layout.{lists, allOdts, allEntries, events, odtMost, entryMost, clockSize, size, sampleAt};
 ghost use Rattle.state.specs.Pool.{listCount, firstOdt, odtCount, firstEntry, entryCount};
-ghost use Rattle.state.specs.Memory.{reach, pick, byteOf, bytesOf};
+ghost use Rattle.state.specs.Memory.{reach, byteOf, bytesOf};
 ghost use Rattle.state.specs.Lists.{extensionAt, addressIn};
 ghost use Rattle.lists.specs.Lists.{odtBytes, fitOf, Spans};
 ghost use Rattle.lists.specs.Event.{samplingOf, contentsOf, stored, captured, sampledState, sampledBy, missedBy, Counts, tally, Happens, eventOf};
-ghost use Rattle.model.specs.Calls.{blocksIn, leadOf};
+ghost use Rattle.model.specs.Calls.{blockIn, blocksIn, leadOf};
 ghost use Rattle.model.specs.View.{odtOf};
 use crate::Counted;
 use crate::list;
@@ -48,7 +48,7 @@ fn take_block(s: &mut [u8], to: usize, mem: &[u8], address: u16, n: u8)
 // The n bytes of the entry that lies there.
 fn take_entry(s: &mut [u8], to: usize, cal: &[u8], meas: &[u8], at: usize, n: u8)
     requires { ⌜ (length (now s) ≡ size) × (at + 1 < length (now s)) × (n ≤ entryMost) × (to + n ≤ length (now s)) ⌝ }
-    ensures { λ _. ⌜ now (s .exit) ≡ sets (now (s .entry)) to (bytesOf (pick (extensionAt (now (s .entry)) at) (now (cal .entry)) (now (meas .entry))) (addressIn (now (s .entry)) at) n) ⌝ }
+    ensures { λ _. ⌜ now (s .exit) ≡ sets (now (s .entry)) to (blockIn (record { size = n; extension = extensionAt (now (s .entry)) at; address = addressIn (now (s .entry)) at }) (now (cal .entry)) (now (meas .entry))) ⌝ }
 {
     if n == 0 {
         return;
