@@ -28,6 +28,8 @@ pub mod ListLaws
 pub mod SampleLaws
 pub mod Obeys
 pub mod Full
+pub mod FaultWords
+pub mod Faults
 pub mod Settings
 pub mod Locked
 pub mod BytesStored

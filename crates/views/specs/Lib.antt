@@ -3,8 +3,11 @@
 -- bytes shows.
 pub mod Commands
 pub mod Full
+pub mod Faults
 pub mod Locked
 pub mod Samples
+pub mod Events
+pub mod OnTheLine
 pub mod Turns
 pub mod PoweredUp
 pub mod Shown
