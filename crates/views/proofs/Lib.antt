@@ -26,6 +26,7 @@ pub mod SessionLaws
 pub mod WrongKeys
 pub mod ListLaws
 pub mod SampleLaws
+pub mod EventLaws
 pub mod Obeys
 pub mod Full
 pub mod FaultWords
