@@ -28,6 +28,7 @@ pub mod Cut
 pub mod Demand2
 -- What every command that is done makes of the slave; locked lists keep their settings; after three wrong keys it stays shut; the whole pool can be had.
 pub mod Obeyed
+pub mod Checked
 pub mod ListsLocked
 pub mod StaysShut
 pub mod Pool

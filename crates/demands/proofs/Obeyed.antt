@@ -26,13 +26,11 @@ use Rattle.model.specs.Heed.{goodConnect}
 use Rattle.model.specs.declared.Deed.the-variants.{Connect}
 use Rattle.model.specs.View.{sessionOf, viewOf, shown}
 use Rattle.views.specs.Commands.{Obeys}
-use Rattle.views.specs.Full.{Fills}
 use Rattle.views.proofs.Bytes.{bytes-block, fed-bytes}
 use Rattle.views.proofs.Fit.{Fit, generator-fits, judged-fits}
 use Rattle.views.proofs.Done.{shown-after}
 use Rattle.views.proofs.Listed.{Listed, listed}
 use Rattle.views.proofs.Obeys.{AsModel, obeys}
-use Rattle.views.proofs.Full.{fills}
 use Rattle.demands.specs.Slave.{ours}
 use Rattle.demands.specs.Heard.{packetBy, packetEnded, readBy, Commands, deedIn}
 use Rattle.demands.specs.Obeyed.{Obeyed}
@@ -118,10 +116,6 @@ as-model = record {
 -- every command, of the received byte itself
 pub ours-obeys : Obeys (Obeyed ours)
 ours-obeys = obeys (Obeyed ours) as-model
-
--- the pool
-pub ours-fills : Fills (Obeyed ours)
-ours-fills = fills (Obeyed ours) as-model
 
 -- a command that is heard while a session is open and no answer waits is taken
 pub heard-obeyed : (s cal meas : List ℕ) (b : ℕ) (p : List ℕ) → consistent s ≡ true → Bytes s → b < 256 → Commands s b p

@@ -1,6 +1,6 @@
 -- The customer's three demands, of any slave. `Slave`: what a slave is; `Runs`: calls in any order; `Life`: power-ups among them, and one memory.
 -- `Waiting`: what waits, and what a sample is; `Heard`: what a received byte means. `Shows`: what each call shows of the model; `Obeyed`: a command that
--- is heard, over the model; `ListsLocked`: what no call changes while lists are locked; `StaysShut`: what three wrong keys come to. `Numbers`: which
+-- is heard, over the model; `Checked`: when it is done, and with which code it is refused; `ListsLocked`: what no call changes while lists are locked; `StaysShut`: what three wrong keys come to. `Numbers`: which
 -- answers share a number. `Demand1`, `Demand2`, `Demand3`: what the letter demands; `Pool`: that the whole pool can be had; `Ranking`: what the
 -- bound of a sample rests on; `Kept`: that nothing is lost and nothing invented; `Tight`: how tight a promise is.
 pub mod Slave
@@ -10,6 +10,7 @@ pub mod Waiting
 pub mod Heard
 pub mod Shows
 pub mod Obeyed
+pub mod Checked
 pub mod ListsLocked
 pub mod StaysShut
 pub mod Numbers

@@ -9,11 +9,10 @@ use Rattle.line.specs.Message.{room}
 use Rattle.state.specs.Layout.{size}
 use Rattle.state.specs.State.{consistent}
 use Rattle.model.specs.Model.{Bytes}
-use Rattle.model.specs.Calls.{turnIn, samplingIn, poweredUp}
+use Rattle.model.specs.Calls.{turnIn, poweredUp}
 use Rattle.model.specs.Whole.{receivedIn, eventIn, slotIn}
 use Rattle.model.specs.View.{sessionOf, viewOf}
-use Rattle.model.specs.declared.Sampling.the-variants.{Sampled}
-use Rattle.views.specs.Samples.{Samples}
+use Rattle.views.specs.Events.{EventLeaves}
 use Rattle.views.specs.Turns.{Leaves}
 use Rattle.views.specs.Shown.{byteShown, eventShown, slotShown}
 use Rattle.demands.specs.Slave.{AnySlave}
@@ -26,6 +25,6 @@ pub record Shows (v : AnySlave) : Type 0 where
   -- whose packet it was is gone, and the round begins with the list after it
   pub leaves : (s out : List ℕ) → consistent s ≡ true → room ≤ length out → Leaves (turnIn (viewOf s)) (viewOf s) (viewOf (v .slot s out .state))
   pub powerUp : (s : List ℕ) (start : ℕ) → length s ≡ size → start < 2 ^ 32 → viewOf (v .powerUp s start .state) ≡ poweredUp start
-  -- each byte of a sample is that of its own place
-  pub sample : (s cal meas : List ℕ) (number clock l : ℕ) → consistent s ≡ true → number ≤ 1 → samplingIn (sessionOf s) l number ≡ Sampled
-      → Samples clock cal meas (sessionOf s .list l) (sessionOf (v .event s cal meas number clock .state) .list l)
+  -- which lists sample and which miss, what is told of them, and where each byte of a sample comes from
+  pub samples : (s cal meas : List ℕ) (number clock : ℕ) → consistent s ≡ true → number ≤ 1
+      → EventLeaves number clock cal meas (sessionOf s) (sessionOf (v .event s cal meas number clock .state)) (v .event s cal meas number clock .evented)
