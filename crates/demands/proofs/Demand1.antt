@@ -7,19 +7,18 @@ use mathlib.Core.Path.{_≡_, refl, sym, ap, subst, _∙_}
 use mathlib.Core.Logic.{_≢_}
 use mathlib.Core.Bool.{true, false}
 use mathlib.Core.Option.{Option}
-use mathlib.Core.List.{List, [], _∷_}
+use mathlib.Core.List.{List}
 use native.Mathlib.Omega.{arith}
 use borrow.Author.Tests.{lt-ltb, le-ltb, eq-eqb, ne-eqb}
 use lib.Dec.{eqb, ltb, lit≤, T}
-use lib.ListN.{length, getD, set, replicate}
+use lib.ListN.{length, getD, replicate}
 use Rattle.line.specs.Message.{most, room}
 use Rattle.line.specs.Writer.{Sent, writeOf}
 use Rattle.line.proofs.Laws.{cond-ind}
 use Rattle.line.proofs.Stuffed.{false-true}
-use Rattle.state.specs.Layout.{wrongKeysAt, placeAt, answerAt, size, sessionAt, sessionSize}
+use Rattle.state.specs.Layout.{placeAt, answerAt, size, sessionAt, sessionSize}
 use Rattle.state.specs.Bytes.{cleared}
-use Rattle.state.specs.Generator.{oneWrongMore}
-use Rattle.state.specs.State.{consistent, wrongKeysOf, countedWrong, ctrOf, closed, answerOf}
+use Rattle.state.specs.State.{consistent, countedWrong, ctrOf, closed, answerOf}
 use Rattle.model.specs.Model.{byte}
 use Rattle.model.specs.View.{sessionOf, viewOf}
 use Rattle.session.specs.Perform.{effect, reply, after}
@@ -31,12 +30,12 @@ use Rattle.session.specs.PowerUp.{powerUpOf}
 use Rattle.words.specs.Number.{receivedNumber, eventedNumber, slottedNumber, poweredUpNumber}
 use Rattle.judge.specs.Doable.{Doable}
 use Rattle.model.specs.declared.Deed.{Deed}
-use Rattle.model.specs.declared.Deed.the-variants.{WrongKey, Disconnect}
+use Rattle.model.specs.declared.Deed.the-variants.{WrongKey}
 use Rattle.model.specs.declared.Turn.{Turn}
 use Rattle.model.specs.declared.Turn.the-variants.{Nobody, Answer, Packet}
 use Rattle.fields.proofs.Effects.{answering}
-use Rattle.fields.proofs.Frames.{Only, only-then, only-wider, only-between, only-answered}
-use Rattle.fields.proofs.Readers.{Same, apart, wrongKeys-reads}
+use Rattle.fields.proofs.Frames.{Only, only-then, only-wider, only-answered}
+use Rattle.fields.proofs.Readers.{Same}
 use Rattle.fields.proofs.Kept.{receive-kept, event-kept, slot-kept, power-up-consistent}
 use Rattle.demands.specs.Slave.{ours}
 use Rattle.demands.specs.Heard.{readBy, Commands, wrongKey, wrongKeyIn, wrongKeyAt}
@@ -46,7 +45,7 @@ use Rattle.demands.proofs.Judged.{Found}
 use Rattle.demands.proofs.ReadBy.{read-only}
 use Rattle.demands.proofs.Received.{Does, Reads, rests, acts, received, commanded, read-can, done-answer}
 use Rattle.demands.proofs.Unchanged.{all-but, same-sets}
-use Rattle.demands.proofs.Refusals.{Idles, refusal, wrong-judged, disconnect-judged}
+use Rattle.demands.proofs.Refusals.{Idles, refusal, wrong-judged}
 use Rattle.demands.proofs.Life.{life-kept}
 
 -- ---- a refused command
@@ -95,24 +94,6 @@ wrong-writes : (p cal : List ℕ) → written WrongKey p cal ≡ cal
 unfolding writes
 wrong-writes p cal = refl
 
--- and with one wrong key more counted
-counted-alike : {s t : List ℕ} → Only placeAt sessionAt s t → Only placeAt sessionAt (countedWrong s) (countedWrong t)
-unfolding countedWrong
-counted-alike {s} {t} w =
-    subst (λ (n : ℕ). Only placeAt sessionAt (countedWrong s) (set t wrongKeysAt (oneWrongMore n))) (sym (wrongKeys-reads (apart tt w))) (only-both wrongKeysAt (oneWrongMore (wrongKeysOf s) ∷ []) w)
-
--- but for the reader's place and the answer: DISCONNECT leaves the closed session, a wrong key that with itself counted
-disconnect-leaves : (s cal meas : List ℕ) (b : ℕ) → consistent s ≡ true → Only placeAt sessionAt (closed s) (after Disconnect (readBy s b) cal meas)
-unfolding effect
-disconnect-leaves s cal meas b c =
-    let t : List ℕ = readBy s b in
-    only-then (closed-alike (only-wider (lit≤ tt) (lit≤ tt) (read-only s b c)))
-    (only-wider (lit≤ tt) (lit≤ tt) (only-answered (closed t) (reply Disconnect t cal meas) (answering Disconnect t cal meas 0 tt .few)))
-
-wrong-leaves : (s cal meas : List ℕ) (b : ℕ) → consistent s ≡ true → Only placeAt sessionAt (countedWrong (closed s)) (after WrongKey (readBy s b) cal meas)
-wrong-leaves s cal meas b c =
-    only-then (counted-alike (closed-alike (only-wider (lit≤ tt) (lit≤ tt) (read-only s b c)))) (only-wider (lit≤ tt) (lit≤ tt) (wrong-only (readBy s b) cal meas))
-
 wrong-step : (s cal meas : List ℕ) (b : ℕ) (p : List ℕ) → consistent s ≡ true → Commands s b p → wrongKey p (sessionOf s) ≡ true
     → receiveOf s cal meas b ≡ obeyed WrongKey p (readBy s b) cal meas
 wrong-step s cal meas b p u w wrong =
@@ -123,17 +104,6 @@ wrong-key-ends : (s cal meas : List ℕ) (b : ℕ) (p : List ℕ) → consistent
 wrong-key-ends s cal meas b p u w wrong =
     let e : receiveOf s cal meas b ≡ obeyed WrongKey p (readBy s b) cal meas = wrong-step s cal meas b p u w wrong in
     (rw e (all-but (wrong-only (readBy s b) cal meas)), ap (λ (o : Step). o .cal) e ∙ wrong-writes p cal)
-
-as-disconnect : (s t cal meas cal′ meas′ : List ℕ) (b c : ℕ) (p q : List ℕ) → consistent s ≡ true → consistent t ≡ true → SameOutside placeAt sessionAt s t
-    → Commands s b p → wrongKey p (sessionOf s) ≡ true → Commands t c q → byte q 0 ≡ 0xFE
-    → SameOutside placeAt sessionAt (receiveOf s cal meas b .state) (countedWrong (receiveOf t cal′ meas′ c .state))
-as-disconnect s t cal meas cal′ meas′ b c p q u v alike w wrong x code =
-    let left : receiveOf s cal meas b ≡ obeyed WrongKey p (readBy s b) cal meas = wrong-step s cal meas b p u w wrong in
-    let right : receiveOf t cal′ meas′ c ≡ obeyed Disconnect q (readBy t c) cal′ meas′ =
-    commanded t cal′ meas′ c q v x ∙ ap (λ (d : Deed). obeyed d q (readBy t c) cal′ meas′) (disconnect-judged q (sessionOf t) (length cal′) (length meas′) code) in
-    let same : Only placeAt sessionAt s t = only-between placeAt sessionAt (alike .long) (alike .front) (alike .back) in
-    rw (left, right)
-    (all-but (only-then (only-back (wrong-leaves s cal meas b u)) (counted-alike (only-then (closed-alike same) (disconnect-leaves t cal′ meas′ c v)))))
 
 -- ---- a byte without an answer
 unanswered-by : {s cal meas : List ℕ} {b : ℕ} {o : Step} {x : Option Deed} → consistent s ≡ true → receivedNumber (o .received) ≢ 1
@@ -200,7 +170,6 @@ demand1 = record {
       let w = refused-by c (r .answered) (r .begins) n (received s cal meas b c) in
       record { state = w .0; memory = w .1 };
   wrongKeyEnds = wrong-key-ends;
-  asDisconnect = as-disconnect;
   unanswered = λ s cal meas b c n.
       let w = unanswered-by c n (received s cal meas b c) in
       record { state = w .0; memory = w .1 };

@@ -2,14 +2,14 @@
 use Rattle.demands.specs.Slave.{ours}
 use Rattle.demands.specs.Demand2.{Demand2}
 use Rattle.demands.proofs.Received.{received-by}
-use Rattle.demands.proofs.Numbering.{power-up-is, frames-numbered, frames-from-power-up}
+use Rattle.demands.proofs.Numbering.{power-up-is, frames-numbered}
 use Rattle.demands.proofs.Sends.{slot-is, slot-reads-back, slot-past}
 use Rattle.demands.proofs.Locks.{locked-keeps, unlocks-own}
 use Rattle.demands.proofs.Keys.{seed-opens}
 use Rattle.demands.proofs.Opening.{opens-by-key, life-keyless}
 use Rattle.demands.proofs.Cut.{cut, cutEvent}
 use Rattle.demands.proofs.Downloads.{gives-back}
-use Rattle.demands.proofs.ReadsOn.{sets-mta, goes-on}
+use Rattle.demands.proofs.ReadsOn.{goes-on}
 use Rattle.demands.proofs.Life.{life-locked, gives-back-later, life-numbered}
 use Rattle.demands.proofs.Events.{counts, samples, stores, others, storesOnly}
 
@@ -20,7 +20,6 @@ demand2 =
       reads = received-by;
       serves = slot-is;
       numbers = frames-numbered;
-      fromPowerUp = frames-from-power-up;
       numbersOn = life-numbered;
       readsBack = slot-reads-back;
       restStays = slot-past;
@@ -31,7 +30,6 @@ demand2 =
       cutEvent = cutEvent;
       givesBack = gives-back;
       givesBackLater = gives-back-later;
-      setsMta = sets-mta;
       goesOn = goes-on;
       unlocks = unlocks-own;
       opensByKey = opens-by-key;

@@ -18,7 +18,7 @@ use Rattle.lists.specs.Slot.{slotOf}
 use Rattle.session.specs.PowerUp.{powered, powerUpOf}
 use Rattle.model.specs.declared.Turn.{Turn}
 use Rattle.model.specs.declared.Turn.the-variants.{Nobody, Answer, Packet}
-use Rattle.fields.proofs.Kept.{power-consistent, receive-kept, event-kept, slot-kept}
+use Rattle.fields.proofs.Kept.{receive-kept, event-kept, slot-kept}
 use Rattle.views.proofs.Calls.{powered-nought}
 use Rattle.model.specs.Model.{Slave}
 use Rattle.model.specs.Calls.{turnIn, packetFor}
@@ -93,7 +93,3 @@ power-ctr start = powered-nought start ctrAt (lit≤ tt) (lit< tt)
 pub power-up-is : (s : List ℕ) (start : ℕ) → length s ≡ size → powerUpOf s start .state ≡ powered start
 unfolding powerUpOf
 power-up-is s start e = simp (eq-eqb (length s) size e)
-
-pub frames-from-power-up : (s : List ℕ) (start : ℕ) (cs : List Call) → length s ≡ size
-    → frames ours (powerUpOf s start .state) cs ≡ numbered 0 0 (due ours (powerUpOf s start .state) cs)
-frames-from-power-up s start cs e = rw (power-up-is s start e) (numbers-on 0 cs 0 (powered start) (power-consistent start) (power-ctr start))

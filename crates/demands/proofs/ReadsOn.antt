@@ -2,12 +2,10 @@
 use Prim.{tt}
 use Prim.Native.Nat.{ℕ, _+_}
 use mathlib.Core.Path.{_≡_, refl, sym, ap, subst, _∙_}
-use mathlib.Core.Logic.{_⊎_, inl, inr}
 use mathlib.Core.Bool.{true}
 use mathlib.Core.List.{List, _++_}
 use lib.ListN.{length, drop, take}
 use lib.Seq.{drop-drop, take-add}
-use Rattle.state.specs.Layout.{shortDownloadFrom}
 use Rattle.state.specs.Bytes.{block, u32At}
 use Rattle.state.specs.Memory.{pick}
 use Rattle.state.specs.State.{consistent}
@@ -29,7 +27,7 @@ use Rattle.look.proofs.Looked.{judged-doable}
 use Rattle.fields.proofs.Kept.{receive-kept}
 use Rattle.views.proofs.Done.{view-after}
 use Rattle.views.proofs.Fit.{Fit}
-use Rattle.views.proofs.MemoryLaws.{Reading, Own, upload-reads, short-reads, short-loads}
+use Rattle.views.proofs.MemoryLaws.{Reading, Own, upload-reads, short-reads}
 use Rattle.demands.specs.Slave.{ours}
 use Rattle.demands.specs.Runs.{Call, run}
 use Rattle.demands.specs.Heard.{readBy, deedIn}
@@ -81,18 +79,6 @@ module _ (s cal meas : List ℕ) (b : ℕ) (p bs : List ℕ) (u : consistent s �
 
   short-bytes : bs ≡ block (pick (extensionFrom (byte p 3)) cal meas) (u32At p 4) (byte p 1)
   short-bytes = rw (← (short .from .0), ← (short .from .2)) (read-bytes s cal meas b p bs u 0xF4 w (Own p (sessionOf s) cal meas) short)
-
--- ---- SHORT_DOWNLOAD
-download-sets : (s cal meas : List ℕ) (b : ℕ) (p bs : List ℕ) → consistent s ≡ true → Brings ours 0xED s cal meas b p bs
-    → sessionOf (ours .receive s cal meas b .state) .mta ≡ At (extensionFrom (byte p 3)) (u32At p 4 + byte p 1)
-download-sets s cal meas b p bs u w =
-    let r = short-loads p (sessionOf s) cal meas (w .code) (answered-ff s cal meas b p bs u 0xED w) in
-    rw (← (r .to .0), ← (r .to .2)) (mta-after s cal meas b p bs u 0xED w _ _ (r .deed) (λ g k. tt) (download-leaves shortDownloadFrom (r .address) (byte p 1)))
-
-pub sets-mta : (s cal meas : List ℕ) (b number : ℕ) (p bs : List ℕ) → consistent s ≡ true → (number ≡ 0xF4) ⊎ (number ≡ 0xED) → Brings ours number s cal meas b p bs
-    → sessionOf (ours .receive s cal meas b .state) .mta ≡ At (extensionFrom (byte p 3)) (u32At p 4 + byte p 1)
-sets-mta s cal meas b number p bs u (inl e) w = upload-sets s cal meas b p bs u (subst (λ (n : ℕ). Brings ours n s cal meas b p bs) e w)
-sets-mta s cal meas b number p bs u (inr e) w = download-sets s cal meas b p bs u (subst (λ (n : ℕ). Brings ours n s cal meas b p bs) e w)
 
 -- ---- UPLOAD from where the MTA is
 upload-bytes : (s cal meas : List ℕ) (b : ℕ) (p bs : List ℕ) (x : Extension) (a : ℕ) → consistent s ≡ true → Brings ours 0xF5 s cal meas b p bs → sessionOf s .mta ≡ At x a

@@ -26,19 +26,19 @@ use Rattle.model.specs.declared.Deed.the-variants.{Refuse, RefuseSize, WrongKey
 use Rattle.model.specs.Model.{byte, Session}
 use Rattle.model.specs.Step.{stepIn}
 use Rattle.model.specs.Answers.{replyIn}
-use Rattle.model.specs.View.{sessionOf, viewOf}
+use Rattle.model.specs.View.{sessionOf}
 use Rattle.state.proofs.Consistent.{consistent-size}
 use Rattle.fields.proofs.Fields.{wrongKeys-few, seed-few, shut-seedless}
 use Rattle.fields.proofs.Kept.{power-consistent}
 use Rattle.views.proofs.Calls.{powered-wrongKeys}
-use Rattle.views.proofs.WrongKeys.{one-more, short-judged, shut-judged, seedless-judged, told-wrong}
+use Rattle.views.proofs.WrongKeys.{one-more, told-wrong}
 use Rattle.demands.specs.Slave.{ours}
-use Rattle.demands.specs.Heard.{readBy, Commands, deedIn, wrongKey}
+use Rattle.demands.specs.Heard.{readBy, deedIn, wrongKey}
 use Rattle.demands.specs.Life.{Device, Moment, PowerOn, Hears, Samples, Serves, passed, lived, OfBytes}
 use Rattle.demands.specs.Demand2.{RightKeyEnds, Keyless}
 use Rattle.demands.specs.StaysShut.{saysWrong, judgedWrong, wrongAt, wrongIn, PoweredOn, StaysShut}
 use Rattle.demands.proofs.ReadBy.{read-session}
-use Rattle.demands.proofs.Received.{Does, Reads, rests, acts, received, done-answer, resting, acting, command-answer}
+use Rattle.demands.proofs.Received.{Does, Reads, rests, acts, received, done-answer, resting, acting}
 use Rattle.demands.proofs.Refusals.{keyed, Wrong, wrong-by}
 use Rattle.demands.proofs.ByteKeeps.{done-steps}
 use Rattle.demands.proofs.Keys.{event-alike, slot-alike}
@@ -276,32 +276,13 @@ shut-then h start ms later e three n =
       life-keyless h₁ later (w .sound) (shut-locked (sessionOf (h₁ .state)) (w .locked three Calibration)) (keyless later h₁ is n),
     )
 
--- ---- what is answered
-module _ (s cal meas : List ℕ) (b : ℕ) (p : List ℕ) (c : consistent s ≡ true) (w : Commands s b p) where
-  answered-by : (d : Deed) → deedIn p (sessionOf s) cal meas ≡ d → viewOf (receiveOf s cal meas b .state) .answer ≡ replyIn d (sessionOf s) cal meas
-  answered-by d e = command-answer s cal meas b p c w ∙ ap (λ (x : Deed). replyIn x (sessionOf s) cal meas) e
-
-  no-seed : byte p 0 ≡ 0xF8 → 3 ≤ length p → sessionOf s .wrongKeys ≡ 3 → viewOf (receiveOf s cal meas b .state) .answer ≡ 0xFE ∷ 0x25 ∷ []
-  unfolding replyIn
-  no-seed code long three = answered-by _ (shut-judged p (sessionOf s) cal meas (length cal) (length meas) code long (omega arith))
-
-  too-short : byte p 0 ≡ 0xF8 → length p < 3 → viewOf (receiveOf s cal meas b .state) .answer ≡ 0xFE ∷ 0x21 ∷ []
-  unfolding replyIn
-  too-short code short = answered-by _ (short-judged p (sessionOf s) cal meas (length cal) (length meas) code short)
-
-  no-key : byte p 0 ≡ 0xF7 → 2 ≤ length p → sessionOf s .wrongKeys ≡ 3 → viewOf (receiveOf s cal meas b .state) .answer ≡ 0xFE ∷ 0x29 ∷ []
-  unfolding replyIn
-  no-key code long three = answered-by _ (seedless-judged p (sessionOf s) cal meas (length cal) (length meas) code long (none-out s three))
-
 pub stays-shut : StaysShut ours
 stays-shut = record {
   counts = λ s cal meas b c t. (counted s cal meas b c .few t, counted s cal meas b c .more t);
   keeps = λ s cal meas b c f. counted s cal meas b c .same f;
   keepsOn = λ s cal meas out event clock c. (event-alike s cal meas event clock .wrongKeys, slot-alike s out c .wrongKeys);
   anew = λ s start e. ap (λ (t : List ℕ). sessionOf t .wrongKeys) (power-up-is s start e) ∙ power-count start;
-  noSeed = no-seed;
-  tooShort = too-short;
-  noKey = no-key;
+  noneOut = none-out;
   opensNone = λ h later r c three n e. opens-none later h r (record { sound = c; three = three }) n e;
   tells = λ h start ms e. tally h start ms e .count;
   atMost = λ h start ms e. rw (sym (tally h start ms e .count)) (at-most-three (lived ours h (PowerOn start ∷ ms) .state));

@@ -34,10 +34,6 @@ pub record Demand1 (v : AnySlave) : Type 0 where
   -- memory byte has changed
   pub wrongKeyEnds : (s cal meas : List ℕ) (b : ℕ) (p : List ℕ) → consistent s ≡ true → Commands s b p → wrongKey p (sessionOf s) ≡ true
       → SameOutside answerAt sessionAt (countedWrong (closed (readBy s b))) (v .receive s cal meas b .state) × (v .receive s cal meas b .cal ≡ cal)
-  -- so it leaves all as DISCONNECT itself does, with that one counted, but for the reader's place, where the command's own bytes are, and the answer
-  pub asDisconnect : (s t cal meas cal′ meas′ : List ℕ) (b c : ℕ) (p q : List ℕ) → consistent s ≡ true → consistent t ≡ true → SameOutside placeAt sessionAt s t
-      → Commands s b p → wrongKey p (sessionOf s) ≡ true → Commands t c q → byte q 0 ≡ 0xFE
-      → SameOutside placeAt sessionAt (v .receive s cal meas b .state) (countedWrong (v .receive t cal′ meas′ c .state))
   -- the numbers 0 and 2 to 7 of a byte change the reader's place alone
   pub unanswered : (s cal meas : List ℕ) (b : ℕ) → consistent s ≡ true → receivedNumber (v .receive s cal meas b .received) ≢ 1 → ChangesOnly placeAt answerAt v s cal meas b
   -- 10 is for a state that is not consistent, and changes nothing

@@ -174,9 +174,6 @@ pub record Demand2 (v : AnySlave) : Type 0 where
   pub serves : (s out : List ℕ) → consistent s ≡ true → room ≤ length out → v .slot s out ≡ sentBy (turnIn (viewOf s)) s out
   -- every frame that goes is that of the packet whose turn it was, one frame a slot, and the CTR grows by one per frame
   pub numbers : (s : List ℕ) (cs : List Call) → consistent s ≡ true → viewOf s .ctr < 256 → frames v s cs ≡ numbered (viewOf s .ctr) 0 (due v s cs)
-  -- from power-up on the first CTR is 0
-  pub fromPowerUp : (s : List ℕ) (start : ℕ) (cs : List Call) → length s ≡ size
-      → frames v (v .powerUp s start .state) cs ≡ numbered 0 0 (due v (v .powerUp s start .state) cs)
   -- in a life with power-ups in it each begins the CTR at 0 again
   pub numbersOn : (h : Device) (start : ℕ) (ms : List Moment) → length (h .state) ≡ size → sentInLife v h (PowerOn start ∷ ms) ≡ dueIn v 0 h (PowerOn start ∷ ms)
   -- what a slot sends is one frame, and reads back as the very packet meant
@@ -202,10 +199,7 @@ pub record Demand2 (v : AnySlave) : Type 0 where
       → Downloads (h .state) b p from a n → viewOf (passed v h (Hears meas b) .state) .answer ≡ 0xFF ∷ [] → OfBytes (Spares a n) v (passed v h (Hears meas b)) between
       → Uploads (lived v (passed v h (Hears meas b)) between .state) c q a n
       → viewOf (passed v (lived v (passed v h (Hears meas b)) between) (Hears meas′ c) .state) .answer ≡ 0xFF ∷ block p from n
-  -- SHORT_UPLOAD or SHORT_DOWNLOAD that is done sets the MTA behind its block, wherever it was, or unset
-  pub setsMta : (s cal meas : List ℕ) (b number : ℕ) (p bs : List ℕ) → consistent s ≡ true → (number ≡ 0xF4) ⊎ (number ≡ 0xED) → Brings v number s cal meas b p bs
-      → sessionOf (v .receive s cal meas b .state) .mta ≡ At (extensionFrom (byte p 3)) (u32At p 4 + byte p 1)
-  -- so UPLOAD after SHORT_UPLOAD, the next command whenever it comes, goes on there: both done and lent the same memories, their bytes together are the
+  -- UPLOAD after SHORT_UPLOAD, the next command whenever it comes, goes on there: both done and lent the same memories, their bytes together are the
   -- block of both lengths
   pub goesOn : (s cal meas : List ℕ) (b : ℕ) (p first : List ℕ) (between : List Call) (c : ℕ) (q second : List ℕ) → consistent s ≡ true
       → Brings v 0xF4 s cal meas b p first → Uncommanded v (v .receive s cal meas b .state) between

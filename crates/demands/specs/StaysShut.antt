@@ -8,11 +8,12 @@ use lib.ListN.{length}
 use Rattle.state.specs.Layout.{size}
 use Rattle.state.specs.State.{consistent}
 use Rattle.words.specs.declared.Resource.{Resource}
+use Rattle.words.specs.declared.Seed.the-variants.{None}
 use Rattle.session.specs.Receive.{Step}
 use Rattle.model.specs.Model.{byte}
-use Rattle.model.specs.View.{sessionOf, viewOf}
+use Rattle.model.specs.View.{sessionOf}
 use Rattle.demands.specs.Slave.{AnySlave}
-use Rattle.demands.specs.Heard.{Commands, ofAnswered}
+use Rattle.demands.specs.Heard.{ofAnswered}
 use Rattle.demands.specs.Life.{Device, Moment, PowerOn, Hears, Samples, Serves, passed, lived}
 
 -- ---- a key is judged wrong: UNLOCK is answered FE 25
@@ -53,14 +54,8 @@ pub record StaysShut (v : AnySlave) : Type 0 where
       → (sessionOf (v .event s cal meas event clock .state) .wrongKeys ≡ sessionOf s .wrongKeys) × (sessionOf (v .slot s out .state) .wrongKeys ≡ sessionOf s .wrongKeys)
   -- power-up alone begins it anew
   pub anew : (s : List ℕ) (start : ℕ) → length s ≡ size → sessionOf (v .powerUp s start .state) .wrongKeys ≡ 0
-  -- after three GET_SEED is answered 25, whatever its mode and resource; but 21 if it is too short, whatever the count
-  pub noSeed : (s cal meas : List ℕ) (b : ℕ) (p : List ℕ) → consistent s ≡ true → Commands s b p → byte p 0 ≡ 0xF8 → 3 ≤ length p → sessionOf s .wrongKeys ≡ 3
-      → viewOf (v .receive s cal meas b .state) .answer ≡ 0xFE ∷ 0x25 ∷ []
-  pub tooShort : (s cal meas : List ℕ) (b : ℕ) (p : List ℕ) → consistent s ≡ true → Commands s b p → byte p 0 ≡ 0xF8 → length p < 3
-      → viewOf (v .receive s cal meas b .state) .answer ≡ 0xFE ∷ 0x21 ∷ []
-  -- and UNLOCK 29, from any bytes
-  pub noKey : (s cal meas : List ℕ) (b : ℕ) (p : List ℕ) → consistent s ≡ true → Commands s b p → byte p 0 ≡ 0xF7 → 2 ≤ length p → sessionOf s .wrongKeys ≡ 3
-      → viewOf (v .receive s cal meas b .state) .answer ≡ 0xFE ∷ 0x29 ∷ []
+  -- after three no seed is out, from any bytes, so that no key is judged; the table of checks then says 25 of GET_SEED and 29 of UNLOCK
+  pub noneOut : (s : List ℕ) → sessionOf s .wrongKeys ≡ 3 → sessionOf s .seed ≡ None
   -- so, from any bytes, no lock that is shut then opens before the next power-up
   pub opensNone : (h : Device) (later : List Moment) (r : Resource) → consistent (h .state) ≡ true → sessionOf (h .state) .wrongKeys ≡ 3 → PoweredOn later
       → sessionOf (h .state) .unlocked r ≡ false → sessionOf (lived v h later .state) .unlocked r ≡ false

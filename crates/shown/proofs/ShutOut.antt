@@ -1,9 +1,8 @@
 -- Each wrong slave fails the demand that is to shut it out: one run of it is computed. Assumes nothing.
 use Prim.Native.Nat.{ℕ, _+_, _-_, _≤_, _<_}
 use mathlib.Core.Path.{_≡_, refl, ap, sym, _∙_, subst}
-use mathlib.Core.Logic.{inl, inr}
 use mathlib.Core.Bool.{Bool, true, false, cond}
-use mathlib.Core.Option.{Option, some}
+use mathlib.Core.Option.{Option, none, some}
 use mathlib.Core.List.{List, [], _∷_, _++_}
 use native.Mathlib.Omega.{arith}
 use lib.Dec.{lit<, lit≤}
@@ -24,9 +23,9 @@ use Rattle.words.specs.declared.Extension.the-variants.{Calibration as Calibrat
 use Rattle.words.specs.declared.Mta.{Mta}
 use Rattle.words.specs.declared.Mta.the-variants.{Unset, At}
 use Rattle.model.specs.Calls.{turnIn, packetFor}
-use Rattle.model.specs.Model.{byte, entriesTaken, hasAnswer}
+use Rattle.model.specs.Model.{byte, hasAnswer}
 use Rattle.model.specs.View.{sessionOf, viewOf}
-use Rattle.views.specs.Full.{Fills}
+use Rattle.views.specs.Commands.{Obeys}
 use Rattle.demands.specs.Slave.{AnySlave}
 use Rattle.demands.specs.Runs.{Byte, Event, SendingSlot}
 use Rattle.demands.specs.Heard.{packetEnded}
@@ -34,11 +33,12 @@ use Rattle.demands.specs.Demand1.{Demand1}
 use Rattle.demands.specs.Demand2.{Demand2, ReadsBack, WritesTo, byDownload, byShortDownload, ReadsFrom, byUpload, byShortUpload}
 use Rattle.demands.specs.Demand3.{Demand3}
 use Rattle.demands.specs.Obeyed.{Obeyed}
+use Rattle.demands.specs.Checked.{Checked}
 use Rattle.demands.specs.StaysShut.{StaysShut}
 use Rattle.shown.specs.Wrong.{refusesAlways, silent, onlyConnects, alwaysFF, storesNothing, obeysDamaged, readsEscaped, allAtOnce, slotsUpTo, sumsEscaped, neverSamples, inventsCounts, inventsMissed, stampsEach, keepsFreed, beginsBehind, movesAfterRefusal, leavesMta, loadLeavesMta, loadsAtMta, readsLate, opensBoth, connectClears, shutsFirst}
 use Rattle.shown.specs.Exchange.{slot, says, asks, askAll, begun, lastByte, device, answering, reached, connect, synch, seedOfCalibration, keyOfCalibration, tries, mtaTo, upload, uploadFirst, downloadOne, downloadFirst, downloading, uploading, pair, loadingFirst, fetchingFirst, readingOn, listable, freeLists, allocLists, allocEntries, measuring, freedAgain}
-use Rattle.shown.proofs.Computed.{computed}
-use Rattle.shown.proofs.Taken.{low, asked, heardSo, left, taken-so}
+use Rattle.shown.proofs.Computed.{computed, told}
+use Rattle.shown.proofs.Taken.{low, asked, heardSo, done-so, refused-so, took, takenSo, left, taken-so}
 
 -- CONNECT is answered FE
 pub refusesAlways-fails : Demand2 refusesAlways → ⊥
@@ -195,16 +195,12 @@ stampsEach-fails d =
     let e : _≡_ {A = ℕ} 4 2 = ap (λ ps. length (getD ps 1 [])) (d .samples (reached stampsEach (measuring (5 ∷ []))) [] (5 ∷ []) 0 0 0 refl (lit≤ tt) refl) in omega arith
 
 -- ---- the pool
--- one entry is written and freed; then 128 are answered FE 30, though none is taken
-not-full : (v : AnySlave) (s p : List ℕ) → asked v s p ≡ heardSo p (0xFE ∷ 0x30 ∷ []) 1 1 1 0 → lastByte p < 256 → byte p 0 ≡ 0xD3 → byte p 5 ≡ 128 → Fills (Obeyed v) → ⊥
-unfolding asked heardSo
-not-full v s p k h code many d =
-    let e : 128 < entriesTaken (sessionOf s) + byte p 5 = d .entries p (sessionOf s) [] [] (left v s p) (taken-so v s p (0xFE ∷ 0x30 ∷ []) 1 1 1 0 h k) code .0 (ap (λ x. x .answer) k) .1
-    in omega (arith, e, many, ap (λ x. x .entriesTaken) k)
-
-pub keepsFreed-fails : Fills (Obeyed keepsFreed) → ⊥
-unfolding computed low asked heardSo
-keepsFreed-fails = not-full keepsFreed (reached keepsFreed (freedAgain ++ begun [] [] (allocEntries 0 0 128))) (allocEntries 0 0 128) refl (lit< tt) refl refl
+-- one entry is written and freed; then 128 are answered FE 30, though no check applies
+pub keepsFreed-fails : Checked keepsFreed → ⊥
+unfolding computed told asked heardSo
+keepsFreed-fails d =
+    let p : List ℕ = allocEntries 0 0 128 in
+    let e : _≡_ {A = ℕ} 0xFE 0xFF = done-so keepsFreed (reached keepsFreed (freedAgain ++ begun [] [] p)) [] p none (0xFE ∷ 0x30 ∷ []) refl refl d in omega arith
 
 -- after FREE_DAQ two lists are allocated, and the round begins with the second
 pub beginsBehind-fails : Demand2 beginsBehind → ⊥
@@ -238,20 +234,21 @@ whether-set : Mta → ℕ
 whether-set Unset = 0
 whether-set (At e a) = 1
 
-pub leavesMta-unset : Demand2 leavesMta → ⊥
-unfolding computed whether-set
+pub leavesMta-unset : Obeys (Obeyed leavesMta) → ⊥
+unfolding computed low took takenSo whether-set
 leavesMta-unset d =
     let s : List ℕ = reached leavesMta fetchingFirst in
-    let e : _≡_ {A = ℕ} 0 1 = ap whether-set (d .setsMta s pair [] (lastByte uploadFirst) 0xF4 uploadFirst (5 ∷ []) refl (inl refl) (record { command = record { ends = refl; opened = refl; free = refl }; code = refl; answer = refl }))
-    in omega arith
+    let law = d .shortUpload uploadFirst (sessionOf s) pair [] (left leavesMta s pair uploadFirst) (taken-so leavesMta s pair uploadFirst (lit< tt) refl) refl refl in
+    let e : _≡_ {A = ℕ} 0 1 = ap whether-set (law .carries .mta) in omega arith
 
 -- so it does after SHORT_DOWNLOAD
-pub loadLeavesMta-fails : Demand2 loadLeavesMta → ⊥
-unfolding computed whether-set
+pub loadLeavesMta-fails : Obeys (Obeyed loadLeavesMta) → ⊥
+unfolding computed low took takenSo whether-set
 loadLeavesMta-fails d =
+    let p : List ℕ = downloadFirst 7 in
     let s : List ℕ = reached loadLeavesMta (loadingFirst [] 7) in
-    let e : _≡_ {A = ℕ} 0 1 = ap whether-set (d .setsMta s pair [] (lastByte (downloadFirst 7)) 0xED (downloadFirst 7) [] refl (inr refl) (record { command = record { ends = refl; opened = refl; free = refl }; code = refl; answer = refl }))
-    in omega arith
+    let law = d .shortDownload p (sessionOf s) pair [] (left loadLeavesMta s pair p) (taken-so loadLeavesMta s pair p (lit< tt) refl) refl refl in
+    let e : _≡_ {A = ℕ} 0 1 = ap whether-set (law .loads .mta) in omega arith
 
 -- a byte of 5 is sampled, another comes while it is 6, and 6 is sent
 pub readsLate-fails : Demand3 readsLate → ⊥
@@ -274,8 +271,8 @@ unfolding computed
 connectClears-fails d = let e : 4 ≤ 3 = d .atMost device 1 (answering (tries 4)) refl in omega arith
 
 -- GET_SEED of its code alone is answered 25
-pub shutsFirst-fails : StaysShut shutsFirst → ⊥
-unfolding computed
+pub shutsFirst-fails : Checked shutsFirst → ⊥
+unfolding computed told asked heardSo
 shutsFirst-fails d =
     let s : List ℕ = reached shutsFirst (askAll [] [] (tries 3 ++ connect ∷ []) ++ begun [] [] (0xF8 ∷ [])) in
-    let e : _≡_ {A = ℕ} 0x25 0x21 = ap (λ a. getD a 1 0) (d .tooShort s [] [] (lastByte (0xF8 ∷ [])) (0xF8 ∷ []) refl (record { ends = refl; opened = refl; free = refl }) refl (lit< tt)) in omega arith
+    let e : _≡_ {A = ℕ} 0x25 0x21 = ap (λ a. getD a 1 0) (refused-so shutsFirst s [] (0xF8 ∷ []) (some 0x21) (0xFE ∷ 0x25 ∷ []) refl 0x21 refl d) in omega arith

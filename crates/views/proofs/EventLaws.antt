@@ -1,25 +1,21 @@
 -- An event samples the lists that run on it and have no unsent packet, misses those that have one, and tells how many; so of the model. Assumes nothing.
 use Prim.Native.Nat.{ℕ, zero, suc, _+_, _<_}
 use mathlib.Core.Path.{_≡_, refl, sym, ap, ap₂, subst, _∙_}
-use mathlib.Core.Logic.{_≢_}
 use mathlib.Core.Bool.{Bool, true, false, cond, not, _&&_, _||_}
 use mathlib.Core.List.{List}
-use borrow.Author.Tests.{ltb-false, lt-ltb, lt-leb}
-use lib.Dec.{eqb, ltb, leb}
+use borrow.Author.Tests.{lt-ltb, lt-leb}
+use lib.Dec.{eqb, ltb}
 use lib.ListN.{length}
-use Rattle.line.proofs.Laws.{cond-ind, false-true}
+use Rattle.line.proofs.Laws.{cond-ind}
 use Rattle.state.specs.Layout.{events}
-use Rattle.words.specs.declared.Evented.{Evented}
 use Rattle.words.specs.declared.Evented.the-variants.{Done}
 use Rattle.model.specs.declared.Sampling.{Sampling}
 use Rattle.model.specs.declared.Sampling.the-variants.{Idle, Sampled, Missed}
 use Rattle.model.specs.Model.{Odt, DaqList, Session, Slave, somePacket, unsent, runsIn}
 use Rattle.model.specs.Calls.{samplingIn, contentsIn, withPacket}
 use Rattle.model.specs.Whole.{isSampled, isMissed, howMany, countedIn, sampledAs, sampledIn, eventIn}
-use Rattle.model.proofs.Bounded.{either}
-use Rattle.views.specs.Commands.{Part, TheGenerator, TheWrongKeys, Whether-open, TheLocks, TheSeed, TheMta, ThePointer, Whether-freed, HowManyLists, TheRound, TheLists, Kept, AllBut}
-use Rattle.views.specs.Faults.{any, total, running}
-use Rattle.views.specs.Locked.{SettingsKept}
+use Rattle.views.specs.Commands.{TheGenerator, TheWrongKeys, Whether-open, TheLocks, TheSeed, TheMta, ThePointer, Whether-freed, HowManyLists, TheRound, TheLists, AllBut}
+use Rattle.views.specs.Words.{any, total}
 use Rattle.views.specs.Samples.{Samples}
 use Rattle.views.specs.Events.{onEvent, stillUnsent, takesSample, missesSample, howManyOf, EventLeaves}
 use Rattle.views.proofs.FaultWords.{running-is}

@@ -5,10 +5,10 @@ use mathlib.Core.Path.{_≡_, refl, sym, ap, ap₂, _∙_}
 use mathlib.Core.Bool.{Bool, true, false, cond, not, _&&_, _||_}
 use native.Mathlib.Omega.{arith}
 use native.Mathlib.Nat.{mod-lt, div-add-mod'}
-use borrow.Author.Tests.{ltb-true, ltb-false, lt-ltb, le-ltb, le-leb, lt-leb, eq-eqb, ne-eqb}
+use borrow.Author.Tests.{ltb-true, ltb-false, lt-ltb, le-leb, lt-leb, eq-eqb, ne-eqb}
 use lib.Dec.{eqb, ltb, leb, lit<}
 use lib.Pow.{low}
-use Rattle.state.specs.Generator.{addend, rotatedLeft8, keyOf}
+use Rattle.state.specs.Generator.{addend, rotatedLeft8, keyOf, nextOf}
 use Rattle.state.specs.Layout.{odtMost}
 use Rattle.state.specs.Memory.{insideOf}
 use Rattle.words.specs.declared.Resource.{Resource}
@@ -16,7 +16,7 @@ use Rattle.words.specs.declared.Resource.the-variants.{Calibration, Lists}
 use Rattle.model.specs.Model.{Odt, DaqList, Session, odtsBefore, odtsTaken, entriesOf, entriesBefore, entriesTaken, sizesOf, bytesIn, allBytes, eachFits, fits, runs, runsIn}
 use Rattle.model.specs.Judge.{allStartable}
 use Rattle.model.proofs.Bounded.{either}
-use Rattle.views.specs.Faults.{any, total, outside, keyNumber, rotated, keyFor, bytesOfOdt, tooLong, unfit, running, allOdts, allEntries}
+use Rattle.views.specs.Words.{any, total, outside, nextSeed, keyNumber, rotated, keyFor, bytesOfOdt, tooLong, unfit, running, allOdts, allEntries}
 
 -- ---- tests
 pub at-most : (a b : ℕ) → leb a b ≡ not (ltb b a)
@@ -175,6 +175,10 @@ turned x h =
 number-is : (r : Resource) → addend r ≡ keyNumber r
 number-is Calibration = refl
 number-is Lists = refl
+
+pub next-is : (x : ℕ) → nextOf x ≡ nextSeed x
+unfolding nextOf
+next-is x = refl
 
 pub key-is : (r : Resource) (seed : ℕ) → keyOf r seed ≡ keyFor r seed
 unfolding keyOf

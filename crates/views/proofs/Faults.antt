@@ -1,6 +1,6 @@
 -- A command is refused with the code of its first fault, and done exactly if it has none; so of the model. Assumes nothing.
 use Prim.{tt}
-use Prim.Native.Nat.{ℕ, _+_, _≤_, _<_}
+use Prim.Native.Nat.{ℕ, _+_, _≤_}
 use mathlib.Core.Path.{_≡_, refl, sym, ap, subst, _∙_}
 use mathlib.Core.Bool.{Bool, true, false, cond, not, _&&_, _||_}
 use mathlib.Core.Option.{Option, none, some}
@@ -9,7 +9,6 @@ use borrow.Author.Tests.{eqb-true, eqb-false, ltb-true, ltb-false, leb-true, eq-
 use native.Mathlib.Omega.{arith}
 use lib.Dec.{eqb, ltb, leb}
 use lib.ListN.{length}
-use Rattle.line.proofs.Laws.{false-true}
 use Rattle.state.specs.Bytes.{u16At, u32At}
 use Rattle.state.specs.Generator.{keyOf}
 use Rattle.state.specs.Memory.{pick, insideOf}
@@ -34,8 +33,9 @@ use Rattle.model.specs.Model.{byte, DaqList, Session, odtsTaken, entriesTaken, 
 use Rattle.model.specs.Seen.{numbersOf}
 use Rattle.model.specs.Judge.{extensionFrom, connectDeed, getSeedDeed, unlockBy, setMtaDeed, uploadDeed, shortUploadDeed, checksumDeed, downloadTo, downloadDeed, shortDownloadDeed, clearDeed, pointerDeed, writeBlock, writeDeed, modeDeed, startDeed, startStopDeed, synchDeed, allocListsDeed, allocOdtsDeed, allocEntriesDeed, judgeThe, judgeBy, judge, pointedIn, allStartable, seenIn, judgeIn}
 use Rattle.model.specs.Answers.{replyIn, commandIn}
+use Rattle.views.specs.Words.{outside, lentTo, keyFor, unfit, running}
 use Rattle.views.specs.Commands.{two, four}
-use Rattle.views.specs.Faults.{Check, ofConnect, ofSynch, ofGetSeed, ofUnlock, ofSetMta, ofUpload, ofShortUpload, ofBuildChecksum, ofDownload, ofShortDownload, ofClearDaqList, ofSetDaqPtr, ofWriteDaq, ofSetDaqListMode, ofStartStopDaqList, ofStartStopSynch, ofAllocDaq, ofAllocOdt, ofAllocOdtEntry, table, firstOfThese, firstFault, keyFor, refusal, AnswersFirst, mtaMeasured, mtaOutside, outside, lentTo, unfit, running, noSuchList}
+use Rattle.views.specs.Faults.{ofConnect, ofGetSeed, ofUnlock, ofSetMta, ofUpload, ofShortUpload, ofBuildChecksum, ofDownload, ofShortDownload, ofClearDaqList, ofSetDaqPtr, ofWriteDaq, ofSetDaqListMode, ofStartStopDaqList, ofStartStopSynch, ofAllocDaq, ofAllocOdt, ofAllocOdtEntry, table, firstOfThese, firstFault, refusal, AnswersFirst, mtaMeasured, mtaOutside}
 use Rattle.model.proofs.Bounded.{either}
 use Rattle.views.proofs.Verdict.{at-least}
 use Rattle.views.proofs.Listed.{Listed}

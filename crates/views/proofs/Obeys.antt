@@ -6,11 +6,11 @@ use lib.ListN.{length}
 use Rattle.model.specs.Model.{byte, Session}
 use Rattle.model.specs.Judge.{judgeIn}
 use Rattle.model.specs.Answers.{Done, commandIn}
-use Rattle.views.specs.Commands.{Way, Law, SYNCH, STAYS-SHUT, WRONG-KEY, Obeys}
+use Rattle.views.specs.Commands.{Way, Law, SYNCH, WRONG-KEY, Obeys}
 use Rattle.views.proofs.Listed.{Listed}
 use Rattle.views.proofs.Taken.{Taken, Leads}
 use Rattle.views.proofs.SessionLaws.{connect, disconnect, get-status, synch, get-seed, unlock-law, processor-info, resolution-info}
-use Rattle.views.proofs.WrongKeys.{stays-shut, wrong-key}
+use Rattle.views.proofs.WrongKeys.{wrong-key}
 use Rattle.views.proofs.MemoryLaws.{set-mta, upload, short-upload, build-checksum, download, short-download}
 use Rattle.views.proofs.ListLaws.{clear-daq-list, set-daq-ptr, write-daq, set-daq-list-mode, start-stop-daq-list, start-stop-synch, free-daq, alloc-daq, alloc-odt, alloc-odt-entry}
 
@@ -41,7 +41,6 @@ module _ (R : Way) (way : AsModel R) where
     getStatus = law 0xFD _ get-status;
     synch = λ p c cal meas o r e. subst (SYNCH p c cal meas) (sym (same p c cal meas o r)) (synch p c cal meas e);
     getSeed = law 0xF8 _ get-seed;
-    staysShut = λ p c cal meas o r e. subst (STAYS-SHUT p c cal meas) (sym (same p c cal meas o r)) (stays-shut p c cal meas e);
     unlock = law 0xF7 _ unlock-law;
     wrongKey = λ p c cal meas o r e f t.
         let said : (i : ℕ) → byte (commandIn p c cal meas .answer) i ≡ byte (o .answer) i = λ i. ap (λ (x : Done). byte (x .answer) i) (sym (same p c cal meas o r)) in

@@ -30,6 +30,7 @@ use Rattle.model.specs.Calls.{poweredUp}
 use Rattle.views.specs.PoweredUp.{PowerUpLeaves}
 use Rattle.views.specs.Commands.{resourceNumber, maskFor, TheGenerator, TheWrongKeys, Whether-open, TheLocks, TheSeed, TheMta, ThePointer, Whether-freed, HowManyLists, TheRound, TheLists, AllButBoth, Fresh, CONNECT, DISCONNECT, GET-STATUS, SYNCH, Seeds, GET-SEED, UNLOCK, GET-DAQ-PROCESSOR-INFO, GET-DAQ-RESOLUTION-INFO}
 use Rattle.model.proofs.Bounded.{either}
+use Rattle.views.proofs.FaultWords.{next-is, key-is}
 use Rattle.views.proofs.Taken.{four-is, fe-ff, Taken, unless, provided, branch, judged, Leads}
 use Rattle.views.proofs.Bytes.{bytes-cons, bytes-four}
 use Rattle.views.proofs.MemoryLaws.{four-back}
@@ -171,7 +172,7 @@ module _ (p : List ℕ) (c : Session) (cal meas : List ℕ) where
       let x : ℕ = nextOf (c .generator) in
       record {
         seed = refl;
-        generator = refl;
+        generator = next-is (c .generator);
         rest = but-seed c x (For r);
         memory = refl;
         answer = refl;
@@ -202,7 +203,7 @@ module _ (p : List ℕ) (c : Session) (cal meas : List ℕ) where
   opened r e key = record {
     resource = r;
     seeded = e;
-    right = sym (four-is p 2) ∙ key;
+    right = sym (four-is p 2) ∙ key ∙ key-is r (c .generator);
     opens = opens-own r (c .unlocked);
     alone = λ x n. opens-alone r x (c .unlocked) n;
     used = refl;

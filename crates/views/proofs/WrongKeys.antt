@@ -2,9 +2,9 @@
 use Prim.Native.Nat.{ℕ, _+_, _≤_, _<_}
 use mathlib.Core.Path.{_≡_, refl, sym, subst, _∙_}
 use mathlib.Core.Bool.{false}
-use mathlib.Core.List.{List, [], _∷_}
+use mathlib.Core.List.{List}
 use native.Mathlib.Omega.{arith}
-use borrow.Author.Tests.{eqb-false, lt-ltb, le-ltb, lt-leb, le-leb}
+use borrow.Author.Tests.{eqb-false, lt-leb, le-leb}
 use lib.Dec.{eqb, ltb}
 use lib.ListN.{length}
 use Rattle.line.proofs.Laws.{cond-ind}
@@ -15,14 +15,14 @@ use Rattle.words.specs.declared.Command.the-variants as command
 use Rattle.words.specs.declared.Resource.{Resource}
 use Rattle.words.specs.declared.Seed.{Seed}
 use Rattle.words.specs.declared.Seed.the-variants.{None, For}
-use Rattle.words.specs.declared.Reason.the-variants.{TooShort, Locked, Sequence}
-use Rattle.model.specs.Judge.{getSeedDeed, unlockBy, judgeThe, judgeBy, judge, judgeIn}
+use Rattle.model.specs.Judge.{unlockBy, judgeThe, judgeBy, judgeIn}
 use Rattle.model.specs.declared.Deed.{Deed}
-use Rattle.model.specs.declared.Deed.the-variants.{Refuse, WrongKey}
+use Rattle.model.specs.declared.Deed.the-variants.{WrongKey}
 use Rattle.model.specs.Model.{byte, Session}
 use Rattle.model.specs.Step.{stepIn}
-use Rattle.model.specs.Answers.{replyIn, doneBy, writes}
-use Rattle.views.specs.Commands.{Tells, STAYS-SHUT, WRONG-KEY}
+use Rattle.model.specs.Answers.{replyIn, writes}
+use Rattle.views.specs.Commands.{WRONG-KEY}
+use Rattle.views.proofs.FaultWords.{key-is}
 use Rattle.views.proofs.Taken.{four-is, by-code, Leads}
 use Rattle.views.proofs.SessionLaws.{blank-fresh}
 
@@ -34,27 +34,7 @@ pub at-most : (n : ℕ) → 3 ≤ n → oneWrongMore n ≡ 3
 at-most n h = rw (le-leb 3 n h)
 
 module _ (p : List ℕ) (c : Session) (cal meas : List ℕ) where
-  -- ---- F8 GET_SEED
-  pub short-judged : (nc nm : ℕ) → byte p 0 ≡ 0xF8 → length p < 3 → judgeIn p c nc nm ≡ Refuse TooShort
-  unfolding judgeIn judge judgeBy commandOf
-  short-judged nc nm code h = simp (code, lt-ltb (length p) 3 h)
-
-  pub shut-judged : (nc nm : ℕ) → byte p 0 ≡ 0xF8 → 3 ≤ length p → 3 ≤ c .wrongKeys → judgeIn p c nc nm ≡ Refuse Locked
-  unfolding judgeIn judge judgeBy judgeThe commandOf getSeedDeed
-  shut-judged nc nm code h k = simp (code, le-ltb (length p) 3 h, le-leb 3 (c .wrongKeys) k)
-
-  pub stays-shut : byte p 0 ≡ 0xF8 → Leads STAYS-SHUT p c cal meas (judgeIn p c (length cal) (length meas))
-  unfolding stepIn writes replyIn
-  stays-shut code = record {
-    short = λ h. subst (λ (d : Deed). Tells c cal (doneBy d p c cal meas) (0xFE ∷ 0x21 ∷ [])) (sym (short-judged (length cal) (length meas) code h)) (record { session = refl; memory = refl; answer = refl });
-    shut = λ h k. subst (λ (d : Deed). Tells c cal (doneBy d p c cal meas) (0xFE ∷ 0x25 ∷ [])) (sym (shut-judged (length cal) (length meas) code h k)) (record { session = refl; memory = refl; answer = refl });
-  }
-
-  -- ---- F7 UNLOCK: with no seed out; and what was judged, if it is answered FE 25
-  pub seedless-judged : (nc nm : ℕ) → byte p 0 ≡ 0xF7 → 2 ≤ length p → c .seed ≡ None → judgeIn p c nc nm ≡ Refuse Sequence
-  unfolding judgeIn judge judgeBy judgeThe commandOf unlockBy
-  seedless-judged nc nm code h e = simp (code, le-ltb (length p) 2 h, e)
-
+  -- ---- F7 UNLOCK: what was judged, if it is answered FE 25
   pub record Wrongly (d : Deed) : Type 0 where
     pub deed : d ≡ WrongKey
     pub resource : Resource
@@ -84,7 +64,7 @@ module _ (p : List ℕ) (c : Session) (cal meas : List ℕ) where
   counted r e key = record {
     resource = r;
     seeded = e;
-    wrong = λ right. eqb-false (u32At p 2) (keyOf r (c .generator)) key (four-is p 2 ∙ right);
+    wrong = λ right. eqb-false (u32At p 2) (keyOf r (c .generator)) key (four-is p 2 ∙ right ∙ sym (key-is r (c .generator)));
     counted = one-more (c .wrongKeys);
     most = at-most (c .wrongKeys);
     closed = refl;

@@ -6,7 +6,6 @@ use mathlib.Core.Logic.{_≢_}
 use mathlib.Core.Bool.{Bool, true, false}
 use mathlib.Core.List.{List, [], _∷_}
 use lib.ListN.{length}
-use Rattle.state.specs.Generator.{nextOf, keyOf}
 use Rattle.words.specs.declared.Resource.{Resource}
 use Rattle.words.specs.declared.Resource.the-variants.{Calibration, Lists}
 use Rattle.words.specs.declared.Extension.{Extension}
@@ -16,6 +15,7 @@ use Rattle.words.specs.declared.Mta.the-variants.{Unset, At}
 use Rattle.words.specs.declared.Pointer.the-variants.{Unset as NoEntry, At as Points}
 use Rattle.model.specs.Model.{byte, Bytes, noEntry, noOdt, DaqList, noList, Session, firstOf, odtsTaken, entriesTaken, runsIn}
 use Rattle.model.specs.Answers.{Done}
+use Rattle.views.specs.Words.{nextSeed, keyFor}
 
 -- ---- the packet's numbers: two bytes from i, and four, lowest byte first
 abbrev pub two : List ℕ → ℕ → ℕ
@@ -131,7 +131,7 @@ SYNCH p c cal meas o = Tells c cal o (0xFE ∷ 0x00 ∷ [])
 -- ---- F8 GET_SEED, while fewer than three keys were wrong: the generator moves on, and the answer carries it
 pub record Seeds (r : Resource) (c : Session) (cal : List ℕ) (o : Done) : Type 0 where
   pub seed : o .session .seed ≡ For r
-  pub generator : o .session .generator ≡ nextOf (c .generator)
+  pub generator : o .session .generator ≡ nextSeed (c .generator)
   pub rest : AllButBoth TheGenerator TheSeed c (o .session)
   pub memory : o .memory ≡ cal
   pub answer : o .answer ≡ 0xFF ∷ 0x04 ∷ byte (o .answer) 2 ∷ byte (o .answer) 3 ∷ byte (o .answer) 4 ∷ byte (o .answer) 5 ∷ []
@@ -145,16 +145,11 @@ pub record GET-SEED (p : List ℕ) (c : Session) (cal meas : List ℕ) (o : Done
   pub already : c .unlocked resource ≡ true → Tells c cal o (0xFF ∷ 0x00 ∷ [])
   pub gives : c .unlocked resource ≡ false → Seeds resource c cal o
 
--- too short it is refused for that, whatever the count; else, after three wrong keys, whatever its mode and resource
-pub record STAYS-SHUT (p : List ℕ) (c : Session) (cal meas : List ℕ) (o : Done) : Type 0 where
-  pub short : length p < 3 → Tells c cal o (0xFE ∷ 0x21 ∷ [])
-  pub shut : 3 ≤ length p → 3 ≤ c .wrongKeys → Tells c cal o (0xFE ∷ 0x25 ∷ [])
-
 -- ---- F7 UNLOCK: the key in bytes 2 to 5 is that of the seed that was out
 pub record UNLOCK (p : List ℕ) (c : Session) (cal meas : List ℕ) (o : Done) : Type 0 where
   pub resource : Resource
   pub seeded : c .seed ≡ For resource
-  pub right : four p 2 ≡ keyOf resource (c .generator)
+  pub right : four p 2 ≡ keyFor resource (c .generator)
   pub opens : o .session .unlocked resource ≡ true
   pub alone : (r : Resource) → r ≢ resource → o .session .unlocked r ≡ c .unlocked r
   pub used : o .session .seed ≡ None
@@ -166,7 +161,7 @@ pub record UNLOCK (p : List ℕ) (c : Session) (cal meas : List ℕ) (o : Done) 
 pub record WRONG-KEY (p : List ℕ) (c : Session) (cal meas : List ℕ) (o : Done) : Type 0 where
   pub resource : Resource
   pub seeded : c .seed ≡ For resource
-  pub wrong : four p 2 ≢ keyOf resource (c .generator)
+  pub wrong : four p 2 ≢ keyFor resource (c .generator)
   pub counted : c .wrongKeys < 3 → o .session .wrongKeys ≡ c .wrongKeys + 1
   pub most : 3 ≤ c .wrongKeys → o .session .wrongKeys ≡ 3
   pub closed : o .session .opened ≡ false
@@ -433,7 +428,6 @@ pub record Obeys (R : Way) : Type 0 where
   pub getStatus : Law R 0xFD GET-STATUS
   pub synch : (p : List ℕ) (c : Session) (cal meas : List ℕ) (o : Done) → R p c cal meas o → byte p 0 ≡ 0xFC → SYNCH p c cal meas o
   pub getSeed : Law R 0xF8 GET-SEED
-  pub staysShut : (p : List ℕ) (c : Session) (cal meas : List ℕ) (o : Done) → R p c cal meas o → byte p 0 ≡ 0xF8 → STAYS-SHUT p c cal meas o
   pub unlock : Law R 0xF7 UNLOCK
   pub wrongKey : (p : List ℕ) (c : Session) (cal meas : List ℕ) (o : Done) → R p c cal meas o → byte p 0 ≡ 0xF7 → byte (o .answer) 0 ≡ 0xFE → byte (o .answer) 1 ≡ 0x25 → WRONG-KEY p c cal meas o
   pub setMta : Law R 0xF6 SET-MTA

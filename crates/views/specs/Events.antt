@@ -9,8 +9,8 @@ use lib.ListN.{length}
 use Rattle.words.specs.declared.Evented.{Evented}
 use Rattle.words.specs.declared.Evented.the-variants.{Done}
 use Rattle.model.specs.Model.{DaqList, Session}
+use Rattle.views.specs.Words.{any, total, running}
 use Rattle.views.specs.Commands.{TheLists, AllBut}
-use Rattle.views.specs.Faults.{any, total, running}
 use Rattle.views.specs.Locked.{SettingsKept}
 use Rattle.views.specs.Samples.{Samples}
 

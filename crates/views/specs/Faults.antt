@@ -1,6 +1,6 @@
 -- The table of checks: of each command its code, its fewest bytes, the lock that it needs, and what else it is refused for, each check with its code and
 -- in the paper's order. It is told from the packet p, the session c before it, and how many bytes of calibration (nc) and of measured values (nm) are lent.
-use Prim.Native.Nat.{ℕ, zero, suc, _+_, _*_, _%_, _/_}
+use Prim.Native.Nat.{ℕ, _+_}
 use mathlib.Core.Path.{_≡_}
 use mathlib.Core.Bool.{Bool, true, false, cond, not, _&&_, _||_}
 use mathlib.Core.Option.{Option, none, some}
@@ -16,25 +16,9 @@ use Rattle.words.specs.declared.Mta.{Mta}
 use Rattle.words.specs.declared.Mta.the-variants.{Unset, At}
 use Rattle.words.specs.declared.Pointer.{Pointer}
 use Rattle.words.specs.declared.Pointer.the-variants.{Unset as NoEntry, At as Points}
-use Rattle.model.specs.Model.{byte, Odt, DaqList, Session}
+use Rattle.model.specs.Model.{byte, Session}
+use Rattle.views.specs.Words.{any, outside, lentTo, keyFor, unfit, running, allOdts, allEntries}
 use Rattle.views.specs.Commands.{two, four}
-
--- ---- of the first n: whether some passes a test, and what they are together
-abbrev pub any : ℕ → (ℕ → Bool) → Bool
-any zero test = false
-any (suc n) test = any n test || test n
-
-abbrev pub total : ℕ → (ℕ → ℕ) → ℕ
-total zero f = 0
-total (suc n) f = total n f + f n
-
--- ---- memory: a block is inside when its address plus size is at most the lent length, of which the first 4,096 bytes at most can be addressed
-abbrev pub outside : ℕ → ℕ → ℕ → Bool
-outside a n lent = ltb lent (a + n) || ltb 4096 (a + n)
-
--- the bytes lent of the memory that an extension byte names
-abbrev pub lentTo : ℕ → ℕ → ℕ → ℕ
-lentTo extension nc nm = cond (eqb extension 0) nc nm
 
 abbrev pub mtaUnset : Mta → Bool
 mtaUnset Unset = true
@@ -51,17 +35,6 @@ mtaOutside Unset n nc nm = false
 mtaOutside (At CalibrationMemory a) n nc nm = outside a n nc
 mtaOutside (At Measured a) n nc nm = outside a n nm
 
--- ---- keys: to the seed the resource's number is added, modulo 2 ^ 32, and the sum is rotated left 8, so that its highest byte becomes its lowest
-abbrev pub keyNumber : Resource → ℕ
-keyNumber Calibration = 0x0000D05E
-keyNumber Lists = 0x0000DA00
-
-abbrev pub rotated : ℕ → ℕ
-rotated x = 256 * (x % 16777216) + x / 16777216
-
-abbrev pub keyFor : Resource → ℕ → ℕ
-keyFor r seed = rotated ((seed + keyNumber r) % 4294967296)
-
 abbrev pub noSeedOut : Seed → Bool
 noSeedOut None = true
 noSeedOut (For r) = false
@@ -70,23 +43,6 @@ noSeedOut (For r) = false
 abbrev pub keyWrong : Seed → ℕ → ℕ → Bool
 keyWrong None generator key = false
 keyWrong (For r) generator key = not (eqb key (keyFor r generator))
-
--- ---- lists
--- the bytes of an ODT: at most 61 in a list's first one, behind number and clock, and 63 in a later one, behind its number
-abbrev pub bytesOfOdt : Odt → ℕ
-bytesOfOdt y = total (y .entries) (λ e. y .entry e .size)
-
-abbrev pub tooLong : DaqList → ℕ → Bool
-tooLong x zero = ltb 61 (bytesOfOdt (x .odt zero))
-tooLong x (suc o) = ltb 63 (bytesOfOdt (x .odt (suc o)))
-
--- it cannot be started: mode never set, no entry above size 0, or too many bytes in an ODT
-abbrev pub unfit : DaqList → Bool
-unfit x = eqb (x .mode) 0 || (not (any (x .odts) (λ o. any (x .odt o .entries) (λ e. ltb 0 (x .odt o .entry e .size)))) || any (x .odts) (tooLong x))
-
--- it runs: a session is open, and it was started and can be
-abbrev pub running : Session → ℕ → Bool
-running c l = c .opened && (c .list l .started && not (unfit (c .list l)))
 
 abbrev pub noSuchList : Session → ℕ → Bool
 noSuchList c l = leb (c .lists) l
@@ -98,13 +54,6 @@ pointerUnset (Points l o e) = false
 abbrev pub pointedRuns : Pointer → Session → Bool
 pointedRuns NoEntry c = false
 pointedRuns (Points l o e) c = running c l
-
--- ---- what of the pool is taken
-abbrev pub allOdts : Session → ℕ
-allOdts c = total (c .lists) (λ l. c .list l .odts)
-
-abbrev pub allEntries : Session → ℕ
-allEntries c = total (c .lists) (λ l. total (c .list l .odts) (λ o. c .list l .odt o .entries))
 
 -- ---- a check: the code that it refuses with, and whether it applies
 pub record Check : Type 0 where

@@ -1,8 +1,8 @@
 -- What a received byte is on the line, in document 01's words: SYNC is 9A, ESC 9B; inside a message 9A comes as 9B 01 and 9B as 9B 00. A message is LEN,
 -- CTR, LEN packet bytes, then the sum of all bytes before it, modulo 256. It is told from the bytes that have come since SYNC.
-use Prim.Native.Nat.{ℕ, zero, suc, _+_, _%_}
-use mathlib.Core.Bool.{Bool, true, false, cond, not, _&&_, _||_}
-use mathlib.Core.List.{List, [], _∷_}
+use Prim.Native.Nat.{ℕ, _+_, _%_}
+use mathlib.Core.Bool.{Bool, cond, not, _&&_, _||_}
+use mathlib.Core.List.{List}
 use lib.Dec.{eqb, ltb, leb}
 use lib.ListN.{take, drop}
 use Rattle.line.specs.declared.Place.{Place}
