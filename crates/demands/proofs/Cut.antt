@@ -39,7 +39,7 @@ use Rattle.state.proofs.Inside.{inside-le}
 use Rattle.session.proofs.Data.{block-block}
 use Rattle.look.proofs.Looked.{judged-doable}
 use Rattle.demands.specs.Slave.{ours}
-use Rattle.demands.specs.Demand2.{putBack}
+use Rattle.demands.specs.Memory.{putBack}
 use Rattle.fields.proofs.Writes.{by-write}
 use Rattle.demands.proofs.CutJudge.{judge-cut}
 

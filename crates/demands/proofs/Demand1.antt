@@ -40,6 +40,8 @@ use Rattle.fields.proofs.Kept.{receive-kept, event-kept, slot-kept, power-up-co
 use Rattle.demands.specs.Slave.{ours}
 use Rattle.demands.specs.Heard.{readBy, Commands, wrongKey, wrongKeyIn, wrongKeyAt}
 use Rattle.demands.specs.Waiting.{SameOutside}
+use Rattle.demands.specs.Outcomes.{Outcomes}
+use Rattle.demands.specs.Refusals.{Refusals}
 use Rattle.demands.specs.Demand1.{Demand1}
 use Rattle.demands.proofs.Judged.{Found}
 use Rattle.demands.proofs.ReadBy.{read-only}
@@ -164,8 +166,8 @@ good-slot : (s out : List ℕ) → consistent s ≡ true → room ≤ length out
 unfolding slotOf
 good-slot s out c h = simp (c, le-ltb (length out) room h) (sent (turnOf s) s out h)
 
-pub demand1 : Demand1 ours
-demand1 = record {
+our-refusals : Refusals ours
+our-refusals = record {
   refused = λ s cal meas b c r n.
       let w = refused-by c (r .answered) (r .begins) n (received s cal meas b c) in
       record { state = w .0; memory = w .1 };
@@ -173,6 +175,10 @@ demand1 = record {
   unanswered = λ s cal meas b c n.
       let w = unanswered-by c n (received s cal meas b c) in
       record { state = w .0; memory = w .1 };
+}
+
+our-outcomes : Outcomes ours
+our-outcomes = record {
   noState = no-state;
   noSize = no-size;
   rightSize = λ s start e. (powers-up s start e, power-up-consistent s start e);
@@ -182,3 +188,6 @@ demand1 = record {
   stays = λ s cal meas out b event clock c. (receive-kept s cal meas b c, event-kept s cal meas event clock c, slot-kept s out c);
   lasts = life-kept;
 }
+
+pub demand1 : Demand1 ours
+demand1 = record { outcomes = our-outcomes; refusals = our-refusals }

@@ -20,7 +20,7 @@ use Rattle.fields.proofs.Kept.{receive-kept}
 use Rattle.demands.specs.Slave.{ours}
 use Rattle.demands.specs.Runs.{Call, run}
 use Rattle.demands.specs.Heard.{packetEnded, readBy, Commands, deedIn, answerTo}
-use Rattle.demands.specs.Demand1.{ChangesOnly}
+use Rattle.demands.specs.Refusals.{ChangesOnly}
 use Rattle.demands.specs.Demand3.{LeavesWithin, AnsweredSoon, AnsweredBy, Demand3}
 use Rattle.demands.proofs.ReadBy.{read-only}
 use Rattle.demands.proofs.Unchanged.{all-but}

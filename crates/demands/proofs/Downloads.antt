@@ -33,7 +33,7 @@ use Rattle.views.proofs.MemoryLaws.{Loading, download-loads, short-loads}
 use Rattle.demands.specs.Slave.{ours}
 use Rattle.demands.specs.Heard.{deedIn}
 use Rattle.demands.specs.Waiting.{SameOutside}
-use Rattle.demands.specs.Demand2.{WritesTo, byDownload, byShortDownload, ReadsFrom, byUpload, byShortUpload, Downloads, Uploads}
+use Rattle.demands.specs.Memory.{WritesTo, byDownload, byShortDownload, ReadsFrom, byUpload, byShortUpload, Downloads, Uploads}
 use Rattle.demands.proofs.Received.{commanded, command-answer}
 use Rattle.demands.proofs.Unchanged.{all-but}
 

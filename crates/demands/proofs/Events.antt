@@ -29,7 +29,7 @@ use Rattle.views.proofs.Happening.{view-event, event-session}
 use Rattle.demands.specs.Slave.{ours}
 use Rattle.demands.specs.Runs.{Event}
 use Rattle.demands.specs.Waiting.{SameOutside, waitingOf, sampleOf}
-use Rattle.demands.specs.Demand2.{storesOf}
+use Rattle.demands.specs.AsDefined.{storesOf}
 use Rattle.demands.specs.Kept.{gains}
 use Rattle.demands.proofs.Deeds.{SameLists, lists-stay}
 use Rattle.demands.proofs.ByteKeeps.{SameSent, sent-reads}

@@ -41,7 +41,8 @@ use Rattle.views.proofs.Done.{view-after}
 use Rattle.demands.specs.Slave.{ours}
 use Rattle.demands.specs.Runs.{Call, Byte, Event, SendingSlot, Elsewhere, run}
 use Rattle.demands.specs.Heard.{readBy, Commands, deedIn, bringsKey}
-use Rattle.demands.specs.Demand2.{otherLock, keyNumber, keyTo, Uncommanded, SeedOpens}
+use Rattle.demands.specs.Keys.{otherLock, keyTo, Uncommanded, SeedOpens}
+use Rattle.views.specs.Words.{keyNumber}
 use Rattle.demands.proofs.ReadBy.{read-length, read-session}
 use Rattle.demands.proofs.Received.{commanded, command-answer, rests-known}
 use Rattle.demands.proofs.Events.{event-lists}

@@ -26,7 +26,9 @@ use Rattle.fields.proofs.Kept.{power-consistent, receive-kept, event-kept, slot
 use Rattle.demands.specs.Slave.{ours}
 use Rattle.demands.specs.Runs.{SendingSlot, sends}
 use Rattle.demands.specs.Life.{Device, Moment, PowerOn, Hears, Samples, Serves, passed, lived, sentInLife, OfByte, OfBytes}
-use Rattle.demands.specs.Demand2.{Downloads, Uploads, dueAt, dueIn, WhileShut, Spares}
+use Rattle.demands.specs.Memory.{Downloads, Uploads, Spares}
+use Rattle.demands.specs.Wire.{dueAt, dueIn}
+use Rattle.demands.specs.CalibrationLocked.{WhileShut}
 use Rattle.fields.proofs.Writes.{by-write}
 use Rattle.demands.proofs.Received.{Reads, rests, acts, received}
 use Rattle.demands.proofs.Locks.{locked-keeps}

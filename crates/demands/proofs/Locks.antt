@@ -19,7 +19,8 @@ use Rattle.model.specs.declared.Deed.{Deed}
 use Rattle.model.specs.declared.Deed.the-variants.{Connect, Unlock}
 use Rattle.demands.specs.Slave.{ours}
 use Rattle.demands.specs.Heard.{Commands, deedIn, bringsKey, keyMatches}
-use Rattle.demands.specs.Demand2.{shut, otherLock}
+use Rattle.demands.specs.CalibrationLocked.{shut}
+use Rattle.demands.specs.Keys.{otherLock}
 use Rattle.fields.proofs.Writes.{by-write}
 use Rattle.demands.proofs.Judged.{Found}
 use Rattle.demands.proofs.Received.{Reads, rests, acts, received}

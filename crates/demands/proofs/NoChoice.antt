@@ -33,7 +33,8 @@ use Rattle.demands.specs.Slave.{AnySlave, ours}
 use Rattle.demands.specs.Waiting.{SameOutside}
 use Rattle.demands.specs.Tight.{Tight}
 use Rattle.demands.specs.Demand1.{Demand1}
-use Rattle.demands.specs.Demand2.{Demand2, storesOf}
+use Rattle.demands.specs.Demand2.{Demand2}
+use Rattle.demands.specs.AsDefined.{storesOf}
 use Rattle.demands.proofs.Numbers.{received-told, powered-up-told}
 use Rattle.demands.proofs.Demand1.{demand1}
 use Rattle.demands.proofs.Demand2.{demand2}
@@ -103,18 +104,18 @@ module _ (v w : AnySlave) (v1 : Demand1 v) (v2 : Demand2 v) (w1 : Demand1 w) (w2
   power-up-same : (s : List ℕ) (start : ℕ) → v .powerUp s start ≡ w .powerUp s start
   power-up-same s start = elim (ℕ-discrete (length s) size) [ yes e ↦ right e | no e ↦ wrong e ] where
     right : length s ≡ size → v .powerUp s start ≡ w .powerUp s start
-    right e = same-power (powered-up-told _ _ (v1 .rightSize s start e .0 ∙ sym (w1 .rightSize s start e .0))) (v2 .powersUp s start e ∙ sym (w2 .powersUp s start e))
+    right e = same-power (powered-up-told _ _ (v1 .outcomes .rightSize s start e .0 ∙ sym (w1 .outcomes .rightSize s start e .0))) (v2 .asDefined .powersUp s start e ∙ sym (w2 .asDefined .powersUp s start e))
 
     wrong : length s ≢ size → v .powerUp s start ≡ w .powerUp s start
-    wrong e = same-power (powered-up-told _ _ (v1 .noSize s start e .0 ∙ sym (w1 .noSize s start e .0))) (v1 .noSize s start e .1 ∙ sym (w1 .noSize s start e .1))
+    wrong e = same-power (powered-up-told _ _ (v1 .outcomes .noSize s start e .0 ∙ sym (w1 .outcomes .noSize s start e .0))) (v1 .outcomes .noSize s start e .1 ∙ sym (w1 .outcomes .noSize s start e .1))
 
   receive-same : (s cal meas : List ℕ) (b : ℕ) → v .receive s cal meas b ≡ w .receive s cal meas b
   receive-same s cal meas b = go (consistent s) refl where
     go : (t : Bool) → consistent s ≡ t → v .receive s cal meas b ≡ w .receive s cal meas b
-    go true c = v2 .reads s cal meas b c ∙ sym (w2 .reads s cal meas b c)
+    go true c = v2 .asDefined .reads s cal meas b c ∙ sym (w2 .asDefined .reads s cal meas b c)
     go false c =
-        let x = v1 .noState s cal meas [] b 0 0 c in
-        let y = w1 .noState s cal meas [] b 0 0 c in
+        let x = v1 .outcomes .noState s cal meas [] b 0 0 c in
+        let y = w1 .outcomes .noState s cal meas [] b 0 0 c in
         same-step (received-told _ _ (x .0 ∙ sym (y .0))) (x .1 ∙ sym (y .1)) (x .2 ∙ sym (y .2))
 
   -- the store of one list after an event
@@ -122,20 +123,20 @@ module _ (v w : AnySlave) (v1 : Demand1 v) (v2 : Demand2 v) (w1 : Demand1 w) (w2
       → storesOf (v .event s cal meas event clock .state) s l ≡ storesOf (w .event s cal meas event clock .state) s l
   store-same s cal meas event clock l c h q = go (samplingOf s l event) refl where
     go : (x : Sampling) → samplingOf s l event ≡ x → storesOf (v .event s cal meas event clock .state) s l ≡ storesOf (w .event s cal meas event clock .state) s l
-    go Idle e = let n : samplingOf s l event ≢ Sampled = λ f. idle-not (sym e ∙ f) in v2 .others s cal meas event clock l c q n ∙ sym (w2 .others s cal meas event clock l c q n)
-    go Sampled e = v2 .stores s cal meas event clock l c h e ∙ sym (w2 .stores s cal meas event clock l c h e)
-    go Missed e = let n : samplingOf s l event ≢ Sampled = λ f. missed-not (sym e ∙ f) in v2 .others s cal meas event clock l c q n ∙ sym (w2 .others s cal meas event clock l c q n)
+    go Idle e = let n : samplingOf s l event ≢ Sampled = λ f. idle-not (sym e ∙ f) in v2 .asDefined .others s cal meas event clock l c q n ∙ sym (w2 .asDefined .others s cal meas event clock l c q n)
+    go Sampled e = v2 .asDefined .stores s cal meas event clock l c h e ∙ sym (w2 .asDefined .stores s cal meas event clock l c h e)
+    go Missed e = let n : samplingOf s l event ≢ Sampled = λ f. missed-not (sym e ∙ f) in v2 .asDefined .others s cal meas event clock l c q n ∙ sym (w2 .asDefined .others s cal meas event clock l c q n)
 
   event-done : (s cal meas : List ℕ) (event clock : ℕ) → consistent s ≡ true → event ≤ 1 → v .event s cal meas event clock ≡ w .event s cal meas event clock
   event-done s cal meas event clock c h =
-      same-event (v2 .counts s cal meas event clock c h ∙ sym (w2 .counts s cal meas event clock c h))
+      same-event (v2 .asDefined .counts s cal meas event clock c h ∙ sym (w2 .asDefined .counts s cal meas event clock c h))
       (same-stores s (v .event s cal meas event clock .state) (w .event s cal meas event clock .state)
-      (v2 .storesOnly s cal meas event clock) (w2 .storesOnly s cal meas event clock) (λ l q. store-same s cal meas event clock l c h q))
+      (v2 .asDefined .storesOnly s cal meas event clock) (w2 .asDefined .storesOnly s cal meas event clock) (λ l q. store-same s cal meas event clock l c h q))
 
   event-bad : (s cal meas : List ℕ) (event clock : ℕ) → consistent s ≡ true → 1 < event → v .event s cal meas event clock ≡ w .event s cal meas event clock
   event-bad s cal meas event clock c h =
-      let x = v1 .badEvent s cal meas event clock c h in
-      let y = w1 .badEvent s cal meas event clock c h in
+      let x = v1 .outcomes .badEvent s cal meas event clock c h in
+      let y = w1 .outcomes .badEvent s cal meas event clock c h in
       same-event (bad-event _ (x .0) ∙ sym (bad-event _ (y .0))) (x .1 ∙ sym (y .1))
 
   event-same : (s cal meas : List ℕ) (event clock : ℕ) → v .event s cal meas event clock ≡ w .event s cal meas event clock
@@ -143,23 +144,23 @@ module _ (v w : AnySlave) (v1 : Demand1 v) (v2 : Demand2 v) (w1 : Demand1 w) (w2
     go : (t : Bool) → consistent s ≡ t → v .event s cal meas event clock ≡ w .event s cal meas event clock
     go true c = elim (decLe event 1) [ yes h ↦ event-done s cal meas event clock c h | no h ↦ event-bad s cal meas event clock c (lt-of-not-le h) ]
     go false c =
-        let x = v1 .noState s cal meas [] 0 event clock c in
-        let y = w1 .noState s cal meas [] 0 event clock c in
+        let x = v1 .outcomes .noState s cal meas [] 0 event clock c in
+        let y = w1 .outcomes .noState s cal meas [] 0 event clock c in
         same-event (no-event _ (x .3) ∙ sym (no-event _ (y .3))) (x .4 ∙ sym (y .4))
 
   slot-short : (s out : List ℕ) → consistent s ≡ true → length out < room → v .slot s out ≡ w .slot s out
   slot-short s out c h =
-      let x = v1 .noRoom s out c h in
-      let y = w1 .noRoom s out c h in
+      let x = v1 .outcomes .noRoom s out c h in
+      let y = w1 .outcomes .noRoom s out c h in
       same-slot (no-room _ (x .0) ∙ sym (no-room _ (y .0))) (x .1 ∙ sym (y .1)) (x .2 ∙ sym (y .2))
 
   slot-same : (s out : List ℕ) → v .slot s out ≡ w .slot s out
   slot-same s out = go (consistent s) refl where
     go : (t : Bool) → consistent s ≡ t → v .slot s out ≡ w .slot s out
-    go true c = elim (decLe room (length out)) [ yes h ↦ v2 .serves s out c h ∙ sym (w2 .serves s out c h) | no h ↦ slot-short s out c (lt-of-not-le h) ]
+    go true c = elim (decLe room (length out)) [ yes h ↦ v2 .asDefined .serves s out c h ∙ sym (w2 .asDefined .serves s out c h) | no h ↦ slot-short s out c (lt-of-not-le h) ]
     go false c =
-        let x = v1 .noState s [] [] out 0 0 0 c in
-        let y = w1 .noState s [] [] out 0 0 0 c in
+        let x = v1 .outcomes .noState s [] [] out 0 0 0 c in
+        let y = w1 .outcomes .noState s [] [] out 0 0 0 c in
         same-slot (no-slot _ (x .5) ∙ sym (no-slot _ (y .5))) (x .6 ∙ sym (y .6)) (x .7 ∙ sym (y .7))
 
   same-calls : v ≡ w

@@ -25,7 +25,7 @@ use Rattle.model.specs.Calls.{turnIn, packetFor}
 use Rattle.model.specs.View.{viewOf}
 use Rattle.demands.specs.Slave.{ours}
 use Rattle.demands.specs.Runs.{Call, Byte, Event, SendingSlot, Elsewhere, sends, frames}
-use Rattle.demands.specs.Demand2.{dueAt, due, numbered}
+use Rattle.demands.specs.Wire.{dueAt, due, numbered}
 use Rattle.demands.proofs.Sends.{turned, framesOf, slot-shows, slot-stays, slot-sends, slot-silent}
 use Rattle.demands.proofs.ByteKeeps.{byte-sent}
 use Rattle.demands.proofs.Events.{event-sent}

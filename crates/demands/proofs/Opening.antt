@@ -27,7 +27,8 @@ use Rattle.state.proofs.Consistent.{consistent-size}
 use Rattle.views.proofs.Calls.{powered-nought}
 use Rattle.demands.specs.Heard.{readBy}
 use Rattle.demands.specs.Life.{Device, Moment, PowerOn, Hears, Samples, Serves, passed, lived, OfByte, OfBytes}
-use Rattle.demands.specs.Demand2.{shut, RightKeyEnds, Keyless}
+use Rattle.demands.specs.CalibrationLocked.{shut, Keyless}
+use Rattle.demands.specs.Keys.{RightKeyEnds}
 use Rattle.demands.specs.Slave.{ours}
 use Rattle.demands.proofs.ReadBy.{read-session}
 use Rattle.demands.proofs.Judged.{Found, RightKey}

@@ -29,7 +29,7 @@ use Rattle.views.proofs.Obeys.{AsModel, obeys}
 use Rattle.views.proofs.Full.{fills}
 use Rattle.demands.specs.Slave.{ours}
 use Rattle.demands.specs.Runs.{Call, Byte, Event, SendingSlot, Elsewhere, run}
-use Rattle.demands.specs.Demand2.{Uncommanded}
+use Rattle.demands.specs.Keys.{Uncommanded}
 use Rattle.demands.specs.Obeyed.{Obeyed}
 use Rattle.demands.specs.Pool.{Plan, total, InPool, Allocated, In, Distinct, EachOnce, HasOdts, OdtAt, HasEntries, allocOdt, allocOdtEntry, asked, GoThrough, WholePool}
 use Rattle.demands.proofs.Reached.{run-kept, run-bytes}

@@ -31,7 +31,8 @@ use Rattle.views.proofs.MemoryLaws.{Reading, Own, upload-reads, short-reads}
 use Rattle.demands.specs.Slave.{ours}
 use Rattle.demands.specs.Runs.{Call, run}
 use Rattle.demands.specs.Heard.{readBy, deedIn}
-use Rattle.demands.specs.Demand2.{Brings, Uncommanded}
+use Rattle.demands.specs.Memory.{Brings}
+use Rattle.demands.specs.Keys.{Uncommanded}
 use Rattle.demands.proofs.ReadBy.{read-length}
 use Rattle.demands.proofs.Received.{commanded, read-can, command-answer}
 use Rattle.demands.proofs.Keys.{run-alike}

@@ -33,7 +33,7 @@ use Rattle.views.proofs.Calls.{view-answerSent, view-packetSent}
 use Rattle.demands.specs.Slave.{ours}
 use Rattle.demands.specs.Runs.{SendingSlot, frameSent, sends}
 use Rattle.demands.specs.Waiting.{SameOutside}
-use Rattle.demands.specs.Demand2.{ReadsBack}
+use Rattle.demands.specs.Wire.{ReadsBack}
 use Rattle.demands.proofs.Turns.{Next, Fair, nobody, answer, list, fair}
 
 -- ---- with room, and without

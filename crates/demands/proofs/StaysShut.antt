@@ -35,7 +35,8 @@ use Rattle.views.proofs.WrongKeys.{one-more, told-wrong}
 use Rattle.demands.specs.Slave.{ours}
 use Rattle.demands.specs.Heard.{readBy, deedIn, wrongKey}
 use Rattle.demands.specs.Life.{Device, Moment, PowerOn, Hears, Samples, Serves, passed, lived, OfBytes}
-use Rattle.demands.specs.Demand2.{RightKeyEnds, Keyless}
+use Rattle.demands.specs.Keys.{RightKeyEnds}
+use Rattle.demands.specs.CalibrationLocked.{Keyless}
 use Rattle.demands.specs.StaysShut.{saysWrong, judgedWrong, wrongAt, wrongIn, PoweredOn, StaysShut}
 use Rattle.demands.proofs.ReadBy.{read-session}
 use Rattle.demands.proofs.Received.{Does, Reads, rests, acts, received, done-answer, resting, acting}

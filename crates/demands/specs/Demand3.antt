@@ -17,7 +17,7 @@ use Rattle.demands.specs.Slave.{AnySlave}
 use Rattle.demands.specs.Runs.{Call, Byte, Event, SendingSlot, Elsewhere, afterCall, run, frames, sends, slots, received}
 use Rattle.demands.specs.Heard.{packetEnded, answerTo, stopsAt}
 use Rattle.demands.specs.Waiting.{waitingOf, sampleOf, answersIn, packetsIn}
-use Rattle.demands.specs.Demand1.{ChangesOnly}
+use Rattle.demands.specs.Refusals.{ChangesOnly}
 
 -- the answer a leaves in one of the first n counted slots of cs: before it no answer does, and after it none waits
 pub record LeavesWithin (n : ℕ) (v : AnySlave) (s : List ℕ) (a : List ℕ) (cs : List Call) : Type 0 where

@@ -14,6 +14,13 @@ pub mod Checked
 pub mod ListsLocked
 pub mod StaysShut
 pub mod Numbers
+pub mod Outcomes
+pub mod Refusals
+pub mod AsDefined
+pub mod Wire
+pub mod Keys
+pub mod CalibrationLocked
+pub mod Memory
 pub mod Demand1
 pub mod Demand2
 pub mod Demand3

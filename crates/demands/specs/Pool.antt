@@ -12,7 +12,7 @@ use Rattle.model.specs.View.{sessionOf, viewOf}
 use Rattle.demands.specs.Slave.{AnySlave}
 use Rattle.demands.specs.Runs.{Call, Byte, run, LentBytes}
 use Rattle.demands.specs.Heard.{Commands}
-use Rattle.demands.specs.Demand2.{Uncommanded}
+use Rattle.demands.specs.Keys.{Uncommanded}
 
 -- ---- a plan: so many lists, so many ODTs in list l, so many entries in its ODT o
 pub record Plan : Type 0 where

@@ -14,7 +14,8 @@ use Rattle.words.specs.declared.Received.the-variants.{Unread}
 use Rattle.demands.specs.Slave.{ours}
 use Rattle.demands.specs.Runs.{Call, run}
 use Rattle.demands.specs.Heard.{packetEnded, Commands, wrongKey}
-use Rattle.demands.specs.Demand2.{Uncommanded, Brings}
+use Rattle.demands.specs.Keys.{Uncommanded}
+use Rattle.demands.specs.Memory.{Brings}
 use Rattle.demands.specs.StaysShut.{wrongIn}
 use Rattle.shown.specs.Exchange.{says, asks, askAll, begun, lastByte, device, poweredOn, reached, connect, synch, seedOfCalibration, keyOfCalibration, keyOfLists, tries, upload, uploadFirst, downloadFirst, pair, loadingFirst, fetchingFirst, readingOn, listable, freeLists, allocLists, allocOdts, allocEntries, withLists, freedAgain}
 use Rattle.shown.proofs.Computed.{computed, told}

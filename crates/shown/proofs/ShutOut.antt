@@ -30,7 +30,9 @@ use Rattle.demands.specs.Slave.{AnySlave}
 use Rattle.demands.specs.Runs.{Byte, Event, SendingSlot}
 use Rattle.demands.specs.Heard.{packetEnded}
 use Rattle.demands.specs.Demand1.{Demand1}
-use Rattle.demands.specs.Demand2.{Demand2, ReadsBack, WritesTo, byDownload, byShortDownload, ReadsFrom, byUpload, byShortUpload}
+use Rattle.demands.specs.Demand2.{Demand2}
+use Rattle.demands.specs.Wire.{ReadsBack}
+use Rattle.demands.specs.Memory.{WritesTo, byDownload, byShortDownload, ReadsFrom, byUpload, byShortUpload}
 use Rattle.demands.specs.Demand3.{Demand3}
 use Rattle.demands.specs.Obeyed.{Obeyed}
 use Rattle.demands.specs.Checked.{Checked}
@@ -44,7 +46,7 @@ use Rattle.shown.proofs.Taken.{low, asked, heardSo, done-so, refused-so
 pub refusesAlways-fails : Demand2 refusesAlways → ⊥
 unfolding computed
 refusesAlways-fails d =
-    let e : _≡_ {A = ℕ} 0xFE 0xFF = ap (λ o. getD (viewOf (o .state) .answer) 0 0) (d .reads (reached refusesAlways (begun [] [] connect)) [] [] (lastByte connect) refl)
+    let e : _≡_ {A = ℕ} 0xFE 0xFF = ap (λ o. getD (viewOf (o .state) .answer) 0 0) (d .asDefined .reads (reached refusesAlways (begun [] [] connect)) [] [] (lastByte connect) refl)
     in omega arith
 
 -- CONNECT is answered, and SYNCH is not
@@ -59,27 +61,27 @@ pub onlyConnects-fails : Demand2 onlyConnects → ⊥
 unfolding computed
 onlyConnects-fails d =
     let s : List ℕ = reached onlyConnects (asks [] [] connect ++ begun [] [] seedOfCalibration) in
-    let e : _≡_ {A = ℕ} 0xFE 0xFF = ap (λ a. getD a 0 0) (d .seedOpens s [] [] (lastByte seedOfCalibration) seedOfCalibration Calibration refl (lit< tt) (lit< tt) (record { ends = refl; opened = refl; free = refl }) refl refl .answer)
+    let e : _≡_ {A = ℕ} 0xFE 0xFF = ap (λ a. getD a 0 0) (d .keys .seedOpens s [] [] (lastByte seedOfCalibration) seedOfCalibration Calibration refl (lit< tt) (lit< tt) (record { ends = refl; opened = refl; free = refl }) refl refl .answer)
     in omega arith
 
 -- CONNECT with a checksum one too high is answered
 pub obeysDamaged-fails : Demand2 obeysDamaged → ⊥
 unfolding computed
 obeysDamaged-fails d =
-    let e : _≡_ {A = ℕ} 1 5 = ap (λ o. receivedNumber (o .received)) (d .reads (reached obeysDamaged (begun [] [] connect)) [] [] (lastByte connect + 1) refl) in omega arith
+    let e : _≡_ {A = ℕ} 1 5 = ap (λ o. receivedNumber (o .received)) (d .asDefined .reads (reached obeysDamaged (begun [] [] connect)) [] [] (lastByte connect + 1) refl) in omega arith
 
 -- CONNECT with one byte more, 9A: its checksum is 9C, and 9E over escaped bytes; the one is refused, the other heeded
 pub readsEscaped-fails : Demand2 readsEscaped → ⊥
 unfolding computed
 readsEscaped-fails d =
     let s : List ℕ = reached readsEscaped (begun [] [] (0xFF ∷ 0 ∷ 0x9A ∷ [])) in
-    let right : _≡_ {A = ℕ} 5 1 = ap (λ o. receivedNumber (o .received)) (d .reads s [] [] 0x9C refl) in omega arith
+    let right : _≡_ {A = ℕ} 5 1 = ap (λ o. receivedNumber (o .received)) (d .asDefined .reads s [] [] 0x9C refl) in omega arith
 
 pub readsEscaped-heeds : Demand2 readsEscaped → ⊥
 unfolding computed
 readsEscaped-heeds d =
     let s : List ℕ = reached readsEscaped (begun [] [] (0xFF ∷ 0 ∷ 0x9A ∷ [])) in
-    let wrong : _≡_ {A = ℕ} 1 5 = ap (λ o. receivedNumber (o .received)) (d .reads s [] [] 0x9E refl) in omega arith
+    let wrong : _≡_ {A = ℕ} 1 5 = ap (λ o. receivedNumber (o .received)) (d .asDefined .reads s [] [] 0x9E refl) in omega arith
 
 -- ---- UPLOAD after DOWNLOAD, SHORT_UPLOAD after SHORT_DOWNLOAD
 -- how a state stands at a byte, and what two commands come to, the second with the memory that the first left
@@ -122,7 +124,7 @@ given-back : (v : AnySlave) (cal s t p q : List ℕ) (x y : Mta) (a : List ℕ) 
 unfolding standing exchanged ready answers
 given-back v cal s t p q x y a from d e writes one reads one′ =
     sym (ap (λ z. z .second) e)
-    ∙ d .givesBack s t cal [] [] (lastByte p) (lastByte q) p q from 0 1 (ap (λ z. z .before .sound) e) (ap (λ z. z .between .sound) e)
+    ∙ d .memory .givesBack s t cal [] [] (lastByte p) (lastByte q) p q from 0 1 (ap (λ z. z .before .sound) e) (ap (λ z. z .between .sound) e)
     (record { command = record { ends = ap (λ z. z .before .ended) e; opened = ap (λ z. z .before .opened) e; free = ap (λ z. z .before .waiting) e }; place = writes (ap (λ z. z .before .place) e); count = one })
     (ap (λ z. z .first) e)
     (record { command = record { ends = ap (λ z. z .between .ended) e; opened = ap (λ z. z .between .opened) e; free = ap (λ z. z .between .waiting) e }; place = reads (ap (λ z. z .between .place) e); count = one′ }) .0
@@ -158,7 +160,7 @@ loadsAtMta-fails d =
 pub allAtOnce-fails : Demand2 allAtOnce → ⊥
 unfolding computed slotsUpTo
 allAtOnce-fails d =
-    let e : _≡_ {A = ℕ} 19 7 = ap (λ fs. length (getD fs 0 [])) (d .numbers (reached allAtOnce (measuring (5 ∷ []))) (Event [] (5 ∷ []) 0 0 ∷ SendingSlot (replicate (room + 19) 0) ∷ []) refl (lit< tt)) in omega arith
+    let e : _≡_ {A = ℕ} 19 7 = ap (λ fs. length (getD fs 0 [])) (d .wire .numbers (reached allAtOnce (measuring (5 ∷ []))) (Event [] (5 ∷ []) 0 0 ∷ SendingSlot (replicate (room + 19) 0) ∷ []) refl (lit< tt)) in omega arith
 
 -- a frame that reads back carries the packet whose turn it was
 read-back : (f s p : List ℕ) → packetFor (turnIn (viewOf s)) (viewOf s) ≡ p ∷ [] → ReadsBack (f ∷ []) s → line.runOf Outside (replicate longest 0) f ≡ heard Outside (replicate longest 0) (viewOf s .ctr) p
@@ -169,7 +171,7 @@ pub sumsEscaped-fails : Demand2 sumsEscaped → ⊥
 unfolding computed
 sumsEscaped-fails d =
     let s : List ℕ = reached sumsEscaped (asks [] [] connect ++ says (0x9A ∷ []) [] uploadFirst) in
-    let e : _≡_ {A = ℕ} 5 1 = ap (λ r. outcomeNumber (getD (r .outcomes) 6 Nothing)) (read-back (0x9A ∷ 2 ∷ 1 ∷ 0xFF ∷ 0x9B ∷ 1 ∷ 0x9E ∷ []) s (0xFF ∷ 0x9A ∷ []) refl (d .readsBack s (replicate room 0) refl (lit≤ tt))) in omega arith
+    let e : _≡_ {A = ℕ} 5 1 = ap (λ r. outcomeNumber (getD (r .outcomes) 6 Nothing)) (read-back (0x9A ∷ 2 ∷ 1 ∷ 0xFF ∷ 0x9B ∷ 1 ∷ 0x9E ∷ []) s (0xFF ∷ 0x9A ∷ []) refl (d .wire .readsBack s (replicate room 0) refl (lit≤ tt))) in omega arith
 
 -- ---- events
 -- list 0 is sampled, and no packet waits
@@ -181,12 +183,12 @@ neverSamples-fails d =
 -- no list runs, and one is said to be sampled
 pub inventsCounts-fails : Demand2 inventsCounts → ⊥
 unfolding computed
-inventsCounts-fails d = let e : _≡_ {A = ℕ} 256 0 = ap eventedValue (d .counts (powered 1) [] [] 0 0 refl (lit≤ tt)) in omega arith
+inventsCounts-fails d = let e : _≡_ {A = ℕ} 256 0 = ap eventedValue (d .asDefined .counts (powered 1) [] [] 0 0 refl (lit≤ tt)) in omega arith
 
 -- and one missed
 pub inventsMissed-fails : Demand2 inventsMissed → ⊥
 unfolding computed
-inventsMissed-fails d = let e : _≡_ {A = ℕ} 1 0 = ap eventedValue (d .counts (powered 1) [] [] 0 0 refl (lit≤ tt)) in omega arith
+inventsMissed-fails d = let e : _≡_ {A = ℕ} 1 0 = ap eventedValue (d .asDefined .counts (powered 1) [] [] 0 0 refl (lit≤ tt)) in omega arith
 
 -- list 0 is sampled, and the packet of its second ODT has two bytes more
 pub stampsEach-fails : Demand2 stampsEach → ⊥
@@ -207,14 +209,14 @@ pub beginsBehind-fails : Demand2 beginsBehind → ⊥
 unfolding computed
 beginsBehind-fails d =
     let s : List ℕ = reached beginsBehind (listable ++ (asks [] [] freeLists ++ begun [] [] (allocLists 2))) in
-    let e : _≡_ {A = ℕ} 1 0 = ap (λ o. sessionOf (o .state) .round) (d .reads s [] [] (lastByte (allocLists 2)) refl) in omega arith
+    let e : _≡_ {A = ℕ} 1 0 = ap (λ o. sessionOf (o .state) .round) (d .asDefined .reads s [] [] (lastByte (allocLists 2)) refl) in omega arith
 
 -- ---- slips
 -- refused for want of memory, UPLOAD of 1 moves the MTA from 0 to 1
 pub movesAfterRefusal-fails : Demand1 movesAfterRefusal → ⊥
 unfolding computed
 movesAfterRefusal-fails d =
-    let e : _≡_ {A = ℕ} 1 0 = ap (λ s. getD s (addressAt - sessionAt) 0) (d .refused (reached movesAfterRefusal (uploading [] 1)) [] [] (lastByte (upload 1)) refl (record { answered = refl; begins = refl }) refl .state .back)
+    let e : _≡_ {A = ℕ} 1 0 = ap (λ s. getD s (addressAt - sessionAt) 0) (d .refusals .refused (reached movesAfterRefusal (uploading [] 1)) [] [] (lastByte (upload 1)) refl (record { answered = refl; begins = refl }) refl .state .back)
     in omega arith
 
 -- of two bytes SHORT_UPLOAD reads the first, and UPLOAD of one more the first again
@@ -223,7 +225,7 @@ unfolding computed
 leavesMta-fails d =
     let s : List ℕ = reached leavesMta (askAll pair [] (connect ∷ mtaTo 0 0 ∷ []) ++ begun pair [] uploadFirst) in
     let e : _≡_ {A = ℕ} 5 6 = ap (λ l. getD l 1 0)
-    (d .goesOn s pair [] (lastByte uploadFirst) uploadFirst (5 ∷ []) readingOn (lastByte (upload 1)) (upload 1) (5 ∷ []) refl
+    (d .memory .goesOn s pair [] (lastByte uploadFirst) uploadFirst (5 ∷ []) readingOn (lastByte (upload 1)) (upload 1) (5 ∷ []) refl
     (record { command = record { ends = refl; opened = refl; free = refl }; code = refl; answer = refl })
     (refl, (refl, (refl, (refl, (refl, tt)))))
     (record { command = record { ends = refl; opened = refl; free = refl }; code = refl; answer = refl }))
@@ -261,7 +263,7 @@ readsLate-fails d =
 pub opensBoth-fails : Demand2 opensBoth → ⊥
 unfolding computed
 opensBoth-fails d =
-    let e : _≡_ {A = ℕ} 1 0 = ap (λ t. cond t 1 0) (d .unlocks (reached opensBoth (askAll [] [] (connect ∷ seedOfCalibration ∷ []) ++ begun [] [] keyOfCalibration)) [] [] (lastByte keyOfCalibration) keyOfCalibration Calibration refl (record { ends = refl; opened = refl; free = refl }) refl refl refl .1)
+    let e : _≡_ {A = ℕ} 1 0 = ap (λ t. cond t 1 0) (d .keys .unlocks (reached opensBoth (askAll [] [] (connect ∷ seedOfCalibration ∷ []) ++ begun [] [] keyOfCalibration)) [] [] (lastByte keyOfCalibration) keyOfCalibration Calibration refl (record { ends = refl; opened = refl; free = refl }) refl refl refl .1)
     in omega arith
 
 -- ---- three wrong keys
