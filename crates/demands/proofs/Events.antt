@@ -14,7 +14,7 @@ use Rattle.lists.specs.Event.{captured, tally, Happened, happened, eventOf}
 use Rattle.model.specs.Model.{Session, waitingIn}
 use Rattle.model.specs.Step.{withLists}
 use Rattle.model.specs.Calls.{samplingIn}
-use Rattle.model.specs.Whole.{AfterEvent, isSampled, countedIn, eventIn}
+use Rattle.model.specs.Whole.{AfterEvent, countedIn, eventIn}
 use Rattle.model.specs.View.{listsOf, sessionOf, viewOf}
 use Rattle.model.specs.declared.Sampling.the-variants.{Sampled}
 use Rattle.line.proofs.Laws.{cond-ind}
@@ -30,6 +30,9 @@ use Rattle.demands.specs.Slave.{ours}
 use Rattle.demands.specs.Runs.{Event}
 use Rattle.demands.specs.Waiting.{SameOutside, waitingOf, sampleOf}
 use Rattle.demands.specs.AsDefined.{storesOf}
+use Rattle.views.specs.Events.{takesSample}
+use Rattle.views.proofs.EventLaws.{sampled-is, sampled-if}
+use Rattle.views.proofs.Listed.{listed}
 use Rattle.demands.specs.Kept.{gains}
 use Rattle.demands.proofs.Deeds.{SameLists, lists-stay}
 use Rattle.demands.proofs.ByteKeeps.{SameSent, sent-reads}
@@ -57,13 +60,16 @@ counts s cal meas event clock c h = ap (λ (o : AfterEvent). o .evented) (view-e
 pub event-waiting : (s cal meas : List ℕ) (event clock l : ℕ) → consistent s ≡ true → waitingOf (eventOf s cal meas event clock .state) l ≡ waitingOf s l ++ gains l s (Event cal meas event clock)
 event-waiting s cal meas event clock l c = go (ltb 1 event) refl where
   go : (t : Bool) → ltb 1 event ≡ t
-      → waitingOf (eventOf s cal meas event clock .state) l ≡ waitingOf s l ++ cond t [] (cond (isSampled (samplingIn (sessionOf s) l event)) (sampleOf s l clock cal meas) [])
+      → waitingOf (eventOf s cal meas event clock .state) l ≡ waitingOf s l ++ cond t [] (cond (takesSample (sessionOf s) event l) (sampleOf s l clock cal meas) [])
   go true e = rw (refused s cal meas event clock c (ltb-true 1 event e)) (sym (append-nil (waitingOf s l)))
   go false e = ap (λ (x : Session). waitingIn x l) (event-session s cal meas event clock c (event-low event (ltb-false 1 event e))) ∙ event-waits (sessionOf s) event clock cal meas l
+      ∙ ap (λ (t : Bool). waitingOf s l ++ cond t (sampleOf s l clock cal meas) []) (sampled-is (sessionOf s) (listed s) event l)
 
-pub samples : (s cal meas : List ℕ) (event clock l : ℕ) → consistent s ≡ true → event ≤ 1 → samplingIn (sessionOf s) l event ≡ Sampled
+pub gains-sample : (s cal meas : List ℕ) (event clock l : ℕ) → consistent s ≡ true → event ≤ 1 → takesSample (sessionOf s) event l ≡ true
     → waitingOf (ours .event s cal meas event clock .state) l ≡ sampleOf s l clock cal meas
-samples s cal meas event clock l c h e = event-waiting s cal meas event clock l c ∙ rw (sampled-empty (sessionOf s) l event e, le-ltb 1 event h, e)
+gains-sample s cal meas event clock l c h t =
+    let e : samplingIn (sessionOf s) l event ≡ Sampled = sampled-if (sessionOf s) (listed s) event l t in
+    event-waiting s cal meas event clock l c ∙ rw (sampled-empty (sessionOf s) l event e, le-ltb 1 event h, t)
 
 -- ---- what it stores: as if a list that is sampled alone were captured
 -- a list that is sampled is there

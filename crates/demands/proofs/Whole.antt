@@ -14,15 +14,12 @@ use Rattle.state.specs.State.{consistent}
 use Rattle.session.specs.Receive.{receiveOf}
 use Rattle.lists.specs.Event.{eventOf}
 use Rattle.lists.specs.Slot.{slotOf}
-use Rattle.model.specs.declared.Sampling.{Sampling}
-use Rattle.model.specs.declared.Sampling.the-variants.{Idle, Sampled, Missed}
 use Rattle.model.specs.declared.Turn.{Turn}
 use Rattle.model.specs.declared.Turn.the-variants.{Answer, Packet}
 use Rattle.state.proofs.Consistent.{consistent-size}
 use Rattle.fields.proofs.Kept.{receive-kept, event-kept, slot-kept}
 use Rattle.model.specs.Model.{Session, Slave, firstOf, runsIn, waitingIn}
-use Rattle.model.specs.Calls.{turnIn, packetFrom, packetFor, answerGone, withoutPacket, listAfter, packetGone, samplingIn}
-use Rattle.model.specs.Whole.{isSampled}
+use Rattle.model.specs.Calls.{turnIn, packetFrom, packetFor, answerGone, withoutPacket, listAfter, packetGone}
 use Rattle.model.specs.View.{sessionOf, viewOf}
 use Rattle.model.proofs.Bounded.{either}
 use Rattle.views.proofs.Listed.{listed, runs-listed}
@@ -32,6 +29,9 @@ use Rattle.demands.specs.Runs.{Call, Byte, Event, SendingSlot, Elsewhere
 use Rattle.demands.specs.Heard.{stopsAt}
 use Rattle.demands.specs.Waiting.{waitingOf, sampleOf, isOf, packetsIn}
 use Rattle.demands.specs.Demand3.{Undisturbed, Begins}
+use Rattle.views.specs.Events.{takesSample}
+use Rattle.views.proofs.EventLaws.{sampled-if}
+use Rattle.views.proofs.Listed.{listed}
 use Rattle.demands.specs.Kept.{gains}
 use Rattle.demands.specs.Ranking.{Proceeds, all-gone, at-end, answer-first, own-packet, other-list}
 use Rattle.demands.proofs.Ranking.{leaves-next, leaves-whole}
@@ -41,7 +41,7 @@ use Rattle.demands.proofs.Turns.{Next, Moves, by-answer, by-own, by-oth
 use Rattle.demands.proofs.Sends.{next-low, turned, framesOf, slot-shows, slot-stays, slot-sends, slot-silent}
 use Rattle.demands.proofs.Carried.{carried-append, carried-alike, carries, carries-none, packet-own, packet-other, of-same, answer-answers, answer-of-none}
 use Rattle.demands.proofs.ByteKeeps.{SameSent, byte-waiting, byte-lists, byte-sent}
-use Rattle.demands.proofs.Events.{samples, event-waiting, event-numbers, event-sent}
+use Rattle.demands.proofs.Events.{gains-sample, event-waiting, event-numbers, event-sent}
 use Rattle.demands.proofs.Soon.{counted, uncounted}
 
 -- ---- a list of which something waits runs
@@ -79,11 +79,10 @@ seen-on {c} {on = on} k r n w x = record {
 -- ---- a list with packets waiting gains none
 no-gain : (s cal meas : List ℕ) (event clock l : ℕ) (p : List ℕ) (ps : List (List ℕ)) → waitingOf s l ≡ p ∷ ps → gains l s (Event cal meas event clock) ≡ []
 no-gain s cal meas event clock l p ps e =
-    cond-ind (λ (x : List (List ℕ)). x ≡ []) (ltb 1 event) (λ _. refl) (λ _. go (samplingIn (sessionOf s) l event) refl) where
-      go : (c : Sampling) → samplingIn (sessionOf s) l event ≡ c → cond (isSampled c) (sampleOf s l clock cal meas) [] ≡ []
-      go Idle z = refl
-      go Sampled z = absurd (nothing-some p ps (sym (sampled-empty (sessionOf s) l event z) ∙ e))
-      go Missed z = refl
+    cond-ind (λ (x : List (List ℕ)). x ≡ []) (ltb 1 event) (λ _. refl) (λ _. go (takesSample (sessionOf s) event l) refl) where
+      go : (t : Bool) → takesSample (sessionOf s) event l ≡ t → cond t (sampleOf s l clock cal meas) [] ≡ []
+      go true z = absurd (nothing-some p ps (sym (sampled-empty (sessionOf s) l event (sampled-if (sessionOf s) (listed s) event l z)) ∙ e))
+      go false z = refl
 
 event-seen : (c : Session) (s cal meas : List ℕ) (event clock l on : ℕ) (last : Bool) (p : List ℕ) (ps : List (List ℕ)) → Seen c l on last (p ∷ ps) s
     → Seen c l on last (p ∷ ps) (eventOf s cal meas event clock .state)
@@ -245,12 +244,12 @@ module _ (s : List ℕ) (l : ℕ) (cs : List Call) (fit : consistent s ≡ true)
     go (p ∷ ps) e h = let g = proceeds p ps e in leaves-whole (c .lists) (p ∷ ps) (suc (g .0)) (slots cs) (viewOf s .lastAnswer) sent (g .2) (omega arith) (omega (arith, g .1)) h
 
 -- a sample is what then waits
-pub sample-leaves : (s cal meas : List ℕ) (event clock l : ℕ) (cs : List Call) → consistent s ≡ true → event ≤ 1 → samplingIn (sessionOf s) l event ≡ Sampled
+pub sample-leaves : (s cal meas : List ℕ) (event clock l : ℕ) (cs : List Call) → consistent s ≡ true → event ≤ 1 → takesSample (sessionOf s) event l ≡ true
     → Undisturbed ours l (eventOf s cal meas event clock .state) cs → 2 * (sessionOf s .lists * length (sampleOf s l clock cal meas)) ≤ slots cs
     → Begins (sampleOf s l clock cal meas) (packetsIn (sessionOf s) l (frames ours (eventOf s cal meas event clock .state) cs))
 sample-leaves s cal meas event clock l cs fit one x k e =
     let t : List ℕ = eventOf s cal meas event clock .state in
-    let g : waitingOf t l ≡ sampleOf s l clock cal meas = samples s cal meas event clock l fit one x in
+    let g : waitingOf t l ≡ sampleOf s l clock cal meas = gains-sample s cal meas event clock l fit one x in
     let same : SameNumbers (sessionOf s) (sessionOf t) = event-numbers s cal meas event clock fit .0 in
     let h : 2 * (sessionOf t .lists * length (waitingOf t l)) ≤ slots cs = rw (same .lists, g) e in
     subst (λ (ys : List (List ℕ)). Begins (sampleOf s l clock cal meas) ys) (carried-alike (isOf (sessionOf t) l) (isOf (sessionOf s) l) (of-same (sessionOf s) (sessionOf t) same l) (frames ours t cs))

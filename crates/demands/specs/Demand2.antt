@@ -5,13 +5,10 @@ use mathlib.Core.Path.{_≡_}
 use mathlib.Core.Bool.{true}
 use mathlib.Core.List.{List}
 use Rattle.state.specs.State.{consistent}
-use Rattle.model.specs.Model.{byte}
 use Rattle.model.specs.View.{sessionOf}
 use Rattle.demands.specs.Slave.{AnySlave}
 use Rattle.demands.specs.Waiting.{waitingOf, sampleOf}
-use Rattle.model.specs.declared.Sampling.the-variants.{Sampled}
-use Rattle.model.specs.Calls.{samplingIn}
-use Rattle.demands.specs.Runs.{each}
+use Rattle.views.specs.Events.{takesSample}
 use Rattle.demands.specs.AsDefined.{AsDefined}
 use Rattle.demands.specs.Wire.{Wire}
 use Rattle.demands.specs.Keys.{Keys}
@@ -24,6 +21,6 @@ pub record Demand2 (v : AnySlave) : Type 0 where
   pub locked : CalibrationLocked v
   pub memory : Memory v
   pub keys : Keys v
-  -- the lists that are sampled gain a sample, each byte as the memories lent to this event hold it
-  pub samples : (s cal meas : List ℕ) (event clock l : ℕ) → consistent s ≡ true → event ≤ 1 → samplingIn (sessionOf s) l event ≡ Sampled
+  -- the lists that an event samples gain a sample, each byte as the memories lent to this event hold it
+  pub gainsSample : (s cal meas : List ℕ) (event clock l : ℕ) → consistent s ≡ true → event ≤ 1 → takesSample (sessionOf s) event l ≡ true
       → waitingOf (v .event s cal meas event clock .state) l ≡ sampleOf s l clock cal meas

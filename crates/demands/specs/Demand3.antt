@@ -8,11 +8,10 @@ use lib.ListN.{length}
 use Rattle.line.specs.Message.{most, room, frame}
 use Rattle.state.specs.Layout.{placeAt, answerAt}
 use Rattle.state.specs.State.{consistent}
-use Rattle.model.specs.Calls.{samplingIn}
 use Rattle.model.specs.Model.{hasAnswer}
 use Rattle.model.specs.View.{sessionOf, viewOf}
 use Rattle.words.specs.declared.Received.the-variants.{Answered, Unread}
-use Rattle.model.specs.declared.Sampling.the-variants.{Sampled}
+use Rattle.views.specs.Events.{takesSample}
 use Rattle.demands.specs.Slave.{AnySlave}
 use Rattle.demands.specs.Runs.{Call, Byte, Event, SendingSlot, Elsewhere, afterCall, run, frames, sends, slots, received}
 use Rattle.demands.specs.Heard.{packetEnded, answerTo, stopsAt}
@@ -76,7 +75,7 @@ NextBy bound v =
 -- a captured sample of p packets leaves whole by the counted slot `bound L p`, unless its list is stopped or freed or its session ends or is renewed
 abbrev pub SampledBy : (ℕ → ℕ → ℕ) → AnySlave → Type 0
 SampledBy bound v =
-    (s cal meas : List ℕ) (event clock l : ℕ) (cs : List Call) → consistent s ≡ true → event ≤ 1 → samplingIn (sessionOf s) l event ≡ Sampled
+    (s cal meas : List ℕ) (event clock l : ℕ) (cs : List Call) → consistent s ≡ true → event ≤ 1 → takesSample (sessionOf s) event l ≡ true
     → Undisturbed v l (v .event s cal meas event clock .state) cs → bound (sessionOf s .lists) (length (sampleOf s l clock cal meas)) ≤ slots cs
     → Begins (sampleOf s l clock cal meas) (packetsIn (sessionOf s) l (frames v (v .event s cal meas event clock .state) cs))
 

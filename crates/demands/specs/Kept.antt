@@ -5,9 +5,8 @@ use mathlib.Core.Bool.{true, cond}
 use mathlib.Core.List.{List, [], _∷_, _++_}
 use lib.Dec.{ltb}
 use Rattle.state.specs.State.{consistent}
-use Rattle.model.specs.Calls.{samplingIn}
-use Rattle.model.specs.Whole.{isSampled}
 use Rattle.model.specs.View.{sessionOf, viewOf}
+use Rattle.views.specs.Events.{takesSample}
 use Rattle.words.specs.declared.Received.{Received}
 use Rattle.words.specs.declared.Received.the-variants.{Nothing, Answered, Silent, BadLength, BadEscape, BadChecksum, Unread, CutOff, NoState}
 use Rattle.demands.specs.Slave.{AnySlave}
@@ -39,7 +38,7 @@ accepted v s cs = each (accepts v) v s cs
 -- list l gains a sample at an event alone
 abbrev pub gains : ℕ → List ℕ → Call → List (List ℕ)
 gains l s (Byte cal meas b) = []
-gains l s (Event cal meas event clock) = cond (ltb 1 event) [] (cond (isSampled (samplingIn (sessionOf s) l event)) (sampleOf s l clock cal meas) [])
+gains l s (Event cal meas event clock) = cond (ltb 1 event) [] (cond (takesSample (sessionOf s) event l) (sampleOf s l clock cal meas) [])
 gains l s (SendingSlot out) = []
 gains l s Elsewhere = []
 

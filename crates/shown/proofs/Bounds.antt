@@ -9,10 +9,8 @@ use lib.ListN.{length, getD}
 use Rattle.line.proofs.Laws.{cond-ind}
 use Rattle.line.proofs.Stuffed.{false-true}
 use Rattle.state.specs.State.{consistent}
-use Rattle.model.specs.Calls.{samplingIn}
 use Rattle.model.specs.View.{sessionOf}
-use Rattle.model.specs.declared.Sampling.{Sampling}
-use Rattle.model.specs.declared.Sampling.the-variants.{Sampled}
+use Rattle.views.specs.Events.{takesSample}
 use Rattle.demands.specs.Slave.{AnySlave, ours}
 use Rattle.demands.specs.Runs.{Call, Byte, Event, SendingSlot, Elsewhere, afterCall, frames, slots}
 use Rattle.demands.specs.Heard.{stopsAt}
@@ -47,7 +45,7 @@ numberIn f = getD (packetRead f) 0 0
 record Known : Type 0 where
   sound : Bool
   present : ℕ
-  sampling : Sampling
+  sampling : Bool
   sample : List (List ℕ)
   next : Bool
   still-present : ℕ
@@ -66,7 +64,7 @@ known s =
     record {
       sound = consistent s;
       present = sessionOf s .lists;
-      sampling = samplingIn (sessionOf s) 3 0;
+      sampling = takesSample (sessionOf s) 0 3;
       sample = sampleOf s 3 1 [] (6 ∷ []);
       next = consistent (sampledAgain s);
       still-present = sessionOf (sampledAgain s) .lists;
@@ -93,7 +91,7 @@ expected =
     record {
       sound = true;
       present = 4;
-      sampling = Sampled;
+      sampling = true;
       sample = first ∷ second ∷ [];
       next = true;
       still-present = 4;
@@ -165,7 +163,7 @@ list-3-eighth = order-known (reached ours fourLists) computes
 
 -- sixteen are enough for a sample: all that is asked of such a run holds of this one, and it sends the whole sample
 sixteen-known : (s : List ℕ) → known s ≡ expected
-    → (consistent s ≡ true) × (samplingIn (sessionOf s) 3 0 ≡ Sampled) × Undisturbed ours 3 (sampledAgain s) sixteen × (slots sixteen ≡ 16)
+    → (consistent s ≡ true) × (takesSample (sessionOf s) 0 3 ≡ true) × Undisturbed ours 3 (sampledAgain s) sixteen × (slots sixteen ≡ 16)
     × (packetsIn (sessionOf s) 3 (frames ours (sampledAgain s) sixteen) ≡ sampleOf s 3 1 [] (6 ∷ []))
 unfolding known expected
 sixteen-known s k = (
@@ -176,7 +174,7 @@ sixteen-known s k = (
   ap (λ x. x .late) k ∙ sym (ap (λ x. x .sample) k),
 )
 
-pub sixteen-are : (consistent (reached ours fourLists) ≡ true) × (samplingIn (sessionOf (reached ours fourLists)) 3 0 ≡ Sampled)
+pub sixteen-are : (consistent (reached ours fourLists) ≡ true) × (takesSample (sessionOf (reached ours fourLists)) 0 3 ≡ true)
     × Undisturbed ours 3 (sampledAgain (reached ours fourLists)) sixteen × (slots sixteen ≡ 16)
     × (packetsIn (sessionOf (reached ours fourLists)) 3 (frames ours (sampledAgain (reached ours fourLists)) sixteen) ≡ sampleOf (reached ours fourLists) 3 1 [] (6 ∷ []))
 sixteen-are = sixteen-known (reached ours fourLists) computes

@@ -1,6 +1,7 @@
 -- Each wrong slave fails the demand that is to shut it out: one run of it is computed. Assumes nothing.
 use Prim.Native.Nat.{ℕ, _+_, _-_, _≤_, _<_}
 use mathlib.Core.Path.{_≡_, refl, ap, sym, _∙_, subst}
+use mathlib.Core.Logic.{_≢_}
 use mathlib.Core.Bool.{Bool, true, false, cond}
 use mathlib.Core.Option.{Option, none, some}
 use mathlib.Core.List.{List, [], _∷_, _++_}
@@ -25,7 +26,7 @@ use Rattle.words.specs.declared.Mta.the-variants.{Unset, At}
 use Rattle.model.specs.Calls.{turnIn, packetFor}
 use Rattle.model.specs.Model.{byte, hasAnswer}
 use Rattle.model.specs.View.{sessionOf, viewOf}
-use Rattle.views.specs.Commands.{Obeys}
+use Rattle.views.specs.Commands.{Part, TheGenerator, TheWrongKeys, Whether-open, TheLocks, TheSeed, TheMta, ThePointer, Whether-freed, HowManyLists, TheRound, TheLists, Obeys}
 use Rattle.demands.specs.Slave.{AnySlave}
 use Rattle.demands.specs.Runs.{Byte, Event, SendingSlot}
 use Rattle.demands.specs.Heard.{packetEnded}
@@ -36,6 +37,7 @@ use Rattle.demands.specs.Memory.{WritesTo, byDownload, byShortDownload, ReadsFr
 use Rattle.demands.specs.Demand3.{Demand3}
 use Rattle.demands.specs.Obeyed.{Obeyed}
 use Rattle.demands.specs.Checked.{Checked}
+use Rattle.demands.specs.Shows.{Shows}
 use Rattle.demands.specs.StaysShut.{StaysShut}
 use Rattle.shown.specs.Wrong.{refusesAlways, silent, onlyConnects, alwaysFF, storesNothing, obeysDamaged, readsEscaped, allAtOnce, slotsUpTo, sumsEscaped, neverSamples, inventsCounts, inventsMissed, stampsEach, keepsFreed, beginsBehind, movesAfterRefusal, leavesMta, loadLeavesMta, loadsAtMta, readsLate, opensBoth, connectClears, shutsFirst}
 use Rattle.shown.specs.Exchange.{slot, says, asks, askAll, begun, lastByte, device, answering, reached, connect, synch, seedOfCalibration, keyOfCalibration, tries, mtaTo, upload, uploadFirst, downloadOne, downloadFirst, downloading, uploading, pair, loadingFirst, fetchingFirst, readingOn, listable, freeLists, allocLists, allocEntries, measuring, freedAgain}
@@ -43,11 +45,10 @@ use Rattle.shown.proofs.Computed.{computed, told}
 use Rattle.shown.proofs.Taken.{low, asked, heardSo, done-so, refused-so, took, takenSo, left, taken-so}
 
 -- CONNECT is answered FE
-pub refusesAlways-fails : Demand2 refusesAlways → ⊥
+pub refusesAlways-fails : Checked refusesAlways → ⊥
 unfolding computed
 refusesAlways-fails d =
-    let e : _≡_ {A = ℕ} 0xFE 0xFF = ap (λ o. getD (viewOf (o .state) .answer) 0 0) (d .asDefined .reads (reached refusesAlways (begun [] [] connect)) [] [] (lastByte connect) refl)
-    in omega arith
+    let e : _≡_ {A = ℕ} 0xFE 0xFF = d .connects (reached refusesAlways (begun [] [] connect)) [] [] (lastByte connect) connect refl refl refl refl refl (lit≤ tt) refl in omega arith
 
 -- CONNECT is answered, and SYNCH is not
 pub silent-fails : Demand3 silent → ⊥
@@ -178,23 +179,23 @@ sumsEscaped-fails d =
 pub neverSamples-fails : Demand2 neverSamples → ⊥
 unfolding computed
 neverSamples-fails d =
-    let e : _≡_ {A = ℕ} 0 2 = ap length (d .samples (reached neverSamples (measuring (5 ∷ []))) [] (5 ∷ []) 0 0 0 refl (lit≤ tt) refl) in omega arith
+    let e : _≡_ {A = ℕ} 0 2 = ap length (d .gainsSample (reached neverSamples (measuring (5 ∷ []))) [] (5 ∷ []) 0 0 0 refl (lit≤ tt) refl) in omega arith
 
 -- no list runs, and one is said to be sampled
-pub inventsCounts-fails : Demand2 inventsCounts → ⊥
+pub inventsCounts-fails : Shows inventsCounts → ⊥
 unfolding computed
-inventsCounts-fails d = let e : _≡_ {A = ℕ} 256 0 = ap eventedValue (d .asDefined .counts (powered 1) [] [] 0 0 refl (lit≤ tt)) in omega arith
+inventsCounts-fails d = let e : _≡_ {A = ℕ} 256 0 = ap eventedValue (d .samples (powered 1) [] [] 0 0 refl (lit≤ tt) .told) in omega arith
 
 -- and one missed
-pub inventsMissed-fails : Demand2 inventsMissed → ⊥
+pub inventsMissed-fails : Shows inventsMissed → ⊥
 unfolding computed
-inventsMissed-fails d = let e : _≡_ {A = ℕ} 1 0 = ap eventedValue (d .asDefined .counts (powered 1) [] [] 0 0 refl (lit≤ tt)) in omega arith
+inventsMissed-fails d = let e : _≡_ {A = ℕ} 1 0 = ap eventedValue (d .samples (powered 1) [] [] 0 0 refl (lit≤ tt) .told) in omega arith
 
 -- list 0 is sampled, and the packet of its second ODT has two bytes more
 pub stampsEach-fails : Demand2 stampsEach → ⊥
 unfolding computed
 stampsEach-fails d =
-    let e : _≡_ {A = ℕ} 4 2 = ap (λ ps. length (getD ps 1 [])) (d .samples (reached stampsEach (measuring (5 ∷ []))) [] (5 ∷ []) 0 0 0 refl (lit≤ tt) refl) in omega arith
+    let e : _≡_ {A = ℕ} 4 2 = ap (λ ps. length (getD ps 1 [])) (d .gainsSample (reached stampsEach (measuring (5 ∷ []))) [] (5 ∷ []) 0 0 0 refl (lit≤ tt) refl) in omega arith
 
 -- ---- the pool
 -- one entry is written and freed; then 128 are answered FE 30, though no check applies
@@ -204,12 +205,36 @@ keepsFreed-fails d =
     let p : List ℕ = allocEntries 0 0 128 in
     let e : _≡_ {A = ℕ} 0xFE 0xFF = done-so keepsFreed (reached keepsFreed (freedAgain ++ begun [] [] p)) [] p none (0xFE ∷ 0x30 ∷ []) refl refl d in omega arith
 
+-- one part of a session is not another
+part-number : Part → ℕ
+part-number TheGenerator = 0
+part-number TheWrongKeys = 1
+part-number Whether-open = 2
+part-number TheLocks = 3
+part-number TheSeed = 4
+part-number TheMta = 5
+part-number ThePointer = 6
+part-number Whether-freed = 7
+part-number HowManyLists = 8
+part-number TheRound = 9
+part-number TheLists = 10
+
+round-not-many : TheRound ≢ HowManyLists
+unfolding part-number
+round-not-many e = let n : _≡_ {A = ℕ} 9 8 = ap part-number e in omega arith
+
+round-not-lists : TheRound ≢ TheLists
+unfolding part-number
+round-not-lists e = let n : _≡_ {A = ℕ} 9 10 = ap part-number e in omega arith
+
 -- after FREE_DAQ two lists are allocated, and the round begins with the second
-pub beginsBehind-fails : Demand2 beginsBehind → ⊥
-unfolding computed
+pub beginsBehind-fails : Obeys (Obeyed beginsBehind) → ⊥
+unfolding computed low took takenSo
 beginsBehind-fails d =
-    let s : List ℕ = reached beginsBehind (listable ++ (asks [] [] freeLists ++ begun [] [] (allocLists 2))) in
-    let e : _≡_ {A = ℕ} 1 0 = ap (λ o. sessionOf (o .state) .round) (d .asDefined .reads s [] [] (lastByte (allocLists 2)) refl) in omega arith
+    let p : List ℕ = allocLists 2 in
+    let s : List ℕ = reached beginsBehind (listable ++ (asks [] [] freeLists ++ begun [] [] p)) in
+    let law = d .allocDaq p (sessionOf s) [] [] (left beginsBehind s [] p) (taken-so beginsBehind s [] p (lit< tt) refl) refl refl in
+    let e : _≡_ {A = ℕ} 1 0 = law .rest TheRound round-not-many round-not-lists in omega arith
 
 -- ---- slips
 -- refused for want of memory, UPLOAD of 1 moves the MTA from 0 to 1

@@ -120,7 +120,7 @@ the-62 : (v : AnySlave) (s cal meas : List ℕ) (b : ℕ) (d : Deed) → Demand2
 unfolding standing ready
 the-62 v s cal meas b d meets e long j =
     let c : consistent s ≡ true = ap (λ x. x .sound) e in
-    meets .reads s cal meas b c ∙ sym (received-by s cal meas b c)
+    meets .asDefined .reads s cal meas b c ∙ sym (received-by s cal meas b c)
     ∙ commanded s cal meas b (download 62) c (record { ends = ap (λ x. x .ended) e; opened = ap (λ x. x .opened) e; free = ap (λ x. x .waiting) e })
     ∙ ap (λ x. obeyed x (download 62) (readBy s b) cal meas) (subst (λ n. judgeIn (download 62) (sessionOf s) n (length meas) ≡ d) (sym long) (j (length meas)))
 

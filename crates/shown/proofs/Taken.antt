@@ -64,11 +64,11 @@ module _ (v : AnySlave) (s cal p : List ℕ) (f : Option ℕ) (a : List ℕ) (k 
   -- so its answer is what the table of checks says
   pub done-so : f ≡ none → Checked v → byte a 0 ≡ 0xFF
   unfolding asked heardSo
-  done-so e d = subst (λ (xs : List ℕ). byte xs 0 ≡ 0xFF) (ap (λ x. x .answer) k) (d s cal [] (lastByte p) p (ap (λ x. x .sound) k) heard-so .done (ap (λ x. x .fault) k ∙ e))
+  done-so e d = subst (λ (xs : List ℕ). byte xs 0 ≡ 0xFF) (ap (λ x. x .answer) k) (d .answers s cal [] (lastByte p) p (ap (λ x. x .sound) k) heard-so .done (ap (λ x. x .fault) k ∙ e))
 
   pub refused-so : (code : ℕ) → f ≡ some code → Checked v → a ≡ refusal (byte p 0) code
   unfolding asked heardSo
-  refused-so code e d = sym (ap (λ x. x .answer) k) ∙ d s cal [] (lastByte p) p (ap (λ x. x .sound) k) heard-so .refused code (ap (λ x. x .fault) k ∙ e)
+  refused-so code e d = sym (ap (λ x. x .answer) k) ∙ d .answers s cal [] (lastByte p) p (ap (λ x. x .sound) k) heard-so .refused code (ap (λ x. x .fault) k ∙ e)
 
 -- ---- it is taken: number 1, in a state of bytes
 pub record Took : Type 0 where

@@ -62,12 +62,15 @@ module _ (c : Session) (listed : Listed c) (number : ℕ) where
   total-is f g e zero = refl
   total-is f g e (suc n) = ap₂ (λ (k : ℕ) (t : Bool). k + cond t 1 0) (total-is f g e n) (e n)
 
-  sampled-is : (l : ℕ) → isSampled (samplingIn c l number) ≡ takesSample c number l
+  pub sampled-is : (l : ℕ) → isSampled (samplingIn c l number) ≡ takesSample c number l
   sampled-is l = ap isSampled (sampling-is l) ∙ go (takesSample c number l) (missesSample c number l) where
     go : (t m : Bool) → isSampled (cond t Sampled (cond m Missed Idle)) ≡ t
     go true m = refl
     go false true = refl
     go false false = refl
+
+  pub sampled-if : (l : ℕ) → takesSample c number l ≡ true → samplingIn c l number ≡ Sampled
+  sampled-if l t = sampling-is l ∙ ap (λ (b : Bool). cond b Sampled (cond (missesSample c number l) Missed Idle)) t
 
   missed-is : (l : ℕ) → isMissed (samplingIn c l number) ≡ missesSample c number l
   missed-is l = ap isMissed (sampling-is l) ∙ go (onEvent c number l) (stillUnsent (c .list l)) where
