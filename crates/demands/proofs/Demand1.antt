@@ -11,13 +11,12 @@ use mathlib.Core.List.{List}
 use native.Mathlib.Omega.{arith}
 use borrow.Author.Tests.{lt-ltb, le-ltb, eq-eqb, ne-eqb}
 use lib.Dec.{eqb, ltb, lit≤, T}
-use lib.ListN.{length, getD, replicate}
+use lib.ListN.{length, getD}
 use Rattle.line.specs.Message.{most, room}
 use Rattle.line.specs.Writer.{Sent, writeOf}
 use Rattle.line.proofs.Laws.{cond-ind}
 use Rattle.line.proofs.Stuffed.{false-true}
-use Rattle.state.specs.Layout.{placeAt, answerAt, size, sessionAt, sessionSize}
-use Rattle.state.specs.Bytes.{cleared}
+use Rattle.state.specs.Layout.{placeAt, answerAt, size, sessionAt}
 use Rattle.state.specs.State.{consistent, countedWrong, ctrOf, closed, answerOf}
 use Rattle.model.specs.Model.{byte}
 use Rattle.model.specs.View.{sessionOf, viewOf}
@@ -78,14 +77,6 @@ only-both : {lo hi : ℕ} {s t : List ℕ} (i : ℕ) (xs : List ℕ) → Only lo
 only-both {lo} {hi} {s} {t} i xs w = record { long = simp (length-sets, w .long); bytes = λ j o. same-sets {s = s} {t = t} i xs (one j o) .byte j (omega arith) (omega arith) } where
   one : (j : ℕ) → T (outside lo hi j) → Same j (j + 1) s t
   one j o = record { long = w .long; byte = λ k p q. let e : j ≡ k = omega arith in subst (λ (m : ℕ). getD t m 0 ≡ getD s m 0) e (w .bytes j o) }
-
-only-back : {lo hi : ℕ} {s t : List ℕ} → Only lo hi s t → Only lo hi t s
-only-back w = record { long = sym (w .long); bytes = λ j o. sym (w .bytes j o) }
-
--- what is alike outside the reader and the answer is so closed too
-closed-alike : {s t : List ℕ} → Only placeAt sessionAt s t → Only placeAt sessionAt (closed s) (closed t)
-unfolding closed cleared
-closed-alike w = only-both sessionAt (replicate sessionSize 0) w
 
 -- but for the answer a wrong key leaves the closed session with itself counted
 wrong-only : (t cal meas : List ℕ) → Only answerAt sessionAt (countedWrong (closed t)) (after WrongKey t cal meas)

@@ -2,7 +2,6 @@
 use Prim.Native.Nat.{ℕ, zero, suc, _+_, _%_, _/_, _≤_, _<_}
 use mathlib.Core.Path.{_≡_, refl, sym, ap, subst, _∙_}
 use mathlib.Core.Logic.{_≢_}
-use mathlib.Core.Bool.{true}
 use mathlib.Core.List.{List, [], _∷_, _++_}
 use native.Mathlib.Nat.{add-zero, min-le-left, min-le-right}
 use native.Mathlib.Omega.{arith}
@@ -10,18 +9,11 @@ use borrow.Author.Tests.{eqb-true, eqb-false, eq-eqb, ne-eqb, lt-ltb, le-ltb}
 use lib.Dec.{eqb}
 use lib.ListN.{length, length-append, List·getD-append}
 use lib.Seq.{getD-append-add}
-use Rattle.state.specs.Layout.{events, addressable}
+use Rattle.state.specs.Layout.{addressable}
 use Rattle.state.specs.Memory.{pick, reach, byteOf, bytesOf}
-use Rattle.state.specs.State.{consistent}
-use Rattle.lists.specs.Event.{eventOf}
 use Rattle.lists.proofs.Gathered.{bytes-length}
-use Rattle.model.specs.declared.Sampling.{Sampling}
-use Rattle.model.specs.declared.Sampling.the-variants.{Sampled}
-use Rattle.model.specs.Model.{byte, Entry, Odt, DaqList, Session}
-use Rattle.model.specs.Calls.{samplingIn, blockIn, blocksIn, leadOf, contentsIn, sampled}
-use Rattle.model.specs.Whole.{sampledAs}
-use Rattle.views.proofs.Happening.{event-session}
-use Rattle.model.specs.View.{sessionOf}
+use Rattle.model.specs.Model.{byte, Entry, Odt, DaqList}
+use Rattle.model.specs.Calls.{blockIn, blocksIn, leadOf, contentsIn, sampled}
 use Rattle.model.proofs.Bounded.{either}
 use Rattle.views.specs.Commands.{memoryOf}
 use Rattle.views.specs.Samples.{leadSize, sizesBefore, ReadAs, Captured, Samples}
@@ -119,11 +111,3 @@ contents-from o clock cal meas y =
 -- ---- a list sampled
 pub samples-from : (clock : ℕ) (cal meas : List ℕ) (x : DaqList) → Samples clock cal meas x (sampled clock cal meas x)
 samples-from clock cal meas x o h = subst (Captured o clock cal meas (x .odt o)) (sym (rw (lt-ltb o (x .odts) h))) (contents-from o clock cal meas (x .odt o))
-
--- ---- of the bytes: what an event leaves in the stores of a list that it samples
-pub event-samples : (s cal meas : List ℕ) (event clock l : ℕ) → consistent s ≡ true → event < events → samplingIn (sessionOf s) l event ≡ Sampled
-    → Samples clock cal meas (sessionOf s .list l) (sessionOf (eventOf s cal meas event clock .state) .list l)
-unfolding sampledAs
-event-samples s cal meas event clock l c h e =
-    let x : DaqList = sessionOf s .list l in
-    subst (Samples clock cal meas x) (sym (ap (λ (d : Session). d .list l) (event-session s cal meas event clock c h) ∙ ap (λ (y : Sampling). sampledAs y clock cal meas x) e)) (samples-from clock cal meas x)
