@@ -1,8 +1,6 @@
 -- Our slave meets the first demand: any bytes get a defined outcome, and a refusal leaves what it should. Assumes nothing.
-use lib.Seq.{sets, length-sets}
-use Rattle.fields.proofs.Stores.{out as outside}
 use Prim.{tt}
-use Prim.Native.Nat.{ℕ, _≤_, _<_, _+_}
+use Prim.Native.Nat.{ℕ, _≤_, _<_}
 use mathlib.Core.Path.{_≡_, refl, sym, ap, subst, _∙_}
 use mathlib.Core.Logic.{_≢_}
 use mathlib.Core.Bool.{true, false}
@@ -10,8 +8,8 @@ use mathlib.Core.Option.{Option}
 use mathlib.Core.List.{List}
 use native.Mathlib.Omega.{arith}
 use borrow.Author.Tests.{lt-ltb, le-ltb, eq-eqb, ne-eqb}
-use lib.Dec.{eqb, ltb, lit≤, T}
-use lib.ListN.{length, getD}
+use lib.Dec.{eqb, ltb, lit≤}
+use lib.ListN.{length}
 use Rattle.line.specs.Message.{most, room}
 use Rattle.line.specs.Writer.{Sent, writeOf}
 use Rattle.line.proofs.Laws.{cond-ind}
@@ -34,7 +32,6 @@ use Rattle.model.specs.declared.Turn.{Turn}
 use Rattle.model.specs.declared.Turn.the-variants.{Nobody, Answer, Packet}
 use Rattle.fields.proofs.Effects.{answering}
 use Rattle.fields.proofs.Frames.{Only, only-then, only-wider, only-answered}
-use Rattle.fields.proofs.Readers.{Same}
 use Rattle.fields.proofs.Kept.{receive-kept, event-kept, slot-kept, power-up-consistent}
 use Rattle.demands.specs.Slave.{ours}
 use Rattle.demands.specs.Heard.{readBy, Commands, wrongKey, wrongKeyIn, wrongKeyAt}
@@ -45,7 +42,7 @@ use Rattle.demands.specs.Demand1.{Demand1}
 use Rattle.demands.proofs.Judged.{Found}
 use Rattle.demands.proofs.ReadBy.{read-only}
 use Rattle.demands.proofs.Received.{Does, Reads, rests, acts, received, commanded, read-can, done-answer}
-use Rattle.demands.proofs.Unchanged.{all-but, same-sets}
+use Rattle.demands.proofs.Unchanged.{all-but}
 use Rattle.demands.proofs.Refusals.{Idles, refusal, wrong-judged}
 use Rattle.demands.proofs.Life.{life-kept}
 
@@ -70,13 +67,6 @@ refused-by {s} {cal} {meas} {b} c one fe n (acts d p w) =
     let said : viewOf (after d t cal meas) .answer ≡ replyIn d (sessionOf s) cal meas = done-answer s cal meas b d (length p) c (w .can) in
     let i : Idles d p t cal = refusal d p (sessionOf s) t cal meas (not-wrong s cal meas b d p n w) (sym (ap (λ (l : List ℕ). byte l 0) said) ∙ fe) in
     (all-but (answer-only d s t cal meas (length p) (read-only s b c) (i .state) (read-can s b d (length p) (length cal) (length meas) c (w .can))), i .memory)
-
--- ---- a wrong key
--- the same stores in both leave what differs where it was
-only-both : {lo hi : ℕ} {s t : List ℕ} (i : ℕ) (xs : List ℕ) → Only lo hi s t → Only lo hi (sets s i xs) (sets t i xs)
-only-both {lo} {hi} {s} {t} i xs w = record { long = simp (length-sets, w .long); bytes = λ j o. same-sets {s = s} {t = t} i xs (one j o) .byte j (omega arith) (omega arith) } where
-  one : (j : ℕ) → T (outside lo hi j) → Same j (j + 1) s t
-  one j o = record { long = w .long; byte = λ k p q. let e : j ≡ k = omega arith in subst (λ (m : ℕ). getD t m 0 ≡ getD s m 0) e (w .bytes j o) }
 
 -- but for the answer a wrong key leaves the closed session with itself counted
 wrong-only : (t cal meas : List ℕ) → Only answerAt sessionAt (countedWrong (closed t)) (after WrongKey t cal meas)
