@@ -42,3 +42,4 @@ pub mod Reading
 pub mod Conserved
 pub mod Demand3
 pub mod Shows
+pub mod CallNumbers
