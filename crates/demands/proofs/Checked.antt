@@ -38,5 +38,5 @@ pub ours-checked : Checked ours
 ours-checked = record {
   answers = λ s cal meas b p c w.
       subst (AnswersFirst p (sessionOf s) (length cal) (length meas)) (sym (command-answer s cal meas b p c w)) (answers-first p (sessionOf s) cal meas (listed s));
-  connects = λ s cal meas b p c e closed free code long mode. answered s cal meas b p c e closed free (good-connect p code long mode);
+  connectDone = λ s cal meas b p c e closed free code long mode. answered s cal meas b p c e closed free (good-connect p code long mode);
 }

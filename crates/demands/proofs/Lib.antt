@@ -43,3 +43,6 @@ pub mod Reading
 pub mod Conserved
 pub mod Demand3
 pub mod Shows
+pub mod CallNumbers
+-- All of it, sentence by sentence.
+pub mod Letter

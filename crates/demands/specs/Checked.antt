@@ -18,5 +18,5 @@ pub record Checked (v : AnySlave) : Type 0 where
   pub answers : (s cal meas : List ℕ) (b : ℕ) (p : List ℕ) → consistent s ≡ true → Commands s b p
       → AnswersFirst p (sessionOf s) (length cal) (length meas) (viewOf (v .receive s cal meas b .state) .answer)
   -- without a session CONNECT with no fault is, and is done
-  pub connects : (s cal meas : List ℕ) (b : ℕ) (p : List ℕ) → consistent s ≡ true → packetEnded s b ≡ some p → sessionOf s .opened ≡ false → hasAnswer (viewOf s) ≡ false
+  pub connectDone : (s cal meas : List ℕ) (b : ℕ) (p : List ℕ) → consistent s ≡ true → packetEnded s b ≡ some p → sessionOf s .opened ≡ false → hasAnswer (viewOf s) ≡ false
       → byte p 0 ≡ 0xFF → 2 ≤ length p → byte p 1 ≡ 0 → byte (viewOf (v .receive s cal meas b .state) .answer) 0 ≡ 0xFF

@@ -1,5 +1,5 @@
 -- The customer's letter at a glance: a part for each of its sentences, in its words and order, and one for each of the requests that have landed.
-use Prim.Native.Nat.{ℕ, _*_}
+use Prim.Native.Nat.{_*_}
 use Rattle.views.specs.Commands.{Law, BUILD-CHECKSUM, SHORT-UPLOAD, SHORT-DOWNLOAD, Obeys}
 use Rattle.demands.specs.Slave.{AnySlave}
 use Rattle.demands.specs.Obeyed.{Obeyed}

@@ -1,8 +1,9 @@
--- The customer's three demands, of any slave. `Slave`: what a slave is; `Runs`: calls in any order; `Life`: power-ups among them, and one memory.
--- `Waiting`: what waits, and what a sample is; `Heard`: what a received byte means. `Shows`: what each call shows of the model; `Obeyed`: a command that
--- is heard, over the model; `Checked`: when it is done, and with which code it is refused; `ListsLocked`: what no call changes while lists are locked; `StaysShut`: what three wrong keys come to. `Numbers`: which
--- answers share a number. `Demand1`, `Demand2`, `Demand3`: what the letter demands; `Pool`: that the whole pool can be had; `Ranking`: what the
--- bound of a sample rests on; `Kept`: that nothing is lost and nothing invented; `Tight`: how tight a promise is.
+-- The customer's letter, of any slave. `Slave`: what a slave is; `Runs`: calls in any order; `Life`: power-ups among them, and one memory. `Waiting`: what
+-- waits, and what a sample is; `Heard`: what a received byte means. `Letter`: the letter at a glance, a part for each sentence. Its parts: `Outcomes`,
+-- `CallNumbers`, `Checked` and `Refusals` of the first demand; `Obeyed` and `Shows`, `Memory`, `Keys`, `ListsLocked`, `Wire` and `CalibrationLocked` of the
+-- second; `Kept`: that nothing is lost and nothing invented; `Pool`: that the whole pool can be had; `StaysShut`: what three wrong keys come to. `Demand1`,
+-- `Demand2`, `Demand3`: what is demanded of a slave, with `AsDefined`, from which all else follows; `Ranking`: what the bound of a sample rests on;
+-- `Numbers`: which answers share a number; `Tight`: how tight a promise is.
 pub mod Slave
 pub mod Runs
 pub mod Life
@@ -14,6 +15,7 @@ pub mod Checked
 pub mod ListsLocked
 pub mod StaysShut
 pub mod Numbers
+pub mod CallNumbers
 pub mod Outcomes
 pub mod Refusals
 pub mod AsDefined
@@ -27,4 +29,5 @@ pub mod Demand3
 pub mod Pool
 pub mod Ranking
 pub mod Kept
+pub mod Letter
 pub mod Tight

@@ -48,7 +48,7 @@ use Rattle.shown.proofs.Taken.{low, asked, heardSo, done-so, refused-so
 pub refusesAlways-fails : Checked refusesAlways → ⊥
 unfolding computed
 refusesAlways-fails d =
-    let e : _≡_ {A = ℕ} 0xFE 0xFF = d .connects (reached refusesAlways (begun [] [] connect)) [] [] (lastByte connect) connect refl refl refl refl refl (lit≤ tt) refl in omega arith
+    let e : _≡_ {A = ℕ} 0xFE 0xFF = d .connectDone (reached refusesAlways (begun [] [] connect)) [] [] (lastByte connect) connect refl refl refl refl refl (lit≤ tt) refl in omega arith
 
 -- CONNECT is answered, and SYNCH is not
 pub silent-fails : Demand3 silent → ⊥

@@ -27,6 +27,7 @@ pub mod WrongKeys
 pub mod ListLaws
 pub mod SampleLaws
 pub mod EventLaws
+pub mod OnTheLine
 pub mod Obeys
 pub mod Full
 pub mod FaultWords

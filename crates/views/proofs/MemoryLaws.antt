@@ -157,7 +157,7 @@ four-back x h =
     let e : x % 256 + 256 * (x / 256 % 256) + 65536 * (x / 65536 % 256) + 16777216 * (x / 16777216 % 256) ≡ x = put32-same zeros 0 x (lit≤ tt) h in
     omega arith
 
-sum-from : (mem : List ℕ) (a n : ℕ) → a + n ≤ length mem → sum (block mem a n) ≡ sumFrom mem a n
+pub sum-from : (mem : List ℕ) (a n : ℕ) → a + n ≤ length mem → sum (block mem a n) ≡ sumFrom mem a n
 sum-from mem a zero h = refl
 sum-from mem a (suc n) h = rw (drop-cons mem a 0 (omega arith), add-one a) (ap (λ (m : ℕ). byte mem a + m) (sum-from mem (suc a) n (omega arith)))
 
