@@ -169,7 +169,8 @@ int kept_write(int place, const uint8_t *bytes, size_t count, uint32_t number, u
     memcpy(sector, bytes, count);
     memcpy(sector + SECTOR - 8, &number, 4);
     memcpy(sector + SECTOR - 4, &sum, 4);
-    return pwrite(keeps, sector, sizeof sector, (off_t)place * SECTOR) == SECTOR && fsync(keeps) == 0;
+    return pwrite(keeps, sector, sizeof sector, (off_t)place * SECTOR) == SECTOR &&
+           fsync(keeps) == 0;
 }
 
 uint32_t number_that_differs(void)

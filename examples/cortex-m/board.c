@@ -7,7 +7,7 @@
 #include "mps2.h"
 
 enum { BAUD = 38400, BITS = 10 /* start, eight, stop */, WEIGHING = 10 /* milliseconds */ };
-enum { PATIENCE = 10 /* seconds */, TRIGGER = 16 /* milliseconds */ };
+enum { PATIENCE = 5 /* seconds */, TRIGGER = 16 /* milliseconds */ };
 
 static volatile uint32_t milliseconds;
 static uint32_t weighing_at;
