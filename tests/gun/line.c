@@ -117,9 +117,9 @@ static size_t undone(uint8_t message[MESSAGE])
 /* Takes that frame, which must be right; gives the packet's length. */
 static size_t take_frame(uint8_t packet[PACKET])
 {
-    uint8_t message[MESSAGE], sum = 0;
-    size_t size_of_it = undone(message), len = message[0];
-    if (size_of_it == 0)
+    uint8_t message[MESSAGE] = {0}, sum = 0;
+    size_t taken = undone(message), len = message[0];
+    if (taken == 0)
         return 0;
     for (size_t i = 0; i < len + 2 && i + 1 < MESSAGE; i++)
         sum = (uint8_t)(sum + message[i]);
@@ -130,8 +130,8 @@ static size_t take_frame(uint8_t packet[PACKET])
     }
     insist("a frame's CTR", from_host, message[1]);
     from_host++;
-    heard_count -= size_of_it;
-    memmove(heard, heard + size_of_it, heard_count);
+    heard_count -= taken;
+    memmove(heard, heard + taken, heard_count);
     memcpy(packet, message + 2, len);
     return len;
 }
