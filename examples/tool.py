@@ -1,6 +1,6 @@
 """A setting tool at the controller of host.c: it unlocks, allocates the one long list of a weighing gun and the eight short ones
 of a trough reader, writes the unit byte, reads it back while samples pour out, loads a drug table, and leaves all as it was. Then
-a script tries keys until the controller stays shut, and the power switch opens it.
+a script tries keys until the controller stays shut, and the power switch opens it. What a tool wrote outlives the next switch.
 
     tool.py HOST WORDS...                   runs the host by these words, which names its line first, and talks to it
     tool.py --port DEVICE [--baud N]        talks to a controller at a serial port of this computer; no script is let near
@@ -9,10 +9,13 @@ a script tries keys until the controller stays shut, and the power switch opens 
 Each packet that comes is checked. Ends with 0 if all were right; else with a line that says what was not.
 """
 import argparse
+import os
 import re
 import select
 import subprocess
 import sys
+import tempfile
+import time
 
 from wire import PATIENCE, Wire, Wrong, hexed
 
@@ -36,6 +39,10 @@ ATTEMPTS = 50
 def words(who, what, packet, more=""):
     shown = hexed(packet) if len(packet) <= 8 else hexed(packet[:7]) + " .."
     print(f"{who:7} {what:34} {shown:24}{more}".rstrip())
+
+
+def explain(word, meaning):
+    print(f"        ({word}: {meaning})")
 
 
 def connected(packet):
@@ -244,6 +251,8 @@ def pour(tool):
 def one_long_list(tool):
     """A weighing gun's: all ODTs of the pool in one list, whose packets are all of the same weighing."""
     print("tool    wants one long list, as for a weighing gun")
+    explain("list", "what the slave samples together, at one moment")
+    explain("ODT", "what one packet of a list carries; short for object descriptor table")
     free(tool)
     allocate(tool, 1, POOL_ODTS)
     pour(tool)
@@ -350,7 +359,8 @@ def exchange(tool):
     other = 1 - found
     tool.unlock(CALIBRATION, LISTS)
     tool.unlock(LISTS, 0)
-    print("tool    unlocks both resources")
+    print("tool    unlocks both resources, settings and lists, each by the key to a seed")
+    explain("seed", "a number that the slave gives for this once, and from which the tool reckons the key")
     one_long_list(tool)
     eight_short_lists(tool)
     write_unit(tool, other)
@@ -405,15 +415,23 @@ def find_open(tool):
     tool.show("disconnects", "FE")
 
 
-class Gun:
-    """A host that is run for the tool, with a power switch."""
+def find_kept(tool):
+    tool.connect()
+    read_dose(tool, OTHER_DOSE, "kept")
+    tool.show("disconnects", "FE")
 
-    def __init__(self, host):
-        self.words, self.host = host, None
+
+class Gun:
+    """A host that is run for the tool, with a power switch. The host of board.c keeps its settings in a file that is named to
+    it; one that makes no such file keeps nothing."""
+
+    def __init__(self, host, kept):
+        self.words, self.host, self.kept = host, None, kept
 
     def switch_on(self):
         """The name of its line, which the host prints alone, and an emulator with a sentence around it."""
-        self.host = subprocess.Popen(self.words, stdin=subprocess.DEVNULL, stdout=subprocess.PIPE, text=True)
+        self.host = subprocess.Popen(self.words, stdin=subprocess.DEVNULL, stdout=subprocess.PIPE, text=True,
+                                     env={**os.environ, "GUN_KEEPS": self.kept})
         ready, _, _ = select.select([self.host.stdout], [], [], PATIENCE)
         name = re.search(r"/dev/\S+", self.host.stdout.readline()) if ready else None
         if not name:
@@ -427,6 +445,24 @@ class Gun:
             self.host.stdout.close()
 
 
+    def has_kept(self):
+        """Whether it keeps settings; if so, waits until it has: it does that once the session has ended."""
+        if not os.path.exists(self.kept):
+            return False
+        until = time.monotonic() + PATIENCE
+        while os.path.getsize(self.kept) == 0:
+            if time.monotonic() > until:
+                raise Wrong("the host has not kept what was written")
+            time.sleep(0.01)
+        return True
+
+
+def switch(tool, gun):
+    gun.switch_off()
+    tool.plug_in(gun.switch_on())
+    print("gun     is switched off and on")
+
+
 def talk_at_port(options):
     tool = Tool(options.port, options.baud, started=False)
     exchange(tool)
@@ -434,18 +470,20 @@ def talk_at_port(options):
 
 
 def talk_to_host(options):
-    gun = Gun(options.host)
-    try:
-        tool = Tool(gun.switch_on())
-        exchange(tool)
-        try_keys(tool)
-        find_shut(tool)
-        gun.switch_off()
-        tool.plug_in(gun.switch_on())
-        print("gun     is switched off and on")
-        find_open(tool)
-    finally:
-        gun.switch_off()
+    with tempfile.TemporaryDirectory() as folder:
+        gun = Gun(options.host, os.path.join(folder, "kept"))
+        try:
+            tool = Tool(gun.switch_on())
+            exchange(tool)
+            try_keys(tool)
+            find_shut(tool)
+            switch(tool, gun)
+            find_open(tool)
+            if gun.has_kept():
+                switch(tool, gun)
+                find_kept(tool)
+        finally:
+            gun.switch_off()
     return tool
 
 
@@ -470,4 +508,5 @@ def main():
         sys.exit(1)
 
 
-main()
+if __name__ == "__main__":
+    main()

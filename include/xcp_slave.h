@@ -3,14 +3,18 @@
  *
  * The slave keeps no memory of its own and calls nothing. Each call is lent what it works on, for
  * that call only: the state, the two memories, the room for a frame. Another address at the next
- * call is fine, and so are a memory of another length, any alignment, and NULL with length 0. (Code
- * for a Cortex-M4 uses words at odd addresses; where these are trapped, build with UNALIGNED=no.)
+ * call is fine (a copy of a state is a slave too), and so are a memory of another length, any
+ * alignment, and NULL with length 0. (Code for a Cortex-M4 uses words at odd addresses; where these
+ * are trapped, build with UNALIGNED=no.)
  *
  * What a host owes, because no call can test it:
  *  - Every pointer and length name real memory, and no two slices of one call overlap.
- *  - No call begins while another on the same state runs, and nothing else (an interrupt, DMA, a
- *    second core) writes lent bytes meanwhile. Let the receive interrupt only fill a ring buffer
- *    that the main loop drains, as below; or mask that interrupt around every other call.
+ *  - No call begins while another on the same state runs. An interrupt may make calls only if it is
+ *    masked around every other one; let it fill a ring buffer instead, which the main loop drains.
+ *  - While a call runs, nothing else (an interrupt, DMA, a second core) writes what it was lent,
+ *    nor reads what it may write: the state, the room, and in xcp_receive_byte cal. What an
+ *    interrupt reads of cal it reads from a copy that the main loop makes between calls, or it is
+ *    masked around each call.
  * All else may be anything: every call has a defined outcome, and each refusal its number (below).
  *
  * Seed and key are a guard against mistakes. They are no security: who listens can compute the key.
@@ -21,31 +25,22 @@
  * takes more than that. Let the ring buffer hold what can arrive in that time. Bytes lost there are
  * damage on the line like any other: the message is dropped, as far as one checksum byte can tell.
  *
- * A main loop (examples/host.c is a whole one):
+ * The main loop in short; examples/host.c has it whole, and docs/PORTING.md says why:
  *
- *   static uint8_t state[XCP_STATE_SIZE], room[XCP_SLOT_ROOM];
- *   static uint8_t settings[4096], values[64];     // calibration, measured values
- *   static volatile uint8_t ring[256], head;       // the interrupt writes these two, and no other
- *   static uint8_t tail;                           // 256 bytes: the indexes wrap by themselves
+ *   for each byte that has come until now:  xcp_receive_byte(state, ..., byte)
+ *   if a weight is ready:                   put it into the measured values; xcp_event(state, ...)
+ *   if the last frame has left:             size = XCP_SIZE(xcp_slot(state, ..., room, ...));
+ *                                           if it is not 0, send so many bytes of room
+ *   if one of these gave number 10:         xcp_power_up(state, ..., a fresh number), and give the
+ *                                           slave that byte again; else feed the watchdog
  *
- *   void uart_received(uint8_t byte) { ring[head] = byte; head++; }
+ * The room is the line's until the last byte has left: with DMA it is not lent again before, and
+ * does not lie on the stack.
  *
- *   void run(void)
- *   {
- *       xcp_power_up(state, sizeof state, number_that_differs_each_time());
- *       for (;;) {
- *           for (uint8_t end = head; tail != end; tail++)   // what has come until now, no more
- *               xcp_receive_byte(state, sizeof state, settings, sizeof settings,
- *                                values, sizeof values, ring[tail]);
- *           if (weight_is_ready()) {
- *               copy_weight_to(values);
- *               xcp_event(state, sizeof state, settings, sizeof settings,
- *                         values, sizeof values, 0, milliseconds());
- *           }
- *           if (uart_is_idle())
- *               uart_send(room, XCP_SIZE(xcp_slot(state, sizeof state, room, sizeof room)));
- *       }
- *   }
+ * Number 10 at run time says that something else has written over the state: no byte from the line
+ * brings it about, and no call but xcp_power_up mends it. The price of that call: the session is
+ * gone, the tool connects anew, and wrong keys are counted from 0 again, three more tries. A host
+ * that comes to it in round after round has a fault elsewhere: it does not feed the watchdog then.
  */
 #ifndef XCP_SLAVE_H
 #define XCP_SLAVE_H
@@ -62,8 +57,8 @@ extern "C" {
 /* The state's one size: a shorter or longer buffer is refused. */
 #define XCP_STATE_SIZE 1486
 
-/* The room that a slot needs, whatever waits: the longest frame, one SYNC and each of the 67 bytes
- * of the longest message as a pair. */
+/* The room that a slot needs, whatever waits: one SYNC, and each of the 67 bytes of the longest
+ * message as a pair. */
 #define XCP_SLOT_ROOM 135
 
 /* What a call returns is its number and, when it is done, a value beside it. */
@@ -84,16 +79,17 @@ enum xcp_number {
     XCP_CUT_OFF = 7,      /* a byte: this SYNC cut off a message; it has begun the next one */
     XCP_BAD_EVENT = 8,    /* an event: its number is above 1 */
     XCP_NO_ROOM = 9,      /* a slot: lent fewer than XCP_SLOT_ROOM bytes */
-    XCP_BAD_STATE = 10    /* any call: the state has the wrong size, or was never powered up */
+    XCP_BAD_STATE = 10    /* any call: the state has the wrong size, was never powered up or is
+                             damaged: power up again */
 };
 
 /* A length has 64 bits on every processor; a narrower size_t widens by itself at the call. */
 
 /* Makes the state anew, whatever it held: no session, nothing waits, the slave's CTR is 0. Seeds
- * follow from start; a start of 0 becomes a default. Refuses with 10 by the size alone.
- * After three wrong keys no seed is given until this call is made: until then even a tool that has
- * the right key finds it shut. A host that makes the call by itself, as after a watchdog's reset,
- * gives three more tries. */
+ * follow from start; a start of 0 becomes a default. Refuses with 10 by the size alone. After three
+ * wrong keys no seed is given until this call is made: until then even a tool that has the right
+ * key finds it shut. Every call gives three more tries: beside number 10, the watchdog and the
+ * power switch let nothing lead to it, least of all what a tool sends. */
 uint32_t xcp_power_up(uint8_t *state, uint64_t state_len, uint32_t start);
 
 /* Takes one byte from the wire. At most the first 4,096 bytes of each memory can be addressed:

@@ -5,25 +5,33 @@
  * its bits would take; on a real board the UART's own send interrupt does that, and the timer is not needed. */
 #include "../board.h"
 #include "mps2.h"
-#include "xcp_slave.h"
 
 enum { BAUD = 38400, BITS = 10 /* start, eight, stop */, WEIGHING = 10 /* milliseconds */ };
+enum { PATIENCE = 5 /* seconds */, TRIGGER = 16 /* milliseconds */ };
 
 static volatile uint32_t milliseconds;
 static uint32_t weighing_at;
-static uint32_t readings;
+static uint32_t readings, numbers;
 
-/* The frame that is being sent. The main loop fills it while the line is idle, and only the interrupt moves on in it. */
-static uint8_t frame[XCP_SLOT_ROOM];
+/* The host's bytes that are being sent, from where they lie. The main loop sets this while the line is idle, and only the
+ * interrupt moves on in it, as DMA would. */
+static const uint8_t *volatile bytes_to_send;
 static volatile uint8_t size, sent, sending;
+
+static struct {
+    uint8_t unit, row[DRUG_SIZE];
+} pump;
 
 void systick(void);
 void uart_rx(void);
 void timer(void);
 
+/* The gun's trigger is an interrupt of its own on a real board, and comes at any moment too. */
 void systick(void)
 {
     milliseconds++;
+    if (milliseconds % TRIGGER == 0)
+        gun_pulled((uint8_t)(milliseconds / TRIGGER % DRUG_COUNT));
 }
 
 /* The UART holds one byte: this has to run within a byte's time, or a byte is lost. That is damage on the line like any
@@ -45,7 +53,7 @@ void timer(void)
         TIMER_CONTROL = 0;
         sending = 0; /* the last byte has left */
     } else if (!(UART_STATE & UART_TX_FULL)) {
-        UART_DATA = frame[sent];
+        UART_DATA = bytes_to_send[sent];
         sent++;
     }
 }
@@ -61,6 +69,13 @@ int board_start(void)
     return 1;
 }
 
+/* At the first end of its time it interrupts, which goes to stopped(); at the second it resets the board. */
+void watchdog_feed(void)
+{
+    WATCHDOG_RELOAD = (uint32_t)PATIENCE * HERTZ;
+    WATCHDOG_CONTROL = WATCHDOG_ON | WATCHDOG_RESETS;
+}
+
 /* An interrupt that comes just before this sleep is seen after the next one, a millisecond later at most. */
 void board_rest(void)
 {
@@ -74,10 +89,7 @@ int uart_is_idle(void)
 
 void uart_send(const uint8_t *bytes, size_t count)
 {
-    if (count == 0 || count > sizeof frame)
-        return;
-    for (size_t i = 0; i < count; i++)
-        frame[i] = bytes[i];
+    bytes_to_send = bytes;
     size = (uint8_t)count;
     sent = 0;
     sending = 1;
@@ -106,9 +118,46 @@ uint16_t clock_milliseconds(void)
     return (uint16_t)milliseconds;
 }
 
+void pump_set(uint8_t unit, const uint8_t row[DRUG_SIZE])
+{
+    pump.unit = unit;
+    for (int i = 0; i < DRUG_SIZE; i++)
+        pump.row[i] = row[i];
+}
+
+/* Two places in a memory that nothing clears: it outlives a reset, and no power cut. On a real board take two sectors of flash:
+ * erase one, then write the bytes, number and sum last, and read them back. */
+static volatile uint8_t *place_of(int place)
+{
+    return KEPT_MEMORY + place * KEPT_SECTOR;
+}
+
+int kept_read(int place, uint8_t *bytes, size_t count, uint32_t *number, uint32_t *sum)
+{
+    const volatile uint8_t *from = place_of(place);
+    const volatile uint32_t *end = (const volatile uint32_t *)(place_of(place) + KEPT_SECTOR) - 2;
+    for (size_t i = 0; i < count; i++)
+        bytes[i] = from[i];
+    *number = end[0];
+    *sum = end[1];
+    return 1;
+}
+
+int kept_write(int place, const uint8_t *bytes, size_t count, uint32_t number, uint32_t sum)
+{
+    volatile uint8_t *to = place_of(place);
+    volatile uint32_t *end = (volatile uint32_t *)(place_of(place) + KEPT_SECTOR) - 2;
+    for (size_t i = 0; i < count; i++)
+        to[i] = bytes[i];
+    end[0] = number;
+    end[1] = sum;
+    return 1;
+}
+
 /* Where SysTick stands differs from run to run in the emulator, and not on a real board: take a noisy input there, or a
  * counter kept in flash. */
 uint32_t number_that_differs(void)
 {
-    return SYSTICK_VALUE * 2654435761u;
+    numbers++;
+    return (SYSTICK_VALUE + numbers) * 2654435761u;
 }

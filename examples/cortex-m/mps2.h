@@ -25,6 +25,15 @@ enum { UART_RX_INTERRUPT = 2 };                                       /* of UART
 #define TIMER_INTERRUPT REGISTER(0x4000000C) /* a written 1 clears what is pending */
 enum { TIMER_ON = 1, TIMER_INTERRUPT_ON = 8 };                        /* of TIMER_CONTROL */
 
+/* The watchdog: counts down from WATCHDOG_RELOAD as soon as that is written. */
+#define WATCHDOG_RELOAD REGISTER(0x40008000)
+#define WATCHDOG_CONTROL REGISTER(0x40008008)
+enum { WATCHDOG_ON = 1, WATCHDOG_RESETS = 2 };                        /* of WATCHDOG_CONTROL */
+
+/* Memory that the linker script leaves alone, and start-up too. */
+#define KEPT_MEMORY ((volatile uint8_t *)0x21000000)
+enum { KEPT_SECTOR = 8192 };
+
 /* The core's own: SysTick, interrupts, what is trapped. */
 #define SYSTICK_CONTROL REGISTER(0xE000E010)
 #define SYSTICK_RELOAD REGISTER(0xE000E014)

@@ -102,7 +102,7 @@ static void outside(int number)
     _exit(1);
 }
 
-int check_main(void (*const tests[])(void), size_t count)
+static void catch_crashes(void)
 {
     struct sigaction action;
     memset(&action, 0, sizeof action);
@@ -111,13 +111,35 @@ int check_main(void (*const tests[])(void), size_t count)
     sigaction(SIGBUS, &action, NULL);
     sigaction(SIGILL, &action, NULL);
     sigaction(SIGABRT, &action, NULL);
-    for (int edge = 0; edge < 2; edge++) {
-        lend_edge = edge == 0 ? EDGE_AFTER : EDGE_BEFORE;
-        for (size_t i = 0; i < count; i++) {
-            check_note("%s", "");
-            tests[i]();
-        }
-    }
+}
+
+static int counted(void)
+{
     printf("%lu passed, %lu failed\n", passed, failed);
     return failed == 0 ? 0 : 1;
+}
+
+static void run_all(void (*const tests[])(void), size_t count)
+{
+    for (size_t i = 0; i < count; i++) {
+        check_note("%s", "");
+        tests[i]();
+    }
+}
+
+int check_once(void (*const tests[])(void), size_t count)
+{
+    catch_crashes();
+    run_all(tests, count);
+    return counted();
+}
+
+int check_main(void (*const tests[])(void), size_t count)
+{
+    catch_crashes();
+    for (int edge = 0; edge < 2; edge++) {
+        lend_edge = edge == 0 ? EDGE_AFTER : EDGE_BEFORE;
+        run_all(tests, count);
+    }
+    return counted();
 }

@@ -31,4 +31,7 @@ void check_loudly(void);
 /* Runs the tests once for each edge of lend.h, prints 'N passed, M failed', gives main's result. */
 int check_main(void (*const tests[])(void), size_t count);
 
+/* The same of tests that lend nothing of lend.h: once. */
+int check_once(void (*const tests[])(void), size_t count);
+
 #endif

@@ -21,6 +21,7 @@ void test_lists(void);          /* lists: set up, selected, started, stopped */
 void test_events(void);         /* events and slots: samples, whose turn it is */
 void test_state(void);          /* the state's bytes: how each value reads, what is written */
 void test_bench(void);          /* the bench sheet, byte for byte */
+void test_several(void);        /* several slaves in one program; a copy of a state is one too */
 
 /* Situations, each from a power-up with the same memories. */
 void powered(struct rig *r);          /* no session */
