@@ -37,6 +37,8 @@ use Rattle.demands.specs.Memory.{WritesTo, byDownload, byShortDownload, ReadsFr
 use Rattle.demands.specs.Demand3.{Demand3}
 use Rattle.demands.specs.Obeyed.{Obeyed}
 use Rattle.demands.specs.Checked.{Checked}
+use Rattle.views.specs.OnTheLine.{comesTo}
+use Rattle.demands.specs.CallNumbers.{CallNumbers}
 use Rattle.demands.specs.Shows.{Shows}
 use Rattle.demands.specs.StaysShut.{StaysShut}
 use Rattle.shown.specs.Wrong.{refusesAlways, silent, onlyConnects, alwaysFF, storesNothing, obeysDamaged, readsEscaped, allAtOnce, slotsUpTo, sumsEscaped, neverSamples, inventsCounts, inventsMissed, stampsEach, keepsFreed, beginsBehind, movesAfterRefusal, leavesMta, loadLeavesMta, loadsAtMta, readsLate, opensBoth, connectClears, shutsFirst}
@@ -66,23 +68,23 @@ onlyConnects-fails d =
     in omega arith
 
 -- CONNECT with a checksum one too high is answered
-pub obeysDamaged-fails : Demand2 obeysDamaged → ⊥
-unfolding computed
+pub obeysDamaged-fails : CallNumbers obeysDamaged → ⊥
+unfolding computed comesTo
 obeysDamaged-fails d =
-    let e : _≡_ {A = ℕ} 1 5 = ap (λ o. receivedNumber (o .received)) (d .asDefined .reads (reached obeysDamaged (begun [] [] connect)) [] [] (lastByte connect + 1) refl) in omega arith
+    let e : _≡_ {A = ℕ} 1 5 = d .received (reached obeysDamaged (begun [] [] connect)) [] [] (lastByte connect + 1) refl .number in omega arith
 
 -- CONNECT with one byte more, 9A: its checksum is 9C, and 9E over escaped bytes; the one is refused, the other heeded
-pub readsEscaped-fails : Demand2 readsEscaped → ⊥
-unfolding computed
+pub readsEscaped-fails : CallNumbers readsEscaped → ⊥
+unfolding computed comesTo
 readsEscaped-fails d =
     let s : List ℕ = reached readsEscaped (begun [] [] (0xFF ∷ 0 ∷ 0x9A ∷ [])) in
-    let right : _≡_ {A = ℕ} 5 1 = ap (λ o. receivedNumber (o .received)) (d .asDefined .reads s [] [] 0x9C refl) in omega arith
+    let right : _≡_ {A = ℕ} 5 1 = d .received s [] [] 0x9C refl .number in omega arith
 
-pub readsEscaped-heeds : Demand2 readsEscaped → ⊥
-unfolding computed
+pub readsEscaped-heeds : CallNumbers readsEscaped → ⊥
+unfolding computed comesTo
 readsEscaped-heeds d =
     let s : List ℕ = reached readsEscaped (begun [] [] (0xFF ∷ 0 ∷ 0x9A ∷ [])) in
-    let wrong : _≡_ {A = ℕ} 1 5 = ap (λ o. receivedNumber (o .received)) (d .asDefined .reads s [] [] 0x9E refl) in omega arith
+    let wrong : _≡_ {A = ℕ} 1 5 = d .received s [] [] 0x9E refl .number in omega arith
 
 -- ---- UPLOAD after DOWNLOAD, SHORT_UPLOAD after SHORT_DOWNLOAD
 -- how a state stands at a byte, and what two commands come to, the second with the memory that the first left
