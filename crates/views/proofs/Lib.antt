@@ -32,6 +32,7 @@ pub mod Obeys
 pub mod Full
 pub mod FaultWords
 pub mod Faults
+pub mod Due
 pub mod Settings
 pub mod Locked
 pub mod BytesStored
