@@ -4,7 +4,7 @@ use Prim.Native.Nat.{ℕ, suc, _+_, _*_, _%_, _^_, _≤_, _<_}
 use mathlib.Core.Path.{_≡_}
 use mathlib.Core.Logic.{_≢_, _⊎_}
 use mathlib.Core.Bool.{Bool, true, false, cond}
-use mathlib.Core.Option.{none, some}
+use mathlib.Core.Option.{some}
 use mathlib.Core.List.{List, [], _∷_, _++_}
 use lib.Dec.{ltb}
 use lib.ListN.{length, take, drop}
@@ -35,9 +35,10 @@ use Rattle.model.specs.Calls.{turnIn, packetFor, samplingIn}
 use Rattle.model.specs.Whole.{countedIn}
 use Rattle.model.specs.View.{sessionOf, viewOf}
 use Rattle.demands.specs.Slave.{AnySlave}
-use Rattle.demands.specs.Runs.{Call, Byte, Event, SendingSlot, Elsewhere, afterCall, run, sends, each, frames}
+use Rattle.demands.specs.Runs.{Call, Byte, Event, SendingSlot, Elsewhere, run, sends, each, frames}
 use Rattle.demands.specs.Life.{Device, Moment, PowerOn, Hears, Samples, Serves, passed, lived, sentInLife, OfBytes}
 use Rattle.demands.specs.Heard.{Commands, doneAt, bringsKey, keyMatches}
+use Rattle.demands.specs.Between.{changesSeed, changesMta, Without}
 use Rattle.demands.specs.Waiting.{SameOutside, waitingOf, sampleOf}
 
 -- the packets that are to go, slot by slot: with room enough, that of whose turn it is
@@ -142,21 +143,13 @@ lastFirst bs = drop 3 bs ++ take 3 bs
 abbrev pub keyTo : Resource → List ℕ → List ℕ
 keyTo r seed = lastFirst (bytes32 ((u32At seed 0 + keyNumber r) % 2 ^ 32))
 
--- in no call of the run a command is done
-abbrev pub Uncommanded : AnySlave → List ℕ → List Call → Type 0
-Uncommanded v s [] = Unit {0}
-Uncommanded v s (Byte cal meas b ∷ cs) = (doneAt s cal meas b ≡ none) × Uncommanded v (afterCall v s (Byte cal meas b)) cs
-Uncommanded v s (Event cal meas event clock ∷ cs) = Uncommanded v (afterCall v s (Event cal meas event clock)) cs
-Uncommanded v s (SendingSlot out ∷ cs) = Uncommanded v (afterCall v s (SendingSlot out)) cs
-Uncommanded v s (Elsewhere ∷ cs) = Uncommanded v s cs
-
--- GET_SEED has led from state s to t: four bytes are the answer's seed, and UNLOCK with the key to them, the next command whenever it comes, opens the
--- lock of r and leaves the other
+-- GET_SEED has led from state s to t: four bytes are the answer's seed, and UNLOCK with the key to them, whenever it comes and whatever came between that
+-- does not change the seed, opens the lock of r and leaves the other
 pub record SeedOpens (v : AnySlave) (r : Resource) (s t : List ℕ) : Type 0 where
   pub seed : List ℕ
   pub four : length seed ≡ 4
   pub answer : viewOf t .answer ≡ 0xFF ∷ 0x04 ∷ seed
-  pub opens : (between : List Call) (cal meas : List ℕ) (b : ℕ) (p : List ℕ) → Uncommanded v t between
+  pub opens : (between : List Call) (cal meas : List ℕ) (b : ℕ) (p : List ℕ) → Without changesSeed v t between
       → Commands (run v t between) b p → take 6 p ≡ 0xF7 ∷ 0x04 ∷ keyTo r seed
       → (sessionOf (v .receive (run v t between) cal meas b .state) .unlocked r ≡ true)
       × (sessionOf (v .receive (run v t between) cal meas b .state) .unlocked (otherLock r) ≡ sessionOf s .unlocked (otherLock r))
@@ -205,10 +198,10 @@ pub record Demand2 (v : AnySlave) : Type 0 where
   -- SHORT_UPLOAD or SHORT_DOWNLOAD that is done sets the MTA behind its block, wherever it was, or unset
   pub setsMta : (s cal meas : List ℕ) (b number : ℕ) (p bs : List ℕ) → consistent s ≡ true → (number ≡ 0xF4) ⊎ (number ≡ 0xED) → Brings v number s cal meas b p bs
       → sessionOf (v .receive s cal meas b .state) .mta ≡ At (extensionFrom (byte p 3)) (u32At p 4 + byte p 1)
-  -- so UPLOAD after SHORT_UPLOAD, the next command whenever it comes, goes on there: both done and lent the same memories, their bytes together are the
-  -- block of both lengths
+  -- so UPLOAD after SHORT_UPLOAD, whenever it comes and whatever came between that does not change the MTA, goes on there: both done and lent the same
+  -- memories, their bytes together are the block of both lengths
   pub goesOn : (s cal meas : List ℕ) (b : ℕ) (p first : List ℕ) (between : List Call) (c : ℕ) (q second : List ℕ) → consistent s ≡ true
-      → Brings v 0xF4 s cal meas b p first → Uncommanded v (v .receive s cal meas b .state) between
+      → Brings v 0xF4 s cal meas b p first → Without changesMta v (v .receive s cal meas b .state) between
       → Brings v 0xF5 (run v (v .receive s cal meas b .state) between) cal meas c q second
       → first ++ second ≡ block (pick (extensionFrom (byte p 3)) cal meas) (u32At p 4) (byte p 1 + byte q 1)
   -- a right key unlocks its own resource alone

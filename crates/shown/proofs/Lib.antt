@@ -10,4 +10,5 @@ pub mod Never
 pub mod Bounds
 pub mod AnswerBound
 pub mod Premises
+pub mod Between
 pub mod Lives
