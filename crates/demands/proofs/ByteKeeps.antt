@@ -68,14 +68,16 @@ module _ (s cal meas : List ℕ) (b : ℕ) (c : consistent s ≡ true) where
     few : length (reply d (readBy s b) cal meas) ≤ packetMost
     few = answering d (readBy s b) cal meas (length p) can .few
 
+    -- its answer is no part of the session
+    pub done-effect : sessionOf (after d (readBy s b) cal meas) ≡ sessionOf (effect d (readBy s b))
+    done-effect = let a = only-answered (effect d (readBy s b)) (reply d (readBy s b) cal meas) few in session-reads (apart tt a) (apart tt a) (apart tt a)
+
     -- of the lists and the locks it leaves what it makes of the session
     pub done-steps : Steps (stepIn d (sessionOf s)) (sessionOf (after d (readBy s b) cal meas))
     done-steps =
-        let t : List ℕ = readBy s b in
-        let a = only-answered (effect d t) (reply d t cal meas) few in
-        subst (λ (x : Session). Steps (stepIn d (sessionOf s)) x) (sym (session-reads (apart tt a) (apart tt a) (apart tt a)))
-        (subst (λ (x : Session). Steps (stepIn d x) (sessionOf (effect d t))) (read-session s b c)
-        (stepped d t (length p) (length cal) (length meas) (read-length s b c) can (found-entered d p (sessionOf s) (w .found))))
+        subst (λ (x : Session). Steps (stepIn d (sessionOf s)) x) (sym done-effect)
+        (subst (λ (x : Session). Steps (stepIn d x) (sessionOf (effect d (readBy s b)))) (read-session s b c)
+        (stepped d (readBy s b) (length p) (length cal) (length meas) (read-length s b c) can (found-entered d p (sessionOf s) (w .found))))
 
     deed-waiting : (l : ℕ) → (x : Bool) → stops l d (sessionOf s) ≡ x → waitingOf (after d (readBy s b) cal meas) l ≡ cond x [] (waitingOf s l)
     deed-waiting l x e = ap₂ (λ (o : Bool) (f : ℕ → DaqList). waiting o (odtsBefore f l) (f l)) (done-steps .opened) (done-steps .list) ∙ go x e where

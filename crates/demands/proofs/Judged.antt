@@ -122,11 +122,11 @@ module _ (p : List ℕ) (c : Session) (nc nm : ℕ) where
       record { still = still-found l o e w; few = inside .0; low = entry-low (u32At p 4) (byte p 2) (pick (extensionFrom (byte p 3)) nc nm) some (inside .1) }
   by-verdict _ _ code (modes free list event still) = still
   by-verdict _ _ code (stops free list) = tt
-  by-verdict _ _ code (starts free list still) = still
+  by-verdict _ _ code (starts free list mode still) = still
   by-verdict _ _ code (goes-on free list) = tt
   by-verdict _ _ code (selects free list) = tt
   by-verdict _ _ code (stops-all free) = tt
-  by-verdict _ _ code (starts-all free) = tt
+  by-verdict _ _ code (starts-all free mode) = tt
   by-verdict _ _ code (stops-some free) = tt
   by-verdict _ _ code processor = tt
   by-verdict _ _ code resolution = tt

@@ -18,6 +18,9 @@ pub mod Deeds
 pub mod ByteKeeps
 pub mod Numbering
 pub mod Locks
+pub mod Alike
+pub mod Changes
+pub mod Between
 pub mod Keys
 pub mod Opening
 pub mod Downloads

@@ -60,6 +60,13 @@ connect-judged p c nc nm g = go (eqb (byte p 0) 0xFF) (ltb (length p) 2) (eqb (b
   go true true z a b d e = absurd (false-true e)
   go false y z a b d e = absurd (false-true e)
 
+-- what is done at a byte is what its packet is judged to lead to, also a good CONNECT without a session
+pub does-judged : (s cal meas : List ℕ) (b : ℕ) (d : Deed) (p : List ℕ) → Does s cal meas b d p → d ≡ deedIn p (sessionOf s) cal meas
+does-judged s cal meas b d p w = go (sessionOf s .opened) refl where
+  go : (x : Bool) → sessionOf s .opened ≡ x → d ≡ deedIn p (sessionOf s) cal meas
+  go true e = w .opened e
+  go false e = w .closed e .0 ∙ sym (connect-judged p (sessionOf s) (length cal) (length meas) (w .closed e .1))
+
 module _ (s : List ℕ) (b : ℕ) (c : consistent s ≡ true) (w : Bytes s) (low : b < 256) where
   pub ended-bytes : (p : List ℕ) → packetEnded s b ≡ some p → Bytes p
   unfolding viewOf
@@ -84,17 +91,10 @@ module _ (s : List ℕ) (b : ℕ) (c : consistent s ≡ true) (w : Bytes s) (low
       subst (λ (x : Session). Fit (deedIn p x cal meas) (generatorOf t) (wrongKeysOf t)) (read-session s b c) (judged-fits p t (length cal) (length meas) v generator-low) in
       shown-done (deedIn p (sessionOf s) cal meas) p cal meas (length p) (judged-doable p s (length cal) (length meas)) fit
 
-  -- a good CONNECT without a session is what it leads to in one
-  connect-done : (p cal meas : List ℕ) → goodConnect p ≡ true → shown (after Connect (readBy s b) cal meas) (written Connect p cal) ≡ commandIn p (sessionOf s) cal meas
-  connect-done p cal meas g =
-      shown-done Connect p cal meas (length p) tt tt ∙ ap (λ (d : Deed). doneBy d p (sessionOf s) cal meas) (sym (connect-judged p (sessionOf s) (length cal) (length meas) g))
-
   -- whatever is done at byte b is what the model does
   does-shown : (d : Deed) (p cal meas : List ℕ) → Does s cal meas b d p → shown (after d (readBy s b) cal meas) (written d p cal) ≡ commandIn p (sessionOf s) cal meas
-  does-shown d p cal meas does = go (sessionOf s .opened) refl where
-    go : (x : Bool) → sessionOf s .opened ≡ x → shown (after d (readBy s b) cal meas) (written d p cal) ≡ commandIn p (sessionOf s) cal meas
-    go true e = ap (λ (x : Deed). shown (after x (readBy s b) cal meas) (written x p cal)) (does .opened e) ∙ command-done p cal meas (ended-bytes p (does .ended))
-    go false e = ap (λ (x : Deed). shown (after x (readBy s b) cal meas) (written x p cal)) (does .closed e .0) ∙ connect-done p cal meas (does .closed e .1)
+  does-shown d p cal meas does =
+      ap (λ (x : Deed). shown (after x (readBy s b) cal meas) (written x p cal)) (does-judged s cal meas b d p does) ∙ command-done p cal meas (ended-bytes p (does .ended))
 
   taken-by : {o : Step} {x : Option Deed} (p cal meas : List ℕ) → packetEnded s b ≡ some p → receivedNumber (o .received) ≡ 1 → Reads s cal meas b o x → shown (o .state) (o .cal) ≡ commandIn p (sessionOf s) cal meas
   taken-by p cal meas e one (rests r n few) = absurd (n one)

@@ -35,7 +35,7 @@ use Rattle.demands.proofs.Judged.{Found, RightKey}
 use Rattle.demands.proofs.Received.{Does, Reads, rests, acts, received}
 use Rattle.demands.proofs.ByteKeeps.{done-steps}
 use Rattle.demands.proofs.Locks.{locked-keeps}
-use Rattle.demands.proofs.Keys.{Alike, event-alike, slot-alike}
+use Rattle.demands.proofs.Alike.{Alike, event-alike, slot-alike}
 use Rattle.demands.proofs.Numbering.{power-up-is}
 use Rattle.demands.proofs.Life.{passed-kept}
 

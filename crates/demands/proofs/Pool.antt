@@ -5,11 +5,11 @@ use mathlib.Core.Logic.{_≢_, _⊎_, inl, inr, ⊎-elim}
 use mathlib.Core.Bool.{Bool, true, false}
 use mathlib.Core.List.{List, [], _∷_, _++_, map}
 use native.Mathlib.Omega.{arith}
+use borrow.Author.Tests.{le-ltb}
 use lib.ListN.{length}
 use Rattle.state.specs.State.{consistent}
 use Rattle.words.specs.Command.{commandOf}
 use Rattle.words.specs.declared.Command.the-variants as command
-use Rattle.words.specs.declared.Resource.{Resource}
 use Rattle.words.specs.declared.Resource.the-variants.{Lists}
 use Rattle.model.specs.declared.Deed.{Deed}
 use Rattle.model.specs.Judge.{judgeThe, judgeBy}
@@ -17,27 +17,21 @@ use Rattle.model.specs.Model.{byte, Bytes, Odt, DaqList, Session, odtsBefore, o
 use Rattle.model.specs.Answers.{Done, replyIn}
 use Rattle.model.specs.View.{sessionOf, shown}
 use Rattle.session.specs.Receive.{receiveOf}
-use Rattle.lists.specs.Event.{eventOf}
-use Rattle.lists.specs.Slot.{slotOf}
-use Rattle.fields.proofs.Kept.{receive-kept, event-kept, slot-kept}
+use Rattle.fields.proofs.Kept.{receive-kept}
 use Rattle.views.proofs.BytesKept.{receive-bytes}
 use Rattle.views.specs.Commands.{two, Way, TheLocks, HowManyLists, TheLists, FREE-DAQ, ALLOC-DAQ, ALLOC-ODT, ALLOC-ODT-ENTRY}
-use Rattle.views.specs.Locked.{SettingsKept}
 use Rattle.views.proofs.Parts.{this-or-other}
 use Rattle.views.proofs.Taken.{by-code}
 use Rattle.views.proofs.Obeys.{AsModel, obeys}
-use Rattle.views.proofs.Full.{fills}
+use Rattle.views.proofs.Due.{lists-done, odts-done, entries-done}
 use Rattle.demands.specs.Slave.{ours}
-use Rattle.demands.specs.Runs.{Call, Byte, Event, SendingSlot, Elsewhere, run}
-use Rattle.demands.specs.Keys.{Uncommanded}
+use Rattle.demands.specs.Runs.{run}
 use Rattle.demands.specs.Obeyed.{Obeyed}
-use Rattle.demands.specs.Pool.{Plan, total, InPool, Allocated, In, Distinct, EachOnce, HasOdts, OdtAt, HasEntries, allocOdt, allocOdtEntry, asked, GoThrough, WholePool}
+use Rattle.demands.specs.Pool.{Plan, total, InPool, Allocated, In, Distinct, EachOnce, HasOdts, OdtAt, HasEntries, Request, SomeOdts, SomeEntries, Asks, asked, GoThrough, WholePool}
 use Rattle.demands.proofs.Reached.{run-kept, run-bytes}
-use Rattle.demands.proofs.ReadBy.{read-session}
-use Rattle.demands.proofs.Received.{rests-known}
-use Rattle.demands.proofs.Keys.{run-alike}
+use Rattle.demands.proofs.Changes.{PoolKept}
+use Rattle.demands.proofs.Between.{run-pool}
 use Rattle.demands.proofs.Obeyed.{as-model, heard-obeyed}
-use Rattle.demands.proofs.ListsLocked.{settings-same, lists-locked}
 
 -- ---- sums
 module _ (f g : ℕ → ℕ) where
@@ -110,6 +104,11 @@ unfolding runs
 unstarted-rests true x e = rw e
 unstarted-rests false x e = refl
 
+-- a packet with a code has a byte
+not-empty : (p : List ℕ) → byte p 0 ≡ 0xD6 → 1 ≤ length p
+not-empty [] e = absurd (omega arith)
+not-empty (b ∷ p) e = omega arith
+
 none-or-some : (n : ℕ) {P : Type 0} → (n ≡ 0 → P) → (1 ≤ n → P) → P
 none-or-some zero f g = f refl
 none-or-some (suc n) f g = g (omega arith)
@@ -124,15 +123,11 @@ locks-count e = let z : _≡_ {A = ℕ} 0 1 = cc in omega arith
 count-lists : HowManyLists ≢ TheLists
 count-lists e = let z : _≡_ {A = ℕ} 0 1 = cc in omega arith
 
--- ---- one command after the other, by R and with any memories; between them the lists' settings and their lock stay
-record Meanwhile (c d : Session) : Type 0 where
-  settings : SettingsKept c d
-  lock : d .unlocked Lists ≡ c .unlocked Lists
-
--- from session c on each of the commands is answered FF, and after the last of them E stands
-abbrev Goes : Way → (Session → Type 0) → Session → List (List ℕ) → Type 0
+-- ---- one command after the other, by R and with any memories, each by a packet that asks what is to be asked; between them what is allocated stays.
+-- From session c on each is answered FF, and after the last of them E stands
+abbrev Goes : Way → (Session → Type 0) → Session → List Request → Type 0
 Goes R E c [] = E c
-Goes R E c (p ∷ ps) = (d : Session) (cal meas : List ℕ) (o : Done) → Meanwhile c d → R p d cal meas o → (o .answer ≡ 0xFF ∷ []) × Goes R E (o .session) ps
+Goes R E c (a ∷ later) = (d : Session) (p cal meas : List ℕ) (o : Done) → PoolKept c d → Asks p a → R p d cal meas o → (o .answer ≡ 0xFF ∷ []) × Goes R E (o .session) later
 
 module _ (w : Plan) where
   -- ---- on the way: the lists are there and rest
@@ -156,24 +151,24 @@ module _ (w : Plan) where
     made : (l o : ℕ) → l < w .lists → o < w .odts l → In (record { list = l; odt = o }) xs ⊎ (c .list l .odt o .entries ≡ w .entries l o)
 
   -- meanwhile nothing of that changes
-  module _ {c d : Session} (m : Meanwhile c d) where
+  module _ {c d : Session} (m : PoolKept c d) where
     out-stays : Set-out c → Set-out d
-    out-stays s = record { unlocked = m .lock ∙ s .unlocked; lists = m .settings .lists ∙ s .lists; still = λ l. m .settings .started l ∙ s .still l }
+    out-stays s = record { unlocked = m .unlocked (s .unlocked); lists = m .lists ∙ s .lists; still = λ l. m .still l (s .still l) }
 
     sizing-stays : {ls : List ℕ} → Sizing ls c → Sizing ls d
     sizing-stays s = record {
       out = out-stays (s .out);
-      due = λ l i. m .settings .odts l ∙ s .due l i;
-      made = λ l p. ⊎-elim (λ i. inl i) (λ e. inr (m .settings .odts l ∙ e)) (s .made l p);
-      empty = λ l o. m .settings .counts l o ∙ s .empty l o;
+      due = λ l i. m .odts l ∙ s .due l i;
+      made = λ l p. ⊎-elim (λ i. inl i) (λ e. inr (m .odts l ∙ e)) (s .made l p);
+      empty = λ l o. m .counts l o ∙ s .empty l o;
     }
 
     filling-stays : {xs : List OdtAt} → Filling xs c → Filling xs d
     filling-stays s = record {
       out = out-stays (s .out);
-      odts = λ l p. m .settings .odts l ∙ s .odts l p;
-      due = λ x i. m .settings .counts (x .list) (x .odt) ∙ s .due x i;
-      made = λ l o p q. ⊎-elim (λ i. inl i) (λ e. inr (m .settings .counts l o ∙ e)) (s .made l o p q);
+      odts = λ l p. m .odts l ∙ s .odts l p;
+      due = λ x i. m .counts (x .list) (x .odt) ∙ s .due x i;
+      made = λ l o p q. ⊎-elim (λ i. inl i) (λ e. inr (m .counts l o ∙ e)) (s .made l o p q);
     }
 
   -- all ODTs are there
@@ -203,7 +198,7 @@ module _ (w : Plan) where
     odt-goes p ls c cal meas o code long count has once s r =
         let l : ℕ = two p 2 in
         let ff : o .answer ≡ 0xFF ∷ [] =
-        fills R way .odtsDone p c cal meas o r code .1 (
+        odts-done R way p c cal meas o r code (
           record {
             long = long;
             unlocked = s .out .unlocked;
@@ -211,8 +206,8 @@ module _ (w : Plan) where
             there = omega (arith, has .0, s .out .lists);
             none = s .due l (inl refl);
             some = omega (arith, has .1, count);
-          },
-          omega (arith, count, odt-room l ls c (has .0) s),
+            room = omega (arith, count, odt-room l ls c (has .0) s);
+          }
         ) in
         let law : ALLOC-ODT p c cal meas o = obeys R way .allocOdt p c cal meas o r code (ap (λ (a : List ℕ). byte a 0) ff) in (
           ff,
@@ -226,16 +221,21 @@ module _ (w : Plan) where
           },
         )
 
-    odts-row : (ls : List ℕ) (xs : List OdtAt) → ((l : ℕ) → In l ls → HasOdts w l) → Distinct ls → ((c : Session) → Sizing [] c → Goes R (Allocated w) c (map (allocOdtEntry w) xs))
-        → (c : Session) → Sizing ls c → Goes R (Allocated w) c (map (allocOdt w) ls ++ map (allocOdtEntry w) xs)
-    odts-row [] xs has once then c s = then c s
-    odts-row (l ∷ ls) xs has once then c s = λ d cal meas o m r.
-        let p : List ℕ = allocOdt w l in
-        let is : two p 2 ≡ l = omega arith in
+    abbrev odts-asked : List ℕ → List Request
+    odts-asked = map (λ l. SomeOdts l (w .odts l))
+
+    abbrev entries-asked : List OdtAt → List Request
+    entries-asked = map (λ x. SomeEntries x (w .entries (x .list) (x .odt)))
+
+    odts-row : (ls : List ℕ) (later : List Request) → ((l : ℕ) → In l ls → HasOdts w l) → Distinct ls → ((c : Session) → Sizing [] c → Goes R (Allocated w) c later)
+        → (c : Session) → Sizing ls c → Goes R (Allocated w) c (odts-asked ls ++ later)
+    odts-row [] later has once then c s = then c s
+    odts-row (l ∷ ls) later has once then c s = λ d p cal meas o m a r.
+        let is : two p 2 ≡ l = a .1 in
         let step : (o .answer ≡ 0xFF ∷ []) × Sizing ls (o .session) =
-        odt-goes p ls d cal meas o refl (omega arith) (ap (w .odts) (sym is)) (subst (HasOdts w) (sym is) (has l (inl refl)))
+        odt-goes p ls d cal meas o (a .0) (a .3) (a .2 ∙ ap (w .odts) (sym is)) (subst (HasOdts w) (sym is) (has l (inl refl)))
         (λ i. once .0 (subst (λ (j : ℕ). In j ls) is i)) (subst (λ (j : ℕ). Sizing (j ∷ ls) d) (sym is) (sizing-stays m s)) r in
-        (step .0, odts-row ls xs (λ j i. has j (inr i)) (once .1) then (o .session) (step .1))
+        (step .0, odts-row ls later (λ j i. has j (inr i)) (once .1) then (o .session) (step .1))
 
     -- ---- ALLOC_ODT_ENTRY for ODT x
     entry-room : (x : OdtAt) (xs : List OdtAt) (c : Session) → HasEntries w x → Filling (x ∷ xs) c → entriesTaken c + w .entries (x .list) (x .odt) ≤ 128
@@ -259,7 +259,7 @@ module _ (w : Plan) where
     entry-goes p xs c cal meas o code long count has once s r =
         let l : ℕ = two p 2 in
         let ff : o .answer ≡ 0xFF ∷ [] =
-        fills R way .entriesDone p c cal meas o r code .1 (
+        entries-done R way p c cal meas o r code (
           record {
             long = long;
             unlocked = s .out .unlocked;
@@ -268,8 +268,8 @@ module _ (w : Plan) where
             none = s .due (named p) (inl refl);
             some = omega (arith, has .2, count);
             still = unstarted-rests (c .opened) (c .list l) (s .out .still l);
-          },
-          omega (arith, count, entry-room (named p) xs c has s),
+            room = omega (arith, count, entry-room (named p) xs c has s);
+          }
         ) in
         let law : ALLOC-ODT-ENTRY p c cal meas o = obeys R way .allocOdtEntry p c cal meas o r code (ap (λ (a : List ℕ). byte a 0) ff) in
         let here : (x : OdtAt) → x ≡ named p → o .session .list (x .list) .odt (x .odt) .entries ≡ w .entries (x .list) (x .odt) =
@@ -285,35 +285,29 @@ module _ (w : Plan) where
           },
         )
 
-    entries-row : (xs : List OdtAt) → ((x : OdtAt) → In x xs → HasEntries w x) → Distinct xs → (c : Session) → Filling xs c → Goes R (Allocated w) c (map (allocOdtEntry w) xs)
+    entries-row : (xs : List OdtAt) → ((x : OdtAt) → In x xs → HasEntries w x) → Distinct xs → (c : Session) → Filling xs c → Goes R (Allocated w) c (entries-asked xs)
     entries-row [] has once c s = allocated c s
-    entries-row (x ∷ xs) has once c s = λ d cal meas o m r.
-        let p : List ℕ = allocOdtEntry w x in
-        let two-is : two p 2 ≡ x .list = omega arith in
-        let is : named p ≡ x = λ t. record { list = two-is t; odt = x .odt } in
+    entries-row (x ∷ xs) has once c s = λ d p cal meas o m a r.
+        let is : named p ≡ x = λ t. record { list = a .1 t; odt = a .2 t } in
         let step : (o .answer ≡ 0xFF ∷ []) × Filling xs (o .session) =
-        entry-goes p xs d cal meas o refl (omega arith) (ap (λ (j : ℕ). w .entries j (x .odt)) (sym two-is)) (subst (HasEntries w) (sym is) (has x (inl refl)))
+        entry-goes p xs d cal meas o (a .0) (a .4) (a .3 ∙ ap (λ (y : OdtAt). w .entries (y .list) (y .odt)) (sym is)) (subst (HasEntries w) (sym is) (has x (inl refl)))
         (λ i. once .0 (subst (λ (y : OdtAt). In y xs) is i)) (subst (λ (y : OdtAt). Filling (y ∷ xs) d) (sym is) (filling-stays m s)) r in
         (step .0, entries-row xs (λ y i. has y (inr i)) (once .1) (o .session) (step .1))
 
     -- ---- FREE_DAQ
-    free-goes : (c : Session) (cal meas : List ℕ) (o : Done) → c .unlocked Lists ≡ true → R (0xD6 ∷ []) c cal meas o → o .answer ≡ 0xFF ∷ []
+    free-goes : (p : List ℕ) (c : Session) (cal meas : List ℕ) (o : Done) → byte p 0 ≡ 0xD6 → c .unlocked Lists ≡ true → R p c cal meas o → o .answer ≡ 0xFF ∷ []
     unfolding judgeBy judgeThe commandOf replyIn
-    free-goes c cal meas o free r =
-        let p : List ℕ = 0xD6 ∷ [] in
+    free-goes p c cal meas o code free r =
         ap (λ (x : Done). x .answer) (way .same p c cal meas o r)
-        ∙ by-code (λ (d : Deed). replyIn d c cal meas ≡ 0xFF ∷ []) p c 0xD6 command.FreeDaq refl refl (length cal) (length meas) (rw free)
+        ∙ by-code (λ (d : Deed). replyIn d c cal meas ≡ 0xFF ∷ []) p c 0xD6 command.FreeDaq refl code (length cal) (length meas) (rw (le-ltb (length p) 1 (not-empty p code), free))
 
     -- ---- ALLOC_DAQ, once they are freed
-    lists-go : (ls : List ℕ) (c : Session) (cal meas : List ℕ) (o : Done) → ((l : ℕ) → HasOdts w l → In l ls) → c .unlocked Lists ≡ true → c .freed ≡ true → c .lists ≡ 0
-        → R (0xD5 ∷ 0 ∷ w .lists ∷ 0 ∷ []) c cal meas o → (o .answer ≡ 0xFF ∷ []) × Sizing ls (o .session)
-    lists-go ls c cal meas o every free freed none r =
-        let p : List ℕ = 0xD5 ∷ 0 ∷ w .lists ∷ 0 ∷ [] in
-        let is : two p 2 ≡ w .lists = omega arith in
+    lists-go : (p ls : List ℕ) (c : Session) (cal meas : List ℕ) (o : Done) → byte p 0 ≡ 0xD5 → two p 2 ≡ w .lists → 4 ≤ length p → ((l : ℕ) → HasOdts w l → In l ls)
+        → c .unlocked Lists ≡ true → c .freed ≡ true → c .lists ≡ 0 → R p c cal meas o → (o .answer ≡ 0xFF ∷ []) × Sizing ls (o .session)
+    lists-go p ls c cal meas o code is long every free freed none r =
         let ff : o .answer ≡ 0xFF ∷ [] =
-        fills R way .listsDone p c cal meas o r refl .1
-        (record { long = omega arith; unlocked = free; freed = freed; none = none; some = omega (arith, is, pool .some) }, omega (arith, is, pool .lists)) in
-        let law : ALLOC-DAQ p c cal meas o = obeys R way .allocDaq p c cal meas o r refl (ap (λ (a : List ℕ). byte a 0) ff) in
+        lists-done R way p c cal meas o r code (record { long = long; unlocked = free; freed = freed; none = none; some = omega (arith, is, pool .some); room = omega (arith, is, pool .lists) }) in
+        let law : ALLOC-DAQ p c cal meas o = obeys R way .allocDaq p c cal meas o r code (ap (λ (a : List ℕ). byte a 0) ff) in
         let bare : (l : ℕ) → o .session .list l .odts ≡ 0 = λ l. ap (λ (y : DaqList). y .odts) (law .nothing l) in (
           ff,
           record {
@@ -327,55 +321,30 @@ module _ (w : Plan) where
 -- ---- the whole row
 goes-through : (R : Way) → AsModel R → (w : Plan) (ls : List ℕ) (xs : List OdtAt) (c : Session) → InPool w → EachOnce (HasOdts w) ls → EachOnce (HasEntries w) xs → c .unlocked Lists ≡ true
     → Goes R (Allocated w) c (asked w ls xs)
-goes-through R way w ls xs c pool order order′ free = λ d cal meas o m r.
-    let unlocked : d .unlocked Lists ≡ true = m .lock ∙ free in
-    let ff : o .answer ≡ 0xFF ∷ [] = free-goes w R way pool d cal meas o unlocked r in
-    let law : FREE-DAQ (0xD6 ∷ []) d cal meas o = obeys R way .freeDaq (0xD6 ∷ []) d cal meas o r refl (ap (λ (a : List ℕ). byte a 0) ff) in (
+goes-through R way w ls xs c pool order order′ free = λ d p cal meas o m a r.
+    let unlocked : d .unlocked Lists ≡ true = m .unlocked free in
+    let ff : o .answer ≡ 0xFF ∷ [] = free-goes w R way pool p d cal meas o a unlocked r in
+    let law : FREE-DAQ p d cal meas o = obeys R way .freeDaq p d cal meas o r a (ap (λ (x : List ℕ). byte x 0) ff) in (
       ff,
-      λ d′ cal′ meas′ o′ m′ r′.
+      λ d′ p′ cal′ meas′ o′ m′ a′ r′.
           let step : (o′ .answer ≡ 0xFF ∷ []) × Sizing w ls (o′ .session) =
-          lists-go w R way pool ls d′ cal′ meas′ o′ (order .every) (m′ .lock ∙ law .locks Lists ∙ unlocked) (m′ .settings .freed ∙ law .freed) (m′ .settings .lists ∙ law .none) r′ in (
+          lists-go w R way pool p′ ls d′ cal′ meas′ o′ (a′ .0) (a′ .1) (a′ .2) (order .every) (m′ .unlocked (law .locks Lists ∙ unlocked)) (m′ .freed ∙ law .freed) (m′ .lists ∙ law .none) r′ in (
             step .0,
-            odts-row w R way pool ls xs (order .only) (order .once)
+            odts-row w R way pool ls (entries-asked w R way pool xs) (order .only) (order .once)
                 (λ e s. entries-row w R way pool xs (order′ .only) (order′ .once) e (filling-from w xs e (order′ .every) s)) (o′ .session) (step .1),
           ),
     )
 
--- ---- of the slave: calls that do no command
-settings-then : {c d e : Session} → SettingsKept c d → SettingsKept d e → SettingsKept c e
-settings-then p q = record {
-  pointer = q .pointer ∙ p .pointer;
-  freed = q .freed ∙ p .freed;
-  lists = q .lists ∙ p .lists;
-  modes = λ l. q .modes l ∙ p .modes l;
-  selected = λ l. q .selected l ∙ p .selected l;
-  started = λ l. q .started l ∙ p .started l;
-  odts = λ l. q .odts l ∙ p .odts l;
-  counts = λ l o. q .counts l o ∙ p .counts l o;
-  entries = λ l o e. q .entries l o e ∙ p .entries l o e;
-}
-
-run-settings : (cs : List Call) (s : List ℕ) → consistent s ≡ true → Uncommanded ours s cs → SettingsKept (sessionOf s) (sessionOf (run ours s cs))
-run-settings [] s c u = settings-same refl
-run-settings (Byte cal meas b ∷ cs) s c u =
-    let e : sessionOf (receiveOf s cal meas b .state) ≡ sessionOf s = ap sessionOf (rests-known s cal meas b c (u .0) .state) ∙ read-session s b c in
-    settings-then (settings-same e) (run-settings cs (receiveOf s cal meas b .state) (receive-kept s cal meas b c) (u .1))
-run-settings (Event cal meas event clock ∷ cs) s c u =
-    settings-then (lists-locked .event s cal meas event clock) (run-settings cs (eventOf s cal meas event clock .state) (event-kept s cal meas event clock c) u)
-run-settings (SendingSlot out ∷ cs) s c u = settings-then (lists-locked .slot s out) (run-settings cs (slotOf s out .state) (slot-kept s out c) u)
-run-settings (Elsewhere ∷ cs) s c u = run-settings cs s c u
-
--- what goes through by what is heard goes through from a state
-heard-through : (E : Session → Type 0) (ps : List (List ℕ)) (s : List ℕ) → consistent s ≡ true → Bytes s → Goes (Obeyed ours) E (sessionOf s) ps → GoThrough ours E s ps
+-- ---- of the slave: what goes through by what is heard goes through from a state
+heard-through : (E : Session → Type 0) (later : List Request) (s : List ℕ) → consistent s ≡ true → Bytes s → Goes (Obeyed ours) E (sessionOf s) later → GoThrough ours E s later
 heard-through E [] s c bs g = g
-heard-through E (p ∷ ps) s c bs g = λ before cal meas b quiet lent last heard.
+heard-through E (a ∷ later) s c bs g = λ before cal meas b p quiet lent last heard asks.
     let t : List ℕ = run ours s before in
     let u : List ℕ = receiveOf t cal meas b .state in
     let ct : consistent t ≡ true = run-kept s before c in
     let bt : Bytes t = run-bytes s before bs lent in
-    let m : Meanwhile (sessionOf s) (sessionOf t) = record { settings = run-settings before s c quiet; lock = ap (λ (f : Resource → Bool). f Lists) (run-alike before s c quiet .0 .unlocked) } in
-    let here = g (sessionOf t) cal meas (shown u (receiveOf t cal meas b .cal)) m (heard-obeyed t cal meas b p ct bt (last .2) heard) in
-    (here .0, heard-through E ps u (receive-kept t cal meas b ct) (receive-bytes t cal meas b bt (last .0) (last .1) (last .2) .0) (here .1))
+    let here = g (sessionOf t) p cal meas (shown u (receiveOf t cal meas b .cal)) (run-pool before s c quiet) asks (heard-obeyed t cal meas b p ct bt (last .2) heard) in
+    (here .0, heard-through E later u (receive-kept t cal meas b ct) (receive-bytes t cal meas b bt (last .0) (last .1) (last .2) .0) (here .1))
 
 pub whole-pool : WholePool ours
 whole-pool w ls xs s pool order order′ c bs free = heard-through (Allocated w) (asked w ls xs) s c bs (goes-through (Obeyed ours) as-model w ls xs (sessionOf s) pool order order′ free)

@@ -32,10 +32,11 @@ use Rattle.demands.specs.Slave.{ours}
 use Rattle.demands.specs.Runs.{Call, run}
 use Rattle.demands.specs.Heard.{readBy, deedIn}
 use Rattle.demands.specs.Memory.{Brings}
-use Rattle.demands.specs.Keys.{Uncommanded}
+use Rattle.demands.specs.Between.{changesMta, Without}
 use Rattle.demands.proofs.ReadBy.{read-length}
 use Rattle.demands.proofs.Received.{commanded, read-can, command-answer}
-use Rattle.demands.proofs.Keys.{run-alike}
+use Rattle.demands.proofs.Reached.{run-kept}
+use Rattle.demands.proofs.Between.{run-mta}
 use Rattle.demands.proofs.Downloads.{upload-says}
 
 -- two blocks, the second behind the first
@@ -92,13 +93,13 @@ upload-bytes s cal meas b p bs x a u w e =
     cc
 
 pub goes-on : (s cal meas : List ℕ) (b : ℕ) (p first : List ℕ) (between : List Call) (c : ℕ) (q second : List ℕ) → consistent s ≡ true
-    → Brings ours 0xF4 s cal meas b p first → Uncommanded ours (ours .receive s cal meas b .state) between
+    → Brings ours 0xF4 s cal meas b p first → Without changesMta ours (ours .receive s cal meas b .state) between
     → Brings ours 0xF5 (run ours (ours .receive s cal meas b .state) between) cal meas c q second
     → first ++ second ≡ block (pick (extensionFrom (byte p 3)) cal meas) (u32At p 4) (byte p 1 + byte q 1)
 goes-on s cal meas b p first between c q second u short quiet next =
     let t : List ℕ = receiveOf s cal meas b .state in
     let x : Extension = extensionFrom (byte p 3) in
     let a : ℕ = u32At p 4 in
-    let later = run-alike between t (receive-kept s cal meas b u) quiet in
-    let there : sessionOf (run ours t between) .mta ≡ At x (a + byte p 1) = later .0 .mta ∙ upload-sets s cal meas b p first u short in
-    rw (short-bytes s cal meas b p first u short, upload-bytes (run ours t between) cal meas c q second x (a + byte p 1) (later .1) next there) (block-on (pick x cal meas) a (byte p 1) (byte q 1))
+    let sound : consistent t ≡ true = receive-kept s cal meas b u in
+    let there : sessionOf (run ours t between) .mta ≡ At x (a + byte p 1) = run-mta between t sound quiet ∙ upload-sets s cal meas b p first u short in
+    rw (short-bytes s cal meas b p first u short, upload-bytes (run ours t between) cal meas c q second x (a + byte p 1) (run-kept t between sound) next there) (block-on (pick x cal meas) a (byte p 1) (byte q 1))

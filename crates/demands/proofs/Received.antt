@@ -102,25 +102,10 @@ module _ (s cal meas : List ℕ) (b : ℕ) (c : consistent s ≡ true) where
       (λ _. meant-reads (fedOf s b .taken .outcome) (read-roomy s b c) refl)
       (λ n. absurd (false-true (sym n ∙ c)))
 
--- ---- by what is done
--- nothing is done: no answer, and the reader's place alone changes
-pub record Rests (s cal : List ℕ) (b : ℕ) (o : Step) : Type 0 where
-  pub number : receivedNumber (o .received) ≢ 1
-  pub few : receivedNumber (o .received) ≤ 7
-  pub state : o .state ≡ readBy s b
-  pub memory : o .cal ≡ cal
-
+-- ---- a good message is heeded
 pub some-none : {A : Type 0} {x : A} → some x ≡ none → ⊥
 some-none e = let z : _≡_ {A = ℕ} 0 1 = cc in omega arith
 
-rests-by : {s cal meas : List ℕ} {b : ℕ} {o : Step} {x : Option Deed} → Reads s cal meas b o x → x ≡ none → Rests s cal b o
-rests-by (rests r n f) e = record { number = n; few = f; state = refl; memory = refl }
-rests-by (acts d p w) e = absurd (some-none e)
-
-pub rests-known : (s cal meas : List ℕ) (b : ℕ) → consistent s ≡ true → doneAt s cal meas b ≡ none → Rests s cal b (receiveOf s cal meas b)
-rests-known s cal meas b c e = rests-by (received s cal meas b c) e
-
--- ---- a good message is heeded
 heeded-by : (o : Outcome) (m t cal meas p : List ℕ) → packetBy o m ≡ some p → meant o m t cal meas ≡ heeded p t cal meas
 unfolding meant
 heeded-by line.Nothing m t cal meas p e = absurd (some-none (sym e))

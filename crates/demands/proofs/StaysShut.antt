@@ -42,7 +42,7 @@ use Rattle.demands.proofs.ReadBy.{read-session}
 use Rattle.demands.proofs.Received.{Does, Reads, rests, acts, received, done-answer, resting, acting}
 use Rattle.demands.proofs.Refusals.{keyed, Wrong, wrong-by}
 use Rattle.demands.proofs.ByteKeeps.{done-steps}
-use Rattle.demands.proofs.Keys.{event-alike, slot-alike}
+use Rattle.demands.proofs.Alike.{event-alike, slot-alike}
 use Rattle.demands.proofs.Numbering.{power-up-is}
 use Rattle.demands.proofs.Life.{passed-kept}
 use Rattle.demands.proofs.Opening.{opens-by-key, shut-locked, life-keyless}

@@ -13,7 +13,7 @@ use Rattle.model.specs.View.{sessionOf, viewOf}
 use Rattle.words.specs.declared.Received.the-variants.{Answered, Unread}
 use Rattle.views.specs.Events.{takesSample}
 use Rattle.demands.specs.Slave.{AnySlave}
-use Rattle.demands.specs.Runs.{Call, Byte, Event, SendingSlot, Elsewhere, afterCall, run, frames, sends, slots, received}
+use Rattle.demands.specs.Runs.{Call, SendingSlot, afterCall, run, frames, sends, slots, received, Never}
 use Rattle.demands.specs.Heard.{packetEnded, answerTo, stopsAt}
 use Rattle.demands.specs.Waiting.{waitingOf, sampleOf, answersIn, packetsIn}
 use Rattle.demands.specs.Refusals.{ChangesOnly}
@@ -39,11 +39,7 @@ pub record AnsweredSoon (n : ℕ) (v : AnySlave) (s cal meas : List ℕ) (b : �
 
 -- in no call of the run list l is stopped or freed, or its session ended or renewed
 abbrev pub Undisturbed : AnySlave → ℕ → List ℕ → List Call → Type 0
-Undisturbed v l s [] = Unit {0}
-Undisturbed v l s (Byte cal meas b ∷ cs) = (stopsAt l s cal meas b ≡ false) × Undisturbed v l (afterCall v s (Byte cal meas b)) cs
-Undisturbed v l s (Event cal meas event clock ∷ cs) = Undisturbed v l (afterCall v s (Event cal meas event clock)) cs
-Undisturbed v l s (SendingSlot out ∷ cs) = Undisturbed v l (afterCall v s (SendingSlot out)) cs
-Undisturbed v l s (Elsewhere ∷ cs) = Undisturbed v l s cs
+Undisturbed v l s cs = Never (stopsAt l) v s cs
 
 -- xs are the first of ys
 abbrev pub Begins : List (List ℕ) → List (List ℕ) → Type 0

@@ -8,13 +8,13 @@ use Rattle.state.specs.State.{consistent, bitOf}
 use Rattle.model.specs.Model.{byte}
 use Rattle.model.specs.View.{sessionOf, viewOf}
 use Rattle.demands.specs.Slave.{AnySlave}
-use Rattle.demands.specs.Heard.{Commands, doneAt, bringsKey, keyMatches}
-use mathlib.Core.Option.{none}
+use Rattle.demands.specs.Heard.{Commands, bringsKey, keyMatches}
 use Rattle.state.specs.Bytes.{bytes32, u32At}
 use Rattle.words.specs.declared.Resource.{Resource}
 use Rattle.words.specs.declared.Resource.the-variants.{Calibration, Lists}
 use Rattle.words.specs.declared.Seed.the-variants.{For}
-use Rattle.demands.specs.Runs.{Call, Byte, Event, SendingSlot, Elsewhere, afterCall, run}
+use Rattle.demands.specs.Runs.{Call, run}
+use Rattle.demands.specs.Between.{changesSeed, Without}
 use Rattle.views.specs.Words.{keyNumber}
 
 abbrev pub otherLock : Resource → Resource
@@ -36,21 +36,13 @@ lastFirst bs = drop 3 bs ++ take 3 bs
 abbrev pub keyTo : Resource → List ℕ → List ℕ
 keyTo r seed = lastFirst (bytes32 ((u32At seed 0 + keyNumber r) % 2 ^ 32))
 
--- in no call of the run a command is done
-abbrev pub Uncommanded : AnySlave → List ℕ → List Call → Type 0
-Uncommanded v s [] = Unit {0}
-Uncommanded v s (Byte cal meas b ∷ cs) = (doneAt s cal meas b ≡ none) × Uncommanded v (afterCall v s (Byte cal meas b)) cs
-Uncommanded v s (Event cal meas event clock ∷ cs) = Uncommanded v (afterCall v s (Event cal meas event clock)) cs
-Uncommanded v s (SendingSlot out ∷ cs) = Uncommanded v (afterCall v s (SendingSlot out)) cs
-Uncommanded v s (Elsewhere ∷ cs) = Uncommanded v s cs
-
--- GET_SEED has led from state s to t: four bytes are the answer's seed, and UNLOCK with the key to them, the next command whenever it comes, opens the
--- lock of r and leaves the other
+-- GET_SEED has led from state s to t: four bytes are the answer's seed, and UNLOCK with the key to them, whenever it comes and whatever came between that
+-- does not change the seed, opens the lock of r and leaves the other
 pub record SeedOpens (v : AnySlave) (r : Resource) (s t : List ℕ) : Type 0 where
   pub seed : List ℕ
   pub four : length seed ≡ 4
   pub answer : viewOf t .answer ≡ 0xFF ∷ 0x04 ∷ seed
-  pub opens : (between : List Call) (cal meas : List ℕ) (b : ℕ) (p : List ℕ) → Uncommanded v t between
+  pub opens : (between : List Call) (cal meas : List ℕ) (b : ℕ) (p : List ℕ) → Without changesSeed v t between
       → Commands (run v t between) b p → take 6 p ≡ 0xF7 ∷ 0x04 ∷ keyTo r seed
       → (sessionOf (v .receive (run v t between) cal meas b .state) .unlocked r ≡ true)
       × (sessionOf (v .receive (run v t between) cal meas b .state) .unlocked (otherLock r) ≡ sessionOf s .unlocked (otherLock r))

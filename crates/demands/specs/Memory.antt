@@ -22,7 +22,7 @@ use Rattle.words.specs.declared.Mta.the-variants.{At}
 use Rattle.model.specs.declared.Deed.the-variants.{Download}
 use Rattle.model.specs.Judge.{extensionFrom}
 use Rattle.demands.specs.Runs.{Call, run}
-use Rattle.demands.specs.Keys.{Uncommanded}
+use Rattle.demands.specs.Between.{changesMta, Without}
 
 -- a step on the memory's first bytes, with its other bytes put back
 abbrev pub putBack : Step → List ℕ → Step
@@ -74,9 +74,9 @@ pub record Memory (v : AnySlave) : Type 0 where
       → Downloads (h .state) b p from a n → viewOf (passed v h (Hears meas b) .state) .answer ≡ 0xFF ∷ [] → OfBytes (Spares a n) v (passed v h (Hears meas b)) between
       → Uploads (lived v (passed v h (Hears meas b)) between .state) c q a n
       → viewOf (passed v (lived v (passed v h (Hears meas b)) between) (Hears meas′ c) .state) .answer ≡ 0xFF ∷ block p from n
-  -- UPLOAD after SHORT_UPLOAD, the next command whenever it comes, goes on there: both done and lent the same memories, their bytes together are the
+  -- UPLOAD after SHORT_UPLOAD, whenever it comes and whatever came between that does not change the MTA, goes on there: both done and lent the same memories, their bytes together are the
   -- block of both lengths
   pub goesOn : (s cal meas : List ℕ) (b : ℕ) (p first : List ℕ) (between : List Call) (c : ℕ) (q second : List ℕ) → consistent s ≡ true
-      → Brings v 0xF4 s cal meas b p first → Uncommanded v (v .receive s cal meas b .state) between
+      → Brings v 0xF4 s cal meas b p first → Without changesMta v (v .receive s cal meas b .state) between
       → Brings v 0xF5 (run v (v .receive s cal meas b .state) between) cal meas c q second
       → first ++ second ≡ block (pick (extensionFrom (byte p 3)) cal meas) (u32At p 4) (byte p 1 + byte q 1)

@@ -1,6 +1,7 @@
 -- Runs: calls in any order, folded over a slave.
 use Prim.Native.Nat.{ℕ, suc, _<_}
-use mathlib.Core.Bool.{Bool, cond}
+use mathlib.Core.Path.{_≡_}
+use mathlib.Core.Bool.{Bool, false, cond}
 use mathlib.Core.List.{List, [], _∷_, _++_}
 use lib.Dec.{leb}
 use lib.ListN.{length, take}
@@ -75,3 +76,11 @@ LentBytes (Byte cal meas b ∷ cs) = Bytes cal × Bytes meas × (b < 256) × Len
 LentBytes (Event cal meas event clock ∷ cs) = Bytes cal × Bytes meas × LentBytes cs
 LentBytes (SendingSlot out ∷ cs) = LentBytes cs
 LentBytes (Elsewhere ∷ cs) = LentBytes cs
+
+-- the test holds at no byte of the run, of the state as it then is and with the memories lent to that call
+abbrev pub Never : (List ℕ → List ℕ → List ℕ → ℕ → Bool) → AnySlave → List ℕ → List Call → Type 0
+Never test v s [] = Unit {0}
+Never test v s (Byte cal meas b ∷ cs) = (test s cal meas b ≡ false) × Never test v (afterCall v s (Byte cal meas b)) cs
+Never test v s (Event cal meas event clock ∷ cs) = Never test v (afterCall v s (Event cal meas event clock)) cs
+Never test v s (SendingSlot out ∷ cs) = Never test v (afterCall v s (SendingSlot out)) cs
+Never test v s (Elsewhere ∷ cs) = Never test v s cs

@@ -1,40 +1,22 @@
 -- Runs of ours in which every premise of demand 3 is met, and its bounds are tight: a smaller one fails. Assumes nothing.
 use Prim.Native.Nat.{ℕ, suc, _≤_}
 use mathlib.Core.Path.{_≡_, refl, ap, sym, _∙_, subst, subst₂}
-use mathlib.Core.Bool.{Bool, true, false, cond}
+use mathlib.Core.Bool.{Bool, true}
 use mathlib.Core.List.{List, [], _∷_, _++_, map}
 use native.Mathlib.Omega.{arith}
 use lib.Dec.{lit≤}
 use lib.ListN.{length, getD}
-use Rattle.line.proofs.Laws.{cond-ind}
-use Rattle.line.proofs.Stuffed.{false-true}
 use Rattle.state.specs.State.{consistent}
 use Rattle.model.specs.View.{sessionOf}
 use Rattle.views.specs.Events.{takesSample}
-use Rattle.demands.specs.Slave.{AnySlave, ours}
-use Rattle.demands.specs.Runs.{Call, Byte, Event, SendingSlot, Elsewhere, afterCall, frames, slots}
+use Rattle.demands.specs.Slave.{ours}
+use Rattle.demands.specs.Runs.{frames, slots}
 use Rattle.demands.specs.Heard.{stopsAt}
 use Rattle.demands.specs.Waiting.{waitingOf, sampleOf, packetRead, packetsIn}
 use Rattle.demands.specs.Demand3.{Undisturbed, Begins, WholeBy, NextBy, SampledBy}
 use Rattle.shown.specs.Exchange.{reached, fourLists, sampledAgain, seven, eight, fifteen, sixteen}
 use Rattle.shown.proofs.Computed.{computed}
-
--- ---- whether a run is undisturbed can be computed
-unfoldable undisturbed : AnySlave → ℕ → List ℕ → List Call → Bool
-undisturbed v l s [] = true
-undisturbed v l s (Byte cal meas b ∷ cs) = cond (stopsAt l s cal meas b) false (undisturbed v l (afterCall v s (Byte cal meas b)) cs)
-undisturbed v l s (Event cal meas event clock ∷ cs) = undisturbed v l (afterCall v s (Event cal meas event clock)) cs
-undisturbed v l s (SendingSlot out ∷ cs) = undisturbed v l (afterCall v s (SendingSlot out)) cs
-undisturbed v l s (Elsewhere ∷ cs) = undisturbed v l s cs
-
-told : (v : AnySlave) (l : ℕ) (s : List ℕ) (cs : List Call) → undisturbed v l s cs ≡ true → Undisturbed v l s cs
-unfolding undisturbed
-told v l s [] e = tt
-told v l s (Byte cal meas b ∷ cs) e =
-    cond-ind (λ (t : Bool). t ≡ true → (stopsAt l s cal meas b ≡ false) × Undisturbed v l (afterCall v s (Byte cal meas b)) cs) (stopsAt l s cal meas b) (λ _ x. absurd (false-true x)) (λ f x. (f, told v l (afterCall v s (Byte cal meas b)) cs x)) e
-told v l s (Event cal meas event clock ∷ cs) e = told v l (afterCall v s (Event cal meas event clock)) cs e
-told v l s (SendingSlot out ∷ cs) e = told v l (afterCall v s (SendingSlot out)) cs e
-told v l s (Elsewhere ∷ cs) e = told v l s cs e
+use Rattle.shown.proofs.Never.{never, never-so}
 
 -- ---- the run
 -- the first byte of the packet in a frame: FE is the answer to SYNCH, else it is an ODT's number
@@ -69,9 +51,9 @@ known s =
       next = consistent (sampledAgain s);
       still-present = sessionOf (sampledAgain s) .lists;
       waiting = waitingOf (sampledAgain s) 3;
-      calm-seven = undisturbed ours 3 (sampledAgain s) seven;
-      calm-fifteen = undisturbed ours 3 (sampledAgain s) fifteen;
-      calm = undisturbed ours 3 (sampledAgain s) sixteen;
+      calm-seven = never (stopsAt 3) ours (sampledAgain s) seven;
+      calm-fifteen = never (stopsAt 3) ours (sampledAgain s) fifteen;
+      calm = never (stopsAt 3) ours (sampledAgain s) sixteen;
       order = map numberIn (frames ours (sampledAgain s) eight);
       none = packetsIn (sessionOf (sampledAgain s)) 3 (frames ours (sampledAgain s) seven);
       early = packetsIn (sessionOf s) 3 (frames ours (sampledAgain s) fifteen);
@@ -107,7 +89,7 @@ expected =
     }
 
 computes : known (reached ours fourLists) ≡ expected
-unfolding computed undisturbed known expected
+unfolding computed never known expected
 computes = refl
 
 -- ---- the bounds
@@ -126,21 +108,21 @@ not-next : (s : List ℕ) → known s ≡ expected → (bound : ℕ → ℕ) →
 unfolding known expected
 not-next s k bound h d =
     not-one first (packetsIn (sessionOf (sampledAgain s)) 3 (frames ours (sampledAgain s) seven)) (ap (λ x. x .none) k)
-    (d (sampledAgain s) 3 seven first (second ∷ []) (ap (λ x. x .next) k) (told ours 3 (sampledAgain s) seven (ap (λ x. x .calm-seven) k)) (ap (λ x. x .waiting) k)
+    (d (sampledAgain s) 3 seven first (second ∷ []) (ap (λ x. x .next) k) (never-so (stopsAt 3) ours (sampledAgain s) seven (ap (λ x. x .calm-seven) k)) (ap (λ x. x .waiting) k)
     (subst (λ L. bound L ≤ 7) (sym (ap (λ x. x .still-present) k)) h))
 
 not-sampled : (s : List ℕ) → known s ≡ expected → (bound : ℕ → ℕ → ℕ) → bound 4 2 ≤ 15 → SampledBy bound ours → ⊥
 unfolding known expected
 not-sampled s k bound h d =
     not-both (sampleOf s 3 1 [] (6 ∷ [])) (packetsIn (sessionOf s) 3 (frames ours (sampledAgain s) fifteen)) (ap (λ x. x .sample) k) (ap (λ x. x .early) k)
-    (d s [] (6 ∷ []) 0 1 3 fifteen (ap (λ x. x .sound) k) (lit≤ tt) (ap (λ x. x .sampling) k) (told ours 3 (sampledAgain s) fifteen (ap (λ x. x .calm-fifteen) k))
+    (d s [] (6 ∷ []) 0 1 3 fifteen (ap (λ x. x .sound) k) (lit≤ tt) (ap (λ x. x .sampling) k) (never-so (stopsAt 3) ours (sampledAgain s) fifteen (ap (λ x. x .calm-fifteen) k))
     (few bound 15 (sessionOf s .lists) (sampleOf s 3 1 [] (6 ∷ [])) (ap (λ x. x .present) k) (ap (λ x. x .sample) k) h))
 
 not-whole : (s : List ℕ) → known s ≡ expected → (bound : ℕ → ℕ → ℕ) → bound 4 2 ≤ 15 → WholeBy bound ours → ⊥
 unfolding known expected
 not-whole s k bound h d =
     not-both (waitingOf (sampledAgain s) 3) (packetsIn (sessionOf (sampledAgain s)) 3 (frames ours (sampledAgain s) fifteen)) (ap (λ x. x .waiting) k) (ap (λ x. x .early-again) k)
-    (d (sampledAgain s) 3 fifteen (ap (λ x. x .next) k) (told ours 3 (sampledAgain s) fifteen (ap (λ x. x .calm-fifteen) k))
+    (d (sampledAgain s) 3 fifteen (ap (λ x. x .next) k) (never-so (stopsAt 3) ours (sampledAgain s) fifteen (ap (λ x. x .calm-fifteen) k))
     (few bound 15 (sessionOf (sampledAgain s) .lists) (waitingOf (sampledAgain s) 3) (ap (λ x. x .still-present) k) (ap (λ x. x .waiting) k) h))
 
 -- with four lists seven slots are not enough for the next packet of a list; nor fifteen for two packets of it that wait, or for a sample of two
@@ -169,7 +151,7 @@ unfolding known expected
 sixteen-known s k = (
   ap (λ x. x .sound) k,
   ap (λ x. x .sampling) k,
-  told ours 3 (sampledAgain s) sixteen (ap (λ x. x .calm) k),
+  never-so (stopsAt 3) ours (sampledAgain s) sixteen (ap (λ x. x .calm) k),
   refl,
   ap (λ x. x .late) k ∙ sym (ap (λ x. x .sample) k),
 )

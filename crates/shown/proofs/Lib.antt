@@ -6,7 +6,9 @@ pub mod ShutOut
 -- The bench sheet.
 pub mod Table
 -- Each premise is met, and each bound is tight.
+pub mod Never
 pub mod Bounds
 pub mod AnswerBound
 pub mod Premises
+pub mod Between
 pub mod Lives

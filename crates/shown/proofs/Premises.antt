@@ -1,6 +1,5 @@
--- Runs of ours that meet premises which no other run here meets: a good message while an answer waits; a wrong key;
--- UPLOAD behind SHORT_UPLOAD; SHORT_DOWNLOAD; three wrong keys, and GET_SEED and UNLOCK after them; an allocation that fills the pool, and one that
--- passes it. Assumes nothing.
+-- Runs of ours that meet premises which no other run here meets: a good message while an answer waits; a wrong key; SHORT_DOWNLOAD; three wrong keys, and
+-- GET_SEED and UNLOCK after them; an allocation that fills the pool, and one that passes it. Assumes nothing.
 use Prim.Native.Nat.{ℕ}
 use mathlib.Core.Path.{_≡_, refl}
 use mathlib.Core.Bool.{true}
@@ -12,12 +11,11 @@ use Rattle.model.specs.View.{sessionOf, viewOf}
 use Rattle.views.specs.Commands.{two}
 use Rattle.words.specs.declared.Received.the-variants.{Unread}
 use Rattle.demands.specs.Slave.{ours}
-use Rattle.demands.specs.Runs.{Call, run}
+use Rattle.demands.specs.Runs.{Call}
 use Rattle.demands.specs.Heard.{packetEnded, Commands, wrongKey}
-use Rattle.demands.specs.Keys.{Uncommanded}
 use Rattle.demands.specs.Memory.{Brings}
 use Rattle.demands.specs.StaysShut.{wrongIn}
-use Rattle.shown.specs.Exchange.{says, asks, askAll, begun, lastByte, device, poweredOn, reached, connect, synch, seedOfCalibration, keyOfCalibration, keyOfLists, tries, upload, uploadFirst, downloadFirst, pair, loadingFirst, fetchingFirst, readingOn, listable, freeLists, allocLists, allocOdts, allocEntries, withLists, freedAgain}
+use Rattle.shown.specs.Exchange.{says, asks, askAll, begun, lastByte, device, poweredOn, reached, connect, synch, seedOfCalibration, keyOfCalibration, keyOfLists, tries, downloadFirst, pair, loadingFirst, listable, freeLists, allocLists, allocOdts, allocEntries, withLists, freedAgain}
 use Rattle.shown.proofs.Computed.{computed, told}
 use Rattle.shown.proofs.Taken.{asked, heardSo}
 
@@ -39,22 +37,6 @@ pub wrong-key-met : (consistent (seeded keyOfLists) ≡ true) × Commands (seede
 unfolding computed
 wrong-key-met = (refl, record { ends = refl; opened = refl; free = refl }, refl, refl)
 
--- ---- SHORT_UPLOAD in a fresh session, a slot for its answer, and UPLOAD: each is answered FF and its byte
-abbrev shortBegun : List ℕ
-shortBegun = reached ours fetchingFirst
-
-abbrev shortDone : List ℕ
-shortDone = ours .receive shortBegun pair [] (lastByte uploadFirst) .state
-
-pub goes-on-met : (consistent shortBegun ≡ true) × Brings ours 0xF4 shortBegun pair [] (lastByte uploadFirst) uploadFirst (5 ∷ []) × Uncommanded ours shortDone readingOn
-    × Brings ours 0xF5 (run ours shortDone readingOn) pair [] (lastByte (upload 1)) (upload 1) (6 ∷ [])
-unfolding computed
-goes-on-met = (
-  refl,
-  record { command = record { ends = refl; opened = refl; free = refl }; code = refl; answer = refl },
-  (refl, (refl, (refl, (refl, (refl, tt))))),
-  record { command = record { ends = refl; opened = refl; free = refl }; code = refl; answer = refl },
-)
 
 -- ---- SHORT_DOWNLOAD with the MTA unset is answered FF, and its byte is written
 abbrev loadBegun : List ℕ

@@ -27,7 +27,7 @@ unfoldable pub low : List ℕ → Bool
 low [] = true
 low (b ∷ bs) = cond (ltb b 256) (low bs) false
 
-low-bytes : (bs : List ℕ) → low bs ≡ true → Bytes bs
+pub low-bytes : (bs : List ℕ) → low bs ≡ true → Bytes bs
 unfolding low
 low-bytes [] e = λ i. lit< tt
 low-bytes (b ∷ bs) e = cond-ind (λ (t : Bool). t ≡ true → Bytes (b ∷ bs)) (ltb b 256) (λ f x. bytes-cons b bs (ltb-true b 256 f) (low-bytes bs x)) (λ _ x. absurd (false-true x)) e

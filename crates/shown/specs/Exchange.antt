@@ -6,7 +6,7 @@ use Rattle.line.specs.Message.{room, frame}
 use Rattle.state.specs.Layout.{size}
 use Rattle.session.specs.PowerUp.{powered}
 use Rattle.demands.specs.Slave.{AnySlave, ours}
-use Rattle.demands.specs.Runs.{Call, Byte, Event, SendingSlot, run}
+use Rattle.demands.specs.Runs.{Call, Byte, Event, SendingSlot, Elsewhere, run}
 use Rattle.demands.specs.Life.{Device, Moment, PowerOn, Hears, Serves}
 
 -- a slot with just the room
@@ -60,6 +60,9 @@ disconnect = 0xFE ∷ []
 
 abbrev pub synch : List ℕ
 synch = 0xFC ∷ []
+
+abbrev pub getStatus : List ℕ
+getStatus = 0xFD ∷ []
 
 abbrev pub seedOfCalibration : List ℕ
 seedOfCalibration = 0xF8 ∷ 0 ∷ 1 ∷ []
@@ -128,8 +131,12 @@ fetchingFirst = asks pair [] connect ++ begun pair [] uploadFirst
 abbrev pub readingOn : List Call
 readingOn = slot ∷ begun pair [] (upload 1)
 
+-- a slot for the answer that waits, commands, each with a slot for its answer, an event, a call on another buffer, and command p but for its last byte
+abbrev pub meanwhile : List ℕ → List (List ℕ) → List ℕ → List Call
+meanwhile cal ps p = slot ∷ (askAll cal [] ps ++ Event cal [] 0 0 ∷ Elsewhere ∷ begun cal [] p)
+
 -- ---- lists: freed, and n of them allocated; n ODTs of list l; n entries of its ODT; the pointer; an entry of n bytes, the first of the measured values;
--- event 0; a start
+-- event 0; a start; a selection
 abbrev pub freeLists : List ℕ
 freeLists = 0xD6 ∷ []
 
@@ -153,6 +160,9 @@ onEvent0 l = 0xE0 ∷ 0x10 ∷ l ∷ 0 ∷ 0 ∷ 0 ∷ 1 ∷ 0 ∷ []
 
 abbrev pub start : ℕ → List ℕ
 start l = 0xDE ∷ 1 ∷ l ∷ 0 ∷ []
+
+abbrev pub select : ℕ → List ℕ
+select l = 0xDE ∷ 2 ∷ l ∷ 0 ∷ []
 
 -- two ODTs for each of n lists; a session with n such lists, and no entries yet
 abbrev pub twoOdts : ℕ → List (List ℕ)

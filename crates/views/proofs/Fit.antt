@@ -103,11 +103,11 @@ module _ (p : Packet) (v : Seen) (nc nm : ℕ) (low : p .d4 < 2 ^ 32) (few : v .
   by-verdict _ _ (writes l o e free w some inside) = (inside .0, entry-low (p .d4) (p .b2) (pick (extensionFrom (p .b3)) nc nm) some (inside .1))
   by-verdict _ _ (modes free list event still) = tt
   by-verdict _ _ (stops free list) = tt
-  by-verdict _ _ (starts free list still) = tt
+  by-verdict _ _ (starts free list mode still) = tt
   by-verdict _ _ (goes-on free list) = tt
   by-verdict _ _ (selects free list) = tt
   by-verdict _ _ (stops-all free) = tt
-  by-verdict _ _ (starts-all free) = tt
+  by-verdict _ _ (starts-all free mode) = tt
   by-verdict _ _ (stops-some free) = tt
   by-verdict _ _ processor = tt
   by-verdict _ _ resolution = tt

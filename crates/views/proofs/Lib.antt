@@ -29,7 +29,6 @@ pub mod SampleLaws
 pub mod EventLaws
 pub mod OnTheLine
 pub mod Obeys
-pub mod Full
 pub mod FaultWords
 pub mod Faults
 pub mod Due

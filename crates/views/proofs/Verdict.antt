@@ -69,11 +69,11 @@ pub data Verdict (p : Packet) (v : Seen) (nc nm : ℕ) : Command → Deed → Ty
       → Verdict p v nc nm WriteDaq (deed.WriteEntry l o e (p .b2) (extensionFrom (p .b3)) (p .d4))
   modes : v .lists ≡ true → p .w2 < v .present → p .w4 < events → v .runs ≡ false → Verdict p v nc nm SetDaqListMode (deed.SetMode (p .w2) (p .w4))
   stops : v .lists ≡ true → p .w2 < v .present → Verdict p v nc nm StartStopDaqList (deed.Stop (p .w2))
-  starts : v .lists ≡ true → p .w2 < v .present → v .runs ≡ false → Verdict p v nc nm StartStopDaqList (deed.Start (p .w2))
+  starts : v .lists ≡ true → p .w2 < v .present → p .b1 ≡ 1 → v .runs ≡ false → Verdict p v nc nm StartStopDaqList (deed.Start (p .w2))
   goes-on : v .lists ≡ true → p .w2 < v .present → Verdict p v nc nm StartStopDaqList (deed.KeepRunning (p .w2))
   selects : v .lists ≡ true → p .w2 < v .present → Verdict p v nc nm StartStopDaqList (deed.Select (p .w2))
   stops-all : v .lists ≡ true → Verdict p v nc nm StartStopSynch deed.StopAll
-  starts-all : v .lists ≡ true → Verdict p v nc nm StartStopSynch deed.StartSelected
+  starts-all : v .lists ≡ true → p .b1 ≡ 1 → Verdict p v nc nm StartStopSynch deed.StartSelected
   stops-some : v .lists ≡ true → Verdict p v nc nm StartStopSynch deed.StopSelected
   processor : Verdict p v nc nm GetDaqProcessorInfo deed.ProcessorInfo
   resolution : Verdict p v nc nm GetDaqResolutionInfo deed.ResolutionInfo
@@ -220,9 +220,9 @@ module _ (p : Packet) (v : Seen) (nc nm : ℕ) where
         cond-ind (Led StartStopDaqList) (ltb 2 (p .b1)) (λ _. refused StartStopDaqList _) (λ _.
         cond-ind (Led StartStopDaqList) (leb (v .present) (p .w2)) (λ _. refused StartStopDaqList _) (λ list.
         cond-ind (Led StartStopDaqList) (eqb (p .b1) 0) (λ _. stops free (leb-false (v .present) (p .w2) list)) (λ _.
-        cond-ind (Led StartStopDaqList) (eqb (p .b1) 1) (λ _.
+        cond-ind (Led StartStopDaqList) (eqb (p .b1) 1) (λ mode.
         cond-ind (Led StartStopDaqList) (v .runs) (λ _. goes-on free (leb-false (v .present) (p .w2) list)) (λ still.
-        cond-ind (Led StartStopDaqList) (v .fits) (λ _. starts free (leb-false (v .present) (p .w2) list) still) (λ _. refused StartStopDaqList _)))
+        cond-ind (Led StartStopDaqList) (v .fits) (λ _. starts free (leb-false (v .present) (p .w2) list) (eqb-true (p .b1) 1 mode) still) (λ _. refused StartStopDaqList _)))
         (λ _. selects free (leb-false (v .present) (p .w2) list)))))
 
     synch-found : Led StartStopSynch (synchDeed (v .ready) (p .b1))
@@ -230,8 +230,8 @@ module _ (p : Packet) (v : Seen) (nc nm : ℕ) where
     synch-found =
         cond-ind (Led StartStopSynch) (ltb 2 (p .b1)) (λ _. refused StartStopSynch _) (λ _.
         cond-ind (Led StartStopSynch) (eqb (p .b1) 0) (λ _. stops-all free) (λ _.
-        cond-ind (Led StartStopSynch) (eqb (p .b1) 1) (λ _.
-        cond-ind (Led StartStopSynch) (v .ready) (λ _. starts-all free) (λ _. refused StartStopSynch _)) (λ _. stops-some free)))
+        cond-ind (Led StartStopSynch) (eqb (p .b1) 1) (λ mode.
+        cond-ind (Led StartStopSynch) (v .ready) (λ _. starts-all free (eqb-true (p .b1) 1 mode)) (λ _. refused StartStopSynch _)) (λ _. stops-some free)))
 
     -- ---- the pool
     alloc-lists-found : Led AllocDaq (allocListsDeed (v .freed) (v .present) (p .w2))

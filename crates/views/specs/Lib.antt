@@ -3,7 +3,6 @@
 -- byte is. `Turns`: whose turn a slot is, and what it leaves. `PoweredUp`: what power-up leaves. `Shown`: what a call in bytes shows.
 pub mod Words
 pub mod Commands
-pub mod Full
 pub mod Faults
 pub mod Locked
 pub mod Samples
