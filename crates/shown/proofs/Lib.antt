@@ -6,7 +6,9 @@ pub mod ShutOut
 -- The bench sheet.
 pub mod Table
 -- Each premise is met, and each bound is tight.
+pub mod Calm
 pub mod Bounds
+pub mod TooFew
 pub mod AnswerBound
 pub mod Premises
 pub mod Lives
