@@ -8,6 +8,7 @@ pub mod Table
 -- Each premise is met, and each bound is tight.
 pub mod Never
 pub mod Bounds
+pub mod TooFew
 pub mod AnswerBound
 pub mod Premises
 pub mod Between

@@ -197,19 +197,17 @@ abbrev pub turns : ℕ → List Call
 turns zero = []
 turns (suc n) = says [] [] synch ++ slot ∷ slot ∷ turns n
 
--- seven slots, eight, fifteen, and sixteen
-abbrev pub seven : List Call
-seven = turns 3 ++ (says [] [] synch ++ slot ∷ [])
+-- the same, but for the last slot
+abbrev pub almost : ℕ → List Call
+almost n = turns (n - 1) ++ (says [] [] synch ++ slot ∷ [])
 
+-- eight slots, and sixteen
 abbrev pub eight : List Call
 eight = turns 4
-
-abbrev pub fifteen : List Call
-fifteen = turns 7 ++ (says [] [] synch ++ slot ∷ [])
 
 abbrev pub sixteen : List Call
 sixteen = turns 8
 
--- the event comes again, with another byte and clock 1
+-- the event comes, after `fourLists` again, with another byte and clock 1
 abbrev pub sampledAgain : List ℕ → List ℕ
 sampledAgain s = ours .event s [] (6 ∷ []) 0 1 .state
