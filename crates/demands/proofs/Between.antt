@@ -24,7 +24,7 @@ use Rattle.demands.specs.Runs.{Call, Byte, Event, SendingSlot, Elsewhere
 use Rattle.demands.specs.Heard.{readBy, deedIn, ofAnswered}
 use Rattle.demands.specs.Between.{changesSeed, changesMta, changesPool, Without}
 use Rattle.demands.proofs.ReadBy.{read-length, read-session}
-use Rattle.demands.proofs.Received.{Does, Reads, rests, acts, received, done-answer, acting}
+use Rattle.demands.proofs.Received.{Performed, Reads, rests, acts, received, done-answer, acting}
 use Rattle.demands.proofs.ByteKeeps.{done-effect}
 use Rattle.demands.proofs.Obeyed.{does-judged}
 use Rattle.demands.proofs.ListsLocked.{settings-same, lists-locked}
@@ -32,7 +32,7 @@ use Rattle.demands.proofs.Alike.{Alike, alike-self, event-alike, slot-a
 use Rattle.demands.proofs.Changes.{SeedKept, MtaKept, PoolKept, Leaves, judged-leaves}
 
 -- ---- a deed that is done at a byte leaves what its packet is judged to leave
-done-leaves : (s cal meas : List ℕ) (b : ℕ) → consistent s ≡ true → (d : Deed) (p : List ℕ) → Does s cal meas b d p
+done-leaves : (s cal meas : List ℕ) (b : ℕ) → consistent s ≡ true → (d : Deed) (p : List ℕ) → Performed s cal meas b d p
     → Leaves p (replyIn d (sessionOf s) cal meas) (sessionOf s) (sessionOf (after d (readBy s b) cal meas))
 done-leaves s cal meas b c d p w =
     let t : List ℕ = readBy s b in
@@ -80,7 +80,7 @@ run-pool = run-keeps changesPool PoolKept (record {
     freed = q .freed ∙ p .freed;
     lists = q .lists ∙ p .lists;
     odts = λ l. q .odts l ∙ p .odts l;
-    counts = λ l o. q .counts l o ∙ p .counts l o;
+    entryCounts = λ l o. q .entryCounts l o ∙ p .entryCounts l o;
     still = λ l e. q .still l (p .still l e);
   };
   still = λ a s. record {
@@ -88,7 +88,7 @@ run-pool = run-keeps changesPool PoolKept (record {
     freed = s .freed;
     lists = s .lists;
     odts = s .odts;
-    counts = s .counts;
+    entryCounts = s .entryCounts;
     still = λ l e. s .started l ∙ e;
   };
   kept = λ w. w .pool;

@@ -36,7 +36,7 @@ use Rattle.look.proofs.Looked.{judged-doable}
 use Rattle.demands.proofs.Judged.{judged, found-entered}
 use Rattle.demands.proofs.Deeds.{step-waiting, step-stops, SameLists, lists-stay, step-lists}
 use Rattle.demands.proofs.ReadBy.{waits-shown, read-only, read-length, read-session, read-answer}
-use Rattle.demands.proofs.Received.{Does, Reads, rests, acts, received, commanded, read-can}
+use Rattle.demands.proofs.Received.{Performed, Reads, rests, acts, received, commanded, read-can}
 
 -- w has the CTR of v, and whether the last frame was an answer
 pub record SameSent (v w : Slave) : Type 0 where
@@ -61,7 +61,7 @@ none-accepted NoState t n = refl
 
 module _ (s cal meas : List ℕ) (b : ℕ) (c : consistent s ≡ true) where
   -- ---- a deed that is done
-  module _ (d : Deed) (p : List ℕ) (w : Does s cal meas b d p) where
+  module _ (d : Deed) (p : List ℕ) (w : Performed s cal meas b d p) where
     can : Doable d (sessionOf (readBy s b)) (length p) (length cal) (length meas)
     can = read-can s b d (length p) (length cal) (length meas) c (w .can)
 

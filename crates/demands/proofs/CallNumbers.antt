@@ -50,7 +50,7 @@ use Rattle.demands.specs.Heard.{packetBy, packetEnded, readBy, deedIn}
 use Rattle.demands.specs.CallNumbers.{ByteTells, EventTells, SlotTells, PowerUpTells, comesAt, connects, byteNumber, sizeSent, Marked, Unmarked, otherLength, otherMark, CallNumbers}
 use Rattle.demands.proofs.Demand1.{demand1}
 use Rattle.demands.proofs.Demand2.{demand2}
-use Rattle.demands.proofs.Events.{counts}
+use Rattle.demands.proofs.Events.{tells-counts}
 use Rattle.demands.proofs.ReadBy.{read-length}
 use Rattle.demands.proofs.Received.{Reads, rests, acts, some-none, heeded-at, received, received-by, read-can}
 
@@ -223,7 +223,7 @@ eight-lists s test = omega (arith, few-lists (sessionOf s .lists) test, lists-mo
 event-told : (s cal meas : List ℕ) (number clock : ℕ) → consistent s ≡ true → number ≤ 1
     → EventTells (ours .event s cal meas number clock .evented) 0 (256 * howManyOf (sessionOf s) (takesSample (sessionOf s) number) + howManyOf (sessionOf s) (missesSample (sessionOf s) number))
 event-told s cal meas number clock c h =
-    let e = counts s cal meas number clock c h ∙ event-leaves-in (sessionOf s) (listed s) number clock cal meas .told in
+    let e = tells-counts s cal meas number clock c h ∙ event-leaves-in (sessionOf s) (listed s) number clock cal meas .told in
     event-tells _ _ _ (ap eventedNumber e) (ap eventedValue e)
 
 -- ---- a slot

@@ -55,7 +55,7 @@ pub record PoolKept (c d : Session) : Type 0 where
   pub freed : d .freed ≡ c .freed
   pub lists : d .lists ≡ c .lists
   pub odts : (l : ℕ) → d .list l .odts ≡ c .list l .odts
-  pub counts : (l o : ℕ) → d .list l .odt o .entries ≡ c .list l .odt o .entries
+  pub entryCounts : (l o : ℕ) → d .list l .odt o .entries ≡ c .list l .odt o .entries
   pub still : (l : ℕ) → c .list l .started ≡ false → d .list l .started ≡ false
 
 -- of packet p, answered a, that leads from session c to d
@@ -67,23 +67,23 @@ pub record Leaves (p a : List ℕ) (c d : Session) : Type 0 where
 -- ---- a list with the ODTs and entries that it had, and not started
 record Settled (x y : DaqList) : Type 0 where
   odts : y .odts ≡ x .odts
-  counts : (o : ℕ) → y .odt o .entries ≡ x .odt o .entries
+  entryCounts : (o : ℕ) → y .odt o .entries ≡ x .odt o .entries
   still : x .started ≡ false → y .started ≡ false
 
 settled-self : (x : DaqList) → Settled x x
-settled-self x = record { odts = refl; counts = λ o. refl; still = λ e. e }
+settled-self x = record { odts = refl; entryCounts = λ o. refl; still = λ e. e }
 
 -- stopped if it was selected; one entry set; one list changed
 settled-stop : (x : DaqList) → Settled x (stopIfSelected x)
 settled-stop x =
     cond-ind (λ (y : DaqList). Settled x (select false y)) (x .selected)
-    (λ _. record { odts = refl; counts = λ o. refl; still = λ _. refl }) (λ _. record { odts = refl; counts = λ o. refl; still = λ e. e })
+    (λ _. record { odts = refl; entryCounts = λ o. refl; still = λ _. refl }) (λ _. record { odts = refl; entryCounts = λ o. refl; still = λ e. e })
 
 settled-entry : (o e : ℕ) (y : Entry) (x : DaqList) → Settled x (setEntry o e y x)
 unfolding put
 settled-entry o e y x = record {
   odts = refl;
-  counts = λ k. cond-ind (λ (z : Odt). z .entries ≡ x .odt k .entries) (eqb k o) (λ t. ap (λ (i : ℕ). x .odt i .entries) (sym (eqb-true k o t))) (λ _. refl);
+  entryCounts = λ k. cond-ind (λ (z : Odt). z .entries ≡ x .odt k .entries) (eqb k o) (λ t. ap (λ (i : ℕ). x .odt i .entries) (sym (eqb-true k o t))) (λ _. refl);
   still = λ _. refl;
 }
 
@@ -112,7 +112,7 @@ module _ (c : Session) where
 
   pool-beside : {g w : ℕ} {o : Bool} {x : Seed} {m : Mta} {q : Pointer} {k : ℕ}
       → PoolKept c (record { generator = g; wrongKeys = w; opened = o; unlocked = c .unlocked; seed = x; mta = m; pointer = q; freed = c .freed; lists = c .lists; round = k; list = c .list })
-  pool-beside = record { unlocked = λ e. e; freed = refl; lists = refl; odts = λ l. refl; counts = λ l o. refl; still = λ l e. e }
+  pool-beside = record { unlocked = λ e. e; freed = refl; lists = refl; odts = λ l. refl; entryCounts = λ l o. refl; still = λ l e. e }
 
 module _ (p a : List ℕ) (c : Session) where
   changed : {A : Type 0} {t : Bool} → t ≡ true → t ≡ false → A
@@ -131,7 +131,7 @@ module _ (p a : List ℕ) (c : Session) where
   opens r x e = record {
     seed = changed e;
     mta = λ _. refl;
-    pool = λ _. record { unlocked = opened-stays r (c .unlocked); freed = refl; lists = refl; odts = λ l. refl; counts = λ l o. refl; still = λ l u. u };
+    pool = λ _. record { unlocked = opened-stays r (c .unlocked); freed = refl; lists = refl; odts = λ l. refl; entryCounts = λ l o. refl; still = λ l u. u };
   }
 
   places : (m : Mta) → changesMta p a ≡ true → Leaves p a c (withMta c m)
@@ -141,7 +141,7 @@ module _ (p a : List ℕ) (c : Session) where
   settles q f w = record {
     seed = λ _. seed-beside c;
     mta = λ _. refl;
-    pool = λ _. record { unlocked = λ u. u; freed = refl; lists = refl; odts = λ l. w l .odts; counts = λ l o. w l .counts o; still = λ l. w l .still };
+    pool = λ _. record { unlocked = λ u. u; freed = refl; lists = refl; odts = λ l. w l .odts; entryCounts = λ l o. w l .entryCounts o; still = λ l. w l .still };
   }
 
   settles-at : (q : Pointer) (l : ℕ) (y : DaqList) → Settled (c .list l) y → Leaves p a c (withPointer (withLists c (put l y (c .list))) q)
@@ -195,18 +195,18 @@ module _ (p t cal meas : List ℕ) (h : length t ≡ size) where
   by-verdict _ _ o (sums x a there inside) can = moved _ _ (rw o)
   by-verdict _ _ o (downloads a free there long inside) can = moved _ _ (rw o)
   by-verdict _ _ o (short-downloads free named long inside) can = moved _ _ (rw o)
-  by-verdict _ _ o (clears free list still) can = shows (deed.ClearList (u16At p 2)) can tt (settles-at p _ c (c .pointer) (u16At p 2) _ (record { odts = refl; counts = λ i. refl; still = λ _. refl }))
+  by-verdict _ _ o (clears free list still) can = shows (deed.ClearList (u16At p 2)) can tt (settles-at p _ c (c .pointer) (u16At p 2) _ (record { odts = refl; entryCounts = λ i. refl; still = λ _. refl }))
   by-verdict _ _ o (points free list odt entry) can = shows (deed.SetPointer (u16At p 2) (byte p 4) (byte p 5)) can tt (settles p _ c _ (c .list) (λ l. settled-self (c .list l)))
   by-verdict _ _ o (zeroes l i e free w) can = shows (deed.ClearEntry l i e) can tt (settles-at p _ c _ l _ (settled-entry i e noEntry (c .list l)))
   by-verdict _ _ o (writes l i e free w some inside) can =
       shows (deed.WriteEntry l i e (byte p 2) (extensionFrom (byte p 3)) (u32At p 4)) can (inside .0, entry-low (u32At p 4) (byte p 2) _ some (inside .1)) (settles-at p _ c _ l _ (settled-entry i e _ (c .list l)))
   by-verdict _ _ o (modes free list event still) can =
-      shows (deed.SetMode (u16At p 2) (u16At p 4)) can tt (settles-at p _ c (c .pointer) (u16At p 2) _ (record { odts = refl; counts = λ i. refl; still = λ _. refl }))
-  by-verdict _ _ o (stops free list) can = shows (deed.Stop (u16At p 2)) can tt (settles-at p _ c (c .pointer) (u16At p 2) _ (record { odts = refl; counts = λ i. refl; still = λ _. refl }))
+      shows (deed.SetMode (u16At p 2) (u16At p 4)) can tt (settles-at p _ c (c .pointer) (u16At p 2) _ (record { odts = refl; entryCounts = λ i. refl; still = λ _. refl }))
+  by-verdict _ _ o (stops free list) can = shows (deed.Stop (u16At p 2)) can tt (settles-at p _ c (c .pointer) (u16At p 2) _ (record { odts = refl; entryCounts = λ i. refl; still = λ _. refl }))
   by-verdict _ _ o (starts free list mode still) can = shows (deed.Start (u16At p 2)) can tt (takes p _ c _ _ _ _ _ (rw (o, mode)))
   by-verdict _ _ o (goes-on free list) can = stays p _ c
-  by-verdict _ _ o (selects free list) can = shows (deed.Select (u16At p 2)) can tt (settles-at p _ c (c .pointer) (u16At p 2) _ (record { odts = refl; counts = λ i. refl; still = λ e. e }))
-  by-verdict _ _ o (stops-all free) can = shows deed.StopAll can tt (settles p _ c (c .pointer) _ (λ l. record { odts = refl; counts = λ i. refl; still = λ _. refl }))
+  by-verdict _ _ o (selects free list) can = shows (deed.Select (u16At p 2)) can tt (settles-at p _ c (c .pointer) (u16At p 2) _ (record { odts = refl; entryCounts = λ i. refl; still = λ e. e }))
+  by-verdict _ _ o (stops-all free) can = shows deed.StopAll can tt (settles p _ c (c .pointer) _ (λ l. record { odts = refl; entryCounts = λ i. refl; still = λ _. refl }))
   by-verdict _ _ o (starts-all free mode) can = shows deed.StartSelected can tt (takes p _ c _ _ _ _ _ (rw (o, mode)))
   by-verdict _ _ o (stops-some free) can = shows deed.StopSelected can tt (settles p _ c (c .pointer) _ (λ l. settled-stop (c .list l)))
   by-verdict _ _ o processor can = stays p _ c

@@ -41,13 +41,13 @@ use Rattle.demands.specs.Refusals.{Refusals}
 use Rattle.demands.specs.Demand1.{Demand1}
 use Rattle.demands.proofs.Judged.{Found}
 use Rattle.demands.proofs.ReadBy.{read-only}
-use Rattle.demands.proofs.Received.{Does, Reads, rests, acts, received, commanded, read-can, done-answer}
+use Rattle.demands.proofs.Received.{Performed, Reads, rests, acts, received, commanded, read-can, done-answer}
 use Rattle.demands.proofs.Unchanged.{all-but}
 use Rattle.demands.proofs.Refusals.{Idles, refusal, wrong-judged}
 use Rattle.demands.proofs.Life.{life-kept}
 
 -- ---- a refused command
-not-wrong : (s cal meas : List ℕ) (b : ℕ) (d : Deed) (p : List ℕ) → wrongKeyAt s b ≡ false → Does s cal meas b d p → d ≢ WrongKey
+not-wrong : (s cal meas : List ℕ) (b : ℕ) (d : Deed) (p : List ℕ) → wrongKeyAt s b ≡ false → Performed s cal meas b d p → d ≢ WrongKey
 not-wrong s cal meas b d p n w e =
     let f : wrongKey p (sessionOf s) ≡ true = subst (λ (x : Deed). Found x p (sessionOf s)) e (w .found) in
     let k : wrongKey p (sessionOf s) ≡ false = sym (ap (λ (o : Option (List ℕ)). wrongKeyIn o (sessionOf s)) (w .ended)) ∙ n in

@@ -16,7 +16,7 @@ use Rattle.demands.proofs.Cut.{cut, cutEvent}
 use Rattle.demands.proofs.Downloads.{gives-back}
 use Rattle.demands.proofs.ReadsOn.{goes-on}
 use Rattle.demands.proofs.Life.{life-locked, gives-back-later, life-numbered}
-use Rattle.demands.proofs.Events.{counts, gains-sample, stores, others, storesOnly}
+use Rattle.demands.proofs.Events.{tells-counts, gains-sample, stores, others, storesOnly}
 
 our-wire : Wire ours
 our-wire = record { numbers = frames-numbered; numbersOn = life-numbered; readsBack = slot-reads-back; restStays = slot-past }
@@ -31,7 +31,7 @@ our-keys : Keys ours
 our-keys = record { unlocks = unlocks-own; opensByKey = opens-by-key; seedOpens = seed-opens }
 
 as-defined : AsDefined ours
-as-defined = record { powersUp = power-up-is; reads = received-by; serves = slot-is; counts = counts; stores = stores; others = others; storesOnly = storesOnly }
+as-defined = record { powersUp = power-up-is; reads = received-by; serves = slot-is; tellsCounts = tells-counts; stores = stores; others = others; storesOnly = storesOnly }
 
 pub demand2 : Demand2 ours
 demand2 = record { asDefined = as-defined; wire = our-wire; locked = our-lock; memory = our-memory; keys = our-keys; gainsSample = gains-sample }

@@ -52,9 +52,9 @@ unfolding eventOf
 refused s cal meas event clock c h = rw (c, lt-ltb 1 event h)
 
 -- ---- what it counts, and what it makes of the session
-pub counts : (s cal meas : List ℕ) (event clock : ℕ) → consistent s ≡ true → event ≤ 1 → ours .event s cal meas event clock .evented ≡ countedIn (sessionOf s) event
+pub tells-counts : (s cal meas : List ℕ) (event clock : ℕ) → consistent s ≡ true → event ≤ 1 → ours .event s cal meas event clock .evented ≡ countedIn (sessionOf s) event
 unfolding eventIn viewOf
-counts s cal meas event clock c h = ap (λ (o : AfterEvent). o .evented) (view-event s cal meas event clock c) ∙ rw (le-ltb 1 event h)
+tells-counts s cal meas event clock c h = ap (λ (o : AfterEvent). o .evented) (view-event s cal meas event clock c) ∙ rw (le-ltb 1 event h)
 
 -- ---- a list keeps what waits, and gains what the event gives it
 pub event-waiting : (s cal meas : List ℕ) (event clock l : ℕ) → consistent s ≡ true → waitingOf (eventOf s cal meas event clock .state) l ≡ waitingOf s l ++ gains l s (Event cal meas event clock)

@@ -25,7 +25,7 @@ use Rattle.fields.proofs.Readers.{Same, before, behind, same-block}
 use Rattle.fields.proofs.Kept.{power-consistent, receive-kept, event-kept, slot-kept}
 use Rattle.demands.specs.Slave.{ours}
 use Rattle.demands.specs.Runs.{SendingSlot, sends}
-use Rattle.demands.specs.Life.{Device, Moment, PowerOn, Hears, Samples, Serves, passed, lived, sentInLife, OfByte, OfBytes}
+use Rattle.demands.specs.Life.{Device, Moment, PowerOn, Hears, OnEvent, Serves, afterMoment, lived, sentInLife, OfByte, OfBytes}
 use Rattle.demands.specs.Memory.{Downloads, Uploads, Spares}
 use Rattle.demands.specs.Wire.{dueAt, dueIn}
 use Rattle.demands.specs.CalibrationLocked.{WhileShut}
@@ -38,26 +38,26 @@ use Rattle.demands.proofs.ByteKeeps.{byte-sent}
 use Rattle.demands.proofs.Events.{event-sent}
 
 -- ---- the state stays consistent
-pub passed-kept : (h : Device) (m : Moment) → consistent (h .state) ≡ true → consistent (passed ours h m .state) ≡ true
-passed-kept h (PowerOn start) c = rw (power-up-is (h .state) start (consistent-size (h .state) c)) (power-consistent start)
-passed-kept h (Hears meas b) c = receive-kept (h .state) (h .cal) meas b c
-passed-kept h (Samples meas event clock) c = event-kept (h .state) (h .cal) meas event clock c
-passed-kept h (Serves out) c = slot-kept (h .state) out c
+pub moment-kept : (h : Device) (m : Moment) → consistent (h .state) ≡ true → consistent (afterMoment ours h m .state) ≡ true
+moment-kept h (PowerOn start) c = rw (power-up-is (h .state) start (consistent-size (h .state) c)) (power-consistent start)
+moment-kept h (Hears meas b) c = receive-kept (h .state) (h .cal) meas b c
+moment-kept h (OnEvent meas event clock) c = event-kept (h .state) (h .cal) meas event clock c
+moment-kept h (Serves out) c = slot-kept (h .state) out c
 
 pub life-kept : (h : Device) (ms : List Moment) → consistent (h .state) ≡ true → consistent (lived ours h ms .state) ≡ true
 life-kept h [] c = c
-life-kept h (m ∷ ms) c = life-kept (passed ours h m) ms (passed-kept h m c)
+life-kept h (m ∷ ms) c = life-kept (afterMoment ours h m) ms (moment-kept h m c)
 
 -- ---- while calibration is locked the memory stays
-passed-locked : (h : Device) (m : Moment) → OfByte WhileShut h m → passed ours h m .cal ≡ h .cal
+passed-locked : (h : Device) (m : Moment) → OfByte WhileShut h m → afterMoment ours h m .cal ≡ h .cal
 passed-locked h (PowerOn start) u = refl
 passed-locked h (Hears meas b) u = locked-keeps (h .state) (h .cal) meas b u
-passed-locked h (Samples meas event clock) u = refl
+passed-locked h (OnEvent meas event clock) u = refl
 passed-locked h (Serves out) u = refl
 
 pub life-locked : (h : Device) (ms : List Moment) → OfBytes WhileShut ours h ms → lived ours h ms .cal ≡ h .cal
 life-locked h [] u = refl
-life-locked h (m ∷ ms) u = life-locked (passed ours h m) ms (u .1) ∙ passed-locked h m (u .0)
+life-locked h (m ∷ ms) u = life-locked (afterMoment ours h m) ms (u .1) ∙ passed-locked h m (u .0)
 
 -- ---- n bytes from a stay where no DOWNLOAD or SHORT_DOWNLOAD writes
 abbrev Beside : ℕ → ℕ → Option Deed → Type 0
@@ -91,28 +91,28 @@ module _ (a n : ℕ) where
   byte-leaves (rests r x f) u = leaves-all
   byte-leaves {cal = cal} (acts d p w) u = deed-leaves d p cal u
 
-  passed-leaves : (h : Device) (m : Moment) → consistent (h .state) ≡ true → OfByte (Spares a n) h m → Leaves a n (h .cal) (passed ours h m .cal)
+  passed-leaves : (h : Device) (m : Moment) → consistent (h .state) ≡ true → OfByte (Spares a n) h m → Leaves a n (h .cal) (afterMoment ours h m .cal)
   passed-leaves h (PowerOn start) c u = leaves-all
   passed-leaves h (Hears meas b) c u = byte-leaves (received (h .state) (h .cal) meas b c) u
-  passed-leaves h (Samples meas event clock) c u = leaves-all
+  passed-leaves h (OnEvent meas event clock) c u = leaves-all
   passed-leaves h (Serves out) c u = leaves-all
 
   life-leaves : (h : Device) (ms : List Moment) → consistent (h .state) ≡ true → OfBytes (Spares a n) ours h ms → Leaves a n (h .cal) (lived ours h ms .cal)
   life-leaves h [] c u = leaves-all
   life-leaves h (m ∷ ms) c u =
-      let here : Leaves a n (h .cal) (passed ours h m .cal) = passed-leaves h m c (u .0) in
-      let later : Leaves a n (passed ours h m .cal) (lived ours h (m ∷ ms) .cal) = life-leaves (passed ours h m) ms (passed-kept h m c) (u .1) in
+      let here : Leaves a n (h .cal) (afterMoment ours h m .cal) = passed-leaves h m c (u .0) in
+      let later : Leaves a n (afterMoment ours h m .cal) (lived ours h (m ∷ ms) .cal) = life-leaves (afterMoment ours h m) ms (moment-kept h m c) (u .1) in
       record { long = later .long ∙ here .long; bytes = later .bytes ∙ here .bytes }
 
 -- ---- so what they wrote is given back
 pub gives-back-later : (h : Device) (meas : List ℕ) (b : ℕ) (p : List ℕ) (from a n : ℕ) (between : List Moment) (meas′ : List ℕ) (c : ℕ) (q : List ℕ) → consistent (h .state) ≡ true
-    → Downloads (h .state) b p from a n → viewOf (passed ours h (Hears meas b) .state) .answer ≡ 0xFF ∷ [] → OfBytes (Spares a n) ours (passed ours h (Hears meas b)) between
-    → Uploads (lived ours (passed ours h (Hears meas b)) between .state) c q a n
-    → viewOf (passed ours (lived ours (passed ours h (Hears meas b)) between) (Hears meas′ c) .state) .answer ≡ 0xFF ∷ block p from n
+    → Downloads (h .state) b p from a n → viewOf (afterMoment ours h (Hears meas b) .state) .answer ≡ 0xFF ∷ [] → OfBytes (Spares a n) ours (afterMoment ours h (Hears meas b)) between
+    → Uploads (lived ours (afterMoment ours h (Hears meas b)) between .state) c q a n
+    → viewOf (afterMoment ours (lived ours (afterMoment ours h (Hears meas b)) between) (Hears meas′ c) .state) .answer ≡ 0xFF ∷ block p from n
 gives-back-later h meas b p from a n between meas′ c q k down said clear up =
-    let h₁ : Device = passed ours h (Hears meas b) in
+    let h₁ : Device = afterMoment ours h (Hears meas b) in
     let h₂ : Device = lived ours h₁ between in
-    let k₁ : consistent (h₁ .state) ≡ true = passed-kept h (Hears meas b) k in
+    let k₁ : consistent (h₁ .state) ≡ true = moment-kept h (Hears meas b) k in
     let w : Wrote p from a n (h .cal) (h₁ .cal) = downloaded (h .state) (h .cal) meas b p from a n k down said in
     let l : Leaves a n (h₁ .cal) (h₂ .cal) = life-leaves a n h₁ between k₁ clear in
     uploaded (h₂ .state) (h₂ .cal) meas′ c q a n (life-kept h₁ between k₁) up (w .some) (w .few) (rw (l .long) (w .inside))
@@ -122,17 +122,17 @@ gives-back-later h meas b p from a n between meas′ c q k down said clear up =
 life-numbers : (ms : List Moment) (i : ℕ) (h : Device) → consistent (h .state) ≡ true → At 0 i (h .state) → sentInLife ours h ms ≡ dueIn ours i h ms
 life-numbers [] i h c a = refl
 life-numbers (PowerOn start ∷ ms) i h c a =
-    life-numbers ms 0 (passed ours h (PowerOn start)) (passed-kept h (PowerOn start) c) (ap (λ (s : List ℕ). viewOf s .ctr) (power-up-is (h .state) start (consistent-size (h .state) c)) ∙ power-ctr start)
-life-numbers (Hears meas b ∷ ms) i h c a = life-numbers ms i (passed ours h (Hears meas b)) (passed-kept h (Hears meas b) c) (byte-sent (h .state) (h .cal) meas b c .ctr ∙ a)
-life-numbers (Samples meas event clock ∷ ms) i h c a =
-    life-numbers ms i (passed ours h (Samples meas event clock)) (passed-kept h (Samples meas event clock) c) (event-sent (h .state) (h .cal) meas event clock .ctr ∙ a)
+    life-numbers ms 0 (afterMoment ours h (PowerOn start)) (moment-kept h (PowerOn start) c) (ap (λ (s : List ℕ). viewOf s .ctr) (power-up-is (h .state) start (consistent-size (h .state) c)) ∙ power-ctr start)
+life-numbers (Hears meas b ∷ ms) i h c a = life-numbers ms i (afterMoment ours h (Hears meas b)) (moment-kept h (Hears meas b) c) (byte-sent (h .state) (h .cal) meas b c .ctr ∙ a)
+life-numbers (OnEvent meas event clock ∷ ms) i h c a =
+    life-numbers ms i (afterMoment ours h (OnEvent meas event clock)) (moment-kept h (OnEvent meas event clock) c) (event-sent (h .state) (h .cal) meas event clock .ctr ∙ a)
 life-numbers (Serves out ∷ ms) i h c a =
     let here : List (List ℕ) = dueAt (h .state) (SendingSlot out) in
-    let u : Device = passed ours h (Serves out) in
+    let u : Device = afterMoment ours h (Serves out) in
     let w : Numbered 0 i (sends ours (h .state) (SendingSlot out)) here (u .state) = slot-numbers 0 i (h .state) out c a in
-    ap₂ (λ (x y : List (List ℕ)). x ++ y) (w .sent) (life-numbers ms (i + length here) u (passed-kept h (Serves out) c) (w .ctr))
+    ap₂ (λ (x y : List (List ℕ)). x ++ y) (w .sent) (life-numbers ms (i + length here) u (moment-kept h (Serves out) c) (w .ctr))
 
 pub life-numbered : (h : Device) (start : ℕ) (ms : List Moment) → length (h .state) ≡ size → sentInLife ours h (PowerOn start ∷ ms) ≡ dueIn ours 0 h (PowerOn start ∷ ms)
 life-numbered h start ms e =
-    let is : passed ours h (PowerOn start) .state ≡ powered start = power-up-is (h .state) start e in
-    life-numbers ms 0 (passed ours h (PowerOn start)) (rw is (power-consistent start)) (ap (λ (s : List ℕ). viewOf s .ctr) is ∙ power-ctr start)
+    let is : afterMoment ours h (PowerOn start) .state ≡ powered start = power-up-is (h .state) start e in
+    life-numbers ms 0 (afterMoment ours h (PowerOn start)) (rw is (power-consistent start)) (ap (λ (s : List ℕ). viewOf s .ctr) is ∙ power-ctr start)

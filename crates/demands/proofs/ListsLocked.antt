@@ -36,13 +36,13 @@ use Rattle.views.proofs.Locked.{locked-shields}
 use Rattle.demands.specs.Slave.{ours}
 use Rattle.demands.specs.Heard.{readBy}
 use Rattle.demands.specs.ListsLocked.{endsAt, ListsLocked}
-use Rattle.demands.proofs.Received.{Does, Reads, rests, acts, received, resting, acting}
+use Rattle.demands.proofs.Received.{Performed, Reads, rests, acts, received, resting, acting}
 use Rattle.demands.proofs.ReadBy.{read-session}
 use Rattle.demands.proofs.Obeyed.{ended-bytes, shown-done, command-done}
 
 -- nothing changed
 pub settings-same : {c d : Session} → d ≡ c → SettingsKept c d
-settings-same e = rw e (record { pointer = refl; freed = refl; lists = refl; modes = λ l. refl; selected = λ l. refl; started = λ l. refl; odts = λ l. refl; counts = λ l o. refl; entries = λ l o i. refl })
+settings-same e = rw e (record { pointer = refl; freed = refl; lists = refl; modes = λ l. refl; selected = λ l. refl; started = λ l. refl; odts = λ l. refl; entryCounts = λ l o. refl; entries = λ l o i. refl })
 
 -- a good CONNECT renews it
 connect-ends : (p : List ℕ) (c : Session) (cal meas : List ℕ) → goodConnect p ≡ true → Shields p c (doneBy Connect p c cal meas)
@@ -58,7 +58,7 @@ connect-ends p c cal meas g = record { kept = λ n. absurd (false-true (sym n �
 -- ---- a received byte
 module _ (s cal meas : List ℕ) (b : ℕ) (c : consistent s ≡ true) (w : Bytes s) (low : b < 256) (locked : sessionOf s .opened ≡ true → sessionOf s .unlocked Lists ≡ false) where
   -- a deed that is done
-  deed-shields : (d : Deed) (p : List ℕ) → Does s cal meas b d p → Shields p (sessionOf s) (shown (after d (readBy s b) cal meas) (written d p cal))
+  deed-shields : (d : Deed) (p : List ℕ) → Performed s cal meas b d p → Shields p (sessionOf s) (shown (after d (readBy s b) cal meas) (written d p cal))
   deed-shields d p does = go (sessionOf s .opened) refl where
     go : (x : Bool) → sessionOf s .opened ≡ x → Shields p (sessionOf s) (shown (after d (readBy s b) cal meas) (written d p cal))
     go true e =

@@ -19,7 +19,7 @@ use Rattle.model.specs.declared.Deed.{Deed}
 use Rattle.model.specs.declared.Deed.the-variants.{Connect, Unlock}
 use Rattle.demands.specs.Slave.{ours}
 use Rattle.demands.specs.Heard.{Commands, deedIn, bringsKey, keyMatches}
-use Rattle.demands.specs.CalibrationLocked.{shut}
+use Rattle.demands.specs.CalibrationLocked.{calibrationShut}
 use Rattle.demands.specs.Keys.{otherLock}
 use Rattle.fields.proofs.Writes.{by-write}
 use Rattle.demands.proofs.Judged.{Found}
@@ -38,7 +38,7 @@ connect-written : (d : Deed) (p cal : List ℕ) → d ≡ Connect → written d 
 unfolding writes
 connect-written d p cal e = rw e
 
-shut-by : {s cal meas : List ℕ} {b : ℕ} {o : Step} {x : Option Deed} → shut (sessionOf s) ≡ true → Reads s cal meas b o x → o .cal ≡ cal
+shut-by : {s cal meas : List ℕ} {b : ℕ} {o : Step} {x : Option Deed} → calibrationShut (sessionOf s) ≡ true → Reads s cal meas b o x → o .cal ≡ cal
 shut-by h (rests r n f) = refl
 shut-by {s} {cal} {meas} {b} h (acts d p w) = go (sessionOf s .opened) (sessionOf s .unlocked Calibration) refl refl h where
   go : (o u : Bool) → sessionOf s .opened ≡ o → sessionOf s .unlocked Calibration ≡ u → cond o (cond u false true) true ≡ true → written d p cal ≡ cal
@@ -51,7 +51,7 @@ untouched : (s cal meas : List ℕ) (b : ℕ) → consistent s ≡ false → rec
 unfolding receiveOf
 untouched s cal meas b n = simp n
 
-pub locked-keeps : (s cal meas : List ℕ) (b : ℕ) → shut (sessionOf s) ≡ true → ours .receive s cal meas b .cal ≡ cal
+pub locked-keeps : (s cal meas : List ℕ) (b : ℕ) → calibrationShut (sessionOf s) ≡ true → ours .receive s cal meas b .cal ≡ cal
 locked-keeps s cal meas b h = go (consistent s) refl where
   go : (t : Bool) → consistent s ≡ t → ours .receive s cal meas b .cal ≡ cal
   go true c = shut-by h (received s cal meas b c)

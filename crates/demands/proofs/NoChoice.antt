@@ -129,7 +129,7 @@ module _ (v w : AnySlave) (v1 : Demand1 v) (v2 : Demand2 v) (w1 : Demand1 w) (w2
 
   event-done : (s cal meas : List ℕ) (event clock : ℕ) → consistent s ≡ true → event ≤ 1 → v .event s cal meas event clock ≡ w .event s cal meas event clock
   event-done s cal meas event clock c h =
-      same-event (v2 .asDefined .counts s cal meas event clock c h ∙ sym (w2 .asDefined .counts s cal meas event clock c h))
+      same-event (v2 .asDefined .tellsCounts s cal meas event clock c h ∙ sym (w2 .asDefined .tellsCounts s cal meas event clock c h))
       (same-stores s (v .event s cal meas event clock .state) (w .event s cal meas event clock .state)
       (v2 .asDefined .storesOnly s cal meas event clock) (w2 .asDefined .storesOnly s cal meas event clock) (λ l q. store-same s cal meas event clock l c h q))
 

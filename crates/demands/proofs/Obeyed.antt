@@ -35,7 +35,7 @@ use Rattle.demands.specs.Slave.{ours}
 use Rattle.demands.specs.Heard.{packetBy, packetEnded, readBy, Commands, deedIn}
 use Rattle.demands.specs.Obeyed.{Obeyed}
 use Rattle.demands.proofs.ReadBy.{read-length, read-session}
-use Rattle.demands.proofs.Received.{Does, Reads, rests, acts, some-none, received, commanded, read-can}
+use Rattle.demands.proofs.Received.{Performed, Reads, rests, acts, some-none, received, commanded, read-can}
 
 -- the packet of a good message is of bytes
 packet-bytes : (o : Outcome) (m p : List ℕ) → Bytes m → packetBy o m ≡ some p → Bytes p
@@ -61,7 +61,7 @@ connect-judged p c nc nm g = go (eqb (byte p 0) 0xFF) (ltb (length p) 2) (eqb (b
   go false y z a b d e = absurd (false-true e)
 
 -- what is done at a byte is what its packet is judged to lead to, also a good CONNECT without a session
-pub does-judged : (s cal meas : List ℕ) (b : ℕ) (d : Deed) (p : List ℕ) → Does s cal meas b d p → d ≡ deedIn p (sessionOf s) cal meas
+pub does-judged : (s cal meas : List ℕ) (b : ℕ) (d : Deed) (p : List ℕ) → Performed s cal meas b d p → d ≡ deedIn p (sessionOf s) cal meas
 does-judged s cal meas b d p w = go (sessionOf s .opened) refl where
   go : (x : Bool) → sessionOf s .opened ≡ x → d ≡ deedIn p (sessionOf s) cal meas
   go true e = w .opened e
@@ -92,7 +92,7 @@ module _ (s : List ℕ) (b : ℕ) (c : consistent s ≡ true) (w : Bytes s) (low
       shown-done (deedIn p (sessionOf s) cal meas) p cal meas (length p) (judged-doable p s (length cal) (length meas)) fit
 
   -- whatever is done at byte b is what the model does
-  does-shown : (d : Deed) (p cal meas : List ℕ) → Does s cal meas b d p → shown (after d (readBy s b) cal meas) (written d p cal) ≡ commandIn p (sessionOf s) cal meas
+  does-shown : (d : Deed) (p cal meas : List ℕ) → Performed s cal meas b d p → shown (after d (readBy s b) cal meas) (written d p cal) ≡ commandIn p (sessionOf s) cal meas
   does-shown d p cal meas does =
       ap (λ (x : Deed). shown (after x (readBy s b) cal meas) (written x p cal)) (does-judged s cal meas b d p does) ∙ command-done p cal meas (ended-bytes p (does .ended))
 

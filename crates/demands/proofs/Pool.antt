@@ -160,15 +160,15 @@ module _ (w : Plan) where
       out = out-stays (s .out);
       due = λ l i. m .odts l ∙ s .due l i;
       made = λ l p. ⊎-elim (λ i. inl i) (λ e. inr (m .odts l ∙ e)) (s .made l p);
-      empty = λ l o. m .counts l o ∙ s .empty l o;
+      empty = λ l o. m .entryCounts l o ∙ s .empty l o;
     }
 
     filling-stays : {xs : List OdtAt} → Filling xs c → Filling xs d
     filling-stays s = record {
       out = out-stays (s .out);
       odts = λ l p. m .odts l ∙ s .odts l p;
-      due = λ x i. m .counts (x .list) (x .odt) ∙ s .due x i;
-      made = λ l o p q. ⊎-elim (λ i. inl i) (λ e. inr (m .counts l o ∙ e)) (s .made l o p q);
+      due = λ x i. m .entryCounts (x .list) (x .odt) ∙ s .due x i;
+      made = λ l o p q. ⊎-elim (λ i. inl i) (λ e. inr (m .entryCounts l o ∙ e)) (s .made l o p q);
     }
 
   -- all ODTs are there
@@ -199,15 +199,15 @@ module _ (w : Plan) where
         let l : ℕ = two p 2 in
         let ff : o .answer ≡ 0xFF ∷ [] =
         odts-done R way p c cal meas o r code (
-          record {
-            long = long;
-            unlocked = s .out .unlocked;
-            noEntries = no-entries (c .list) (s .empty) (c .lists);
-            there = omega (arith, has .0, s .out .lists);
-            none = s .due l (inl refl);
-            some = omega (arith, has .1, count);
-            room = omega (arith, count, odt-room l ls c (has .0) s);
-          }
+        record {
+          long = long;
+          unlocked = s .out .unlocked;
+          noEntries = no-entries (c .list) (s .empty) (c .lists);
+          there = omega (arith, has .0, s .out .lists);
+          none = s .due l (inl refl);
+          some = omega (arith, has .1, count);
+          room = omega (arith, count, odt-room l ls c (has .0) s);
+        }
         ) in
         let law : ALLOC-ODT p c cal meas o = obeys R way .allocOdt p c cal meas o r code (ap (λ (a : List ℕ). byte a 0) ff) in (
           ff,
@@ -260,16 +260,16 @@ module _ (w : Plan) where
         let l : ℕ = two p 2 in
         let ff : o .answer ≡ 0xFF ∷ [] =
         entries-done R way p c cal meas o r code (
-          record {
-            long = long;
-            unlocked = s .out .unlocked;
-            there = omega (arith, has .0, s .out .lists);
-            inList = omega (arith, has .1, s .odts l (has .0));
-            none = s .due (named p) (inl refl);
-            some = omega (arith, has .2, count);
-            still = unstarted-rests (c .opened) (c .list l) (s .out .still l);
-            room = omega (arith, count, entry-room (named p) xs c has s);
-          }
+        record {
+          long = long;
+          unlocked = s .out .unlocked;
+          there = omega (arith, has .0, s .out .lists);
+          inList = omega (arith, has .1, s .odts l (has .0));
+          none = s .due (named p) (inl refl);
+          some = omega (arith, has .2, count);
+          still = unstarted-rests (c .opened) (c .list l) (s .out .still l);
+          room = omega (arith, count, entry-room (named p) xs c has s);
+        }
         ) in
         let law : ALLOC-ODT-ENTRY p c cal meas o = obeys R way .allocOdtEntry p c cal meas o r code (ap (λ (a : List ℕ). byte a 0) ff) in
         let here : (x : OdtAt) → x ≡ named p → o .session .list (x .list) .odt (x .odt) .entries ≡ w .entries (x .list) (x .odt) =

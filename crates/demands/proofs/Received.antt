@@ -30,12 +30,12 @@ use Rattle.words.specs.declared.Received.{Received}
 use Rattle.words.specs.declared.Received.the-variants.{Nothing, Silent, BadLength, BadEscape, BadChecksum, Unread, CutOff}
 use Rattle.look.proofs.Looked.{judged-doable}
 use Rattle.fields.proofs.Effects.{after-answer}
-use Rattle.demands.specs.Heard.{packetBy, packetEnded, readBy, Commands, deedIn, answerTo, deedBy, heeds, doneAt, ofAnswered}
+use Rattle.demands.specs.Heard.{packetBy, packetEnded, readBy, Commands, deedIn, answerTo, deedBy, heeds, deedAt, ofAnswered}
 use Rattle.demands.proofs.Judged.{Found, judged}
 use Rattle.demands.proofs.ReadBy.{waits-shown, Roomy, read-roomy, read-length, read-session, read-answer}
 
 -- byte b ends packet p, and deed d is done: the one that p is judged to lead to, or a good CONNECT's while no session is open
-pub record Does (s cal meas : List ℕ) (b : ℕ) (d : Deed) (p : List ℕ) : Type 0 where
+pub record Performed (s cal meas : List ℕ) (b : ℕ) (d : Deed) (p : List ℕ) : Type 0 where
   pub ended : packetEnded s b ≡ some p
   pub free : hasAnswer (viewOf s) ≡ false
   pub can : Doable d (sessionOf s) (length p) (length cal) (length meas)
@@ -45,7 +45,7 @@ pub record Does (s cal meas : List ℕ) (b : ℕ) (d : Deed) (p : List ℕ) : Ty
 
 pub data Reads (s cal meas : List ℕ) (b : ℕ) : Step → Option Deed → Type 0 where
   rests : (r : Received) → receivedNumber r ≢ 1 → receivedNumber r ≤ 7 → Reads s cal meas b (only r (readBy s b) cal) none
-  acts : (d : Deed) (p : List ℕ) → Does s cal meas b d p → Reads s cal meas b (obeyed d p (readBy s b) cal meas) (some d)
+  acts : (d : Deed) (p : List ℕ) → Performed s cal meas b d p → Reads s cal meas b (obeyed d p (readBy s b) cal meas) (some d)
 
 -- a good message is heeded by what the state showed before its last byte
 pub heeded-at : (s cal meas : List ℕ) (b : ℕ) (p : List ℕ) → consistent s ≡ true
@@ -95,10 +95,10 @@ module _ (s cal meas : List ℕ) (b : ℕ) (c : consistent s ≡ true) where
   meant-reads line.CutOff y e = rests CutOff (omega arith) (omega arith)
   meant-reads line.ShortBuffer y e = absurd y
 
-  pub received : Reads s cal meas b (receiveOf s cal meas b) (doneAt s cal meas b)
+  pub received : Reads s cal meas b (receiveOf s cal meas b) (deedAt s cal meas b)
   unfolding receiveOf viewOf
   received =
-      cond-ind (λ (o : Step). Reads s cal meas b o (doneAt s cal meas b)) (consistent s)
+      cond-ind (λ (o : Step). Reads s cal meas b o (deedAt s cal meas b)) (consistent s)
       (λ _. meant-reads (fedOf s b .taken .outcome) (read-roomy s b c) refl)
       (λ n. absurd (false-true (sym n ∙ c)))
 

@@ -34,17 +34,17 @@ use Rattle.views.proofs.Calls.{powered-wrongKeys}
 use Rattle.views.proofs.WrongKeys.{one-more, told-wrong}
 use Rattle.demands.specs.Slave.{ours}
 use Rattle.demands.specs.Heard.{readBy, deedIn, wrongKey}
-use Rattle.demands.specs.Life.{Device, Moment, PowerOn, Hears, Samples, Serves, passed, lived, OfBytes}
+use Rattle.demands.specs.Life.{Device, Moment, PowerOn, Hears, OnEvent, Serves, afterMoment, lived, OfBytes}
 use Rattle.demands.specs.Keys.{RightKeyEnds}
 use Rattle.demands.specs.CalibrationLocked.{Keyless}
 use Rattle.demands.specs.StaysShut.{saysWrong, judgedWrong, wrongAt, wrongIn, PoweredOn, StaysShut}
 use Rattle.demands.proofs.ReadBy.{read-session}
-use Rattle.demands.proofs.Received.{Does, Reads, rests, acts, received, done-answer, resting, acting}
+use Rattle.demands.proofs.Received.{Performed, Reads, rests, acts, received, done-answer, resting, acting}
 use Rattle.demands.proofs.Refusals.{keyed, Wrong, wrong-by}
 use Rattle.demands.proofs.ByteKeeps.{done-steps}
 use Rattle.demands.proofs.Alike.{event-alike, slot-alike}
 use Rattle.demands.proofs.Numbering.{power-up-is}
-use Rattle.demands.proofs.Life.{passed-kept}
+use Rattle.demands.proofs.Life.{moment-kept}
 use Rattle.demands.proofs.Opening.{opens-by-key, shut-locked, life-keyless}
 
 -- ---- a deed that is done: a wrong key is answered FE 25 to UNLOCK, and nothing else is
@@ -126,7 +126,7 @@ module _ (s cal meas : List ℕ) (b : ℕ) (c : consistent s ≡ true) where
     locked : judgedWrong o s b ≡ true → (r : Resource) → sessionOf (o .state) .unlocked r ≡ false
     same : judgedWrong o s b ≡ false → sessionOf (o .state) .wrongKeys ≡ sessionOf s .wrongKeys
 
-  module _ (d : Deed) (p : List ℕ) (w : Does s cal meas b d p) where
+  module _ (d : Deed) (p : List ℕ) (w : Performed s cal meas b d p) where
     answers : judgedWrong (obeyed d p (readBy s b) cal meas) s b ≡ saysWrong p (replyIn d (sessionOf s) cal meas)
     answers = acting saysWrong s cal meas b d p (w .ended) ∙ ap (saysWrong p) (done-answer s cal meas b d (length p) c (w .can))
 
@@ -140,7 +140,7 @@ module _ (s cal meas : List ℕ) (b : ℕ) (c : consistent s ≡ true) where
       go false e = absurd (let f7 : byte p 0 ≡ 0xF7 = said p (replyIn d (sessionOf s) cal meas) t .0 in let ff : byte p 0 ≡ 0xFF = connect-code p (w .closed e .1) in omega arith)
 
     found-wrong : d ≡ WrongKey → wrongKey p (sessionOf s) ≡ true
-    found-wrong e = subst (λ (x : Deed). Does s cal meas b x p) e w .found
+    found-wrong e = subst (λ (x : Deed). Performed s cal meas b x p) e w .found
 
     not-wrong : saysWrong p (replyIn d (sessionOf s) cal meas) ≡ false → d ≢ WrongKey
     not-wrong f e = false-true (sym f ∙ ap (λ (x : Deed). saysWrong p (replyIn x (sessionOf s) cal meas)) e ∙ says p (sessionOf s) cal meas (found-wrong e))
@@ -195,32 +195,32 @@ record Three (h : Device) : Type 0 where
   three : sessionOf (h .state) .wrongKeys ≡ 3
 
 -- a moment that is no power-up
-three-heard : (h : Device) (meas : List ℕ) (b : ℕ) → Three h → Three (passed ours h (Hears meas b))
-three-heard h meas b w = record { sound = passed-kept h (Hears meas b) (w .sound); three = byte-three (h .state) (h .cal) meas b (w .sound) (w .three) }
+three-heard : (h : Device) (meas : List ℕ) (b : ℕ) → Three h → Three (afterMoment ours h (Hears meas b))
+three-heard h meas b w = record { sound = moment-kept h (Hears meas b) (w .sound); three = byte-three (h .state) (h .cal) meas b (w .sound) (w .three) }
 
-three-sampled : (h : Device) (meas : List ℕ) (event clock : ℕ) → Three h → Three (passed ours h (Samples meas event clock))
+three-sampled : (h : Device) (meas : List ℕ) (event clock : ℕ) → Three h → Three (afterMoment ours h (OnEvent meas event clock))
 three-sampled h meas event clock w =
-    record { sound = passed-kept h (Samples meas event clock) (w .sound); three = event-alike (h .state) (h .cal) meas event clock .wrongKeys ∙ w .three }
+    record { sound = moment-kept h (OnEvent meas event clock) (w .sound); three = event-alike (h .state) (h .cal) meas event clock .wrongKeys ∙ w .three }
 
-three-served : (h : Device) (out : List ℕ) → Three h → Three (passed ours h (Serves out))
-three-served h out w = record { sound = passed-kept h (Serves out) (w .sound); three = slot-alike (h .state) out (w .sound) .wrongKeys ∙ w .three }
+three-served : (h : Device) (out : List ℕ) → Three h → Three (afterMoment ours h (Serves out))
+three-served h out w = record { sound = moment-kept h (Serves out) (w .sound); three = slot-alike (h .state) out (w .sound) .wrongKeys ∙ w .three }
 
 opens-none : (ms : List Moment) (h : Device) (r : Resource) → Three h → PoweredOn ms → sessionOf (h .state) .unlocked r ≡ false → sessionOf (lived ours h ms .state) .unlocked r ≡ false
 opens-none [] h r w n e = e
 opens-none (PowerOn start ∷ ms) h r w n e = absurd n
 opens-none (Hears meas b ∷ ms) h r w n e =
-    opens-none ms (passed ours h (Hears meas b)) r (three-heard h meas b w) n (byte-locked (h .state) (h .cal) meas b (w .sound) r (w .three) e)
-opens-none (Samples meas event clock ∷ ms) h r w n e =
-    opens-none ms (passed ours h (Samples meas event clock)) r (three-sampled h meas event clock w) n (ap (λ (f : Resource → Bool). f r) (event-alike (h .state) (h .cal) meas event clock .unlocked) ∙ e)
+    opens-none ms (afterMoment ours h (Hears meas b)) r (three-heard h meas b w) n (byte-locked (h .state) (h .cal) meas b (w .sound) r (w .three) e)
+opens-none (OnEvent meas event clock ∷ ms) h r w n e =
+    opens-none ms (afterMoment ours h (OnEvent meas event clock)) r (three-sampled h meas event clock w) n (ap (λ (f : Resource → Bool). f r) (event-alike (h .state) (h .cal) meas event clock .unlocked) ∙ e)
 opens-none (Serves out ∷ ms) h r w n e =
-    opens-none ms (passed ours h (Serves out)) r (three-served h out w) n (ap (λ (f : Resource → Bool). f r) (slot-alike (h .state) out (w .sound) .unlocked) ∙ e)
+    opens-none ms (afterMoment ours h (Serves out)) r (three-served h out w) n (ap (λ (f : Resource → Bool). f r) (slot-alike (h .state) out (w .sound) .unlocked) ∙ e)
 
 keyless : (ms : List Moment) (h : Device) → Three h → PoweredOn ms → OfBytes Keyless ours h ms
 keyless [] h w n = tt
 keyless (PowerOn start ∷ ms) h w n = absurd n
-keyless (Hears meas b ∷ ms) h w n = (no-right-key (h .state) b Calibration (w .three), keyless ms (passed ours h (Hears meas b)) (three-heard h meas b w) n)
-keyless (Samples meas event clock ∷ ms) h w n = (tt, keyless ms (passed ours h (Samples meas event clock)) (three-sampled h meas event clock w) n)
-keyless (Serves out ∷ ms) h w n = (tt, keyless ms (passed ours h (Serves out)) (three-served h out w) n)
+keyless (Hears meas b ∷ ms) h w n = (no-right-key (h .state) b Calibration (w .three), keyless ms (afterMoment ours h (Hears meas b)) (three-heard h meas b w) n)
+keyless (OnEvent meas event clock ∷ ms) h w n = (tt, keyless ms (afterMoment ours h (OnEvent meas event clock)) (three-sampled h meas event clock w) n)
+keyless (Serves out ∷ ms) h w n = (tt, keyless ms (afterMoment ours h (Serves out)) (three-served h out w) n)
 
 -- ---- over a life: n keys were judged wrong since the last power-up, and after three no lock is open
 record Tally (h : Device) (n : ℕ) : Type 0 where
@@ -232,9 +232,9 @@ power-count : (start : ℕ) → sessionOf (powered start) .wrongKeys ≡ 0
 unfolding sessionOf
 power-count start = powered-wrongKeys start
 
-passed-tally : (h : Device) (m : Moment) (n : ℕ) → Tally h n → Tally (passed ours h m) (wrongAt ours h m n)
+passed-tally : (h : Device) (m : Moment) (n : ℕ) → Tally h n → Tally (afterMoment ours h m) (wrongAt ours h m n)
 passed-tally h (PowerOn start) n w = record {
-  sound = passed-kept h (PowerOn start) (w .sound);
+  sound = moment-kept h (PowerOn start) (w .sound);
   count = ap (λ (s : List ℕ). sessionOf s .wrongKeys) (power-up-is (h .state) start (consistent-size (h .state) (w .sound))) ∙ power-count start;
   locked = λ e. absurd (omega arith);
 }
@@ -242,29 +242,29 @@ passed-tally h (Hears meas b) n w = go (judgedWrong (receiveOf (h .state) (h .ca
   is : Counted (h .state) (h .cal) meas b (w .sound) (receiveOf (h .state) (h .cal) meas b)
   is = counted (h .state) (h .cal) meas b (w .sound)
 
-  go : (x : Bool) → judgedWrong (receiveOf (h .state) (h .cal) meas b) (h .state) b ≡ x → Tally (passed ours h (Hears meas b)) (cond x (suc n) n)
-  go true t = record { sound = passed-kept h (Hears meas b) (w .sound); count = (let more = is .more t in let so = w .count in omega arith); locked = λ _. is .locked t }
+  go : (x : Bool) → judgedWrong (receiveOf (h .state) (h .cal) meas b) (h .state) b ≡ x → Tally (afterMoment ours h (Hears meas b)) (cond x (suc n) n)
+  go true t = record { sound = moment-kept h (Hears meas b) (w .sound); count = (let more = is .more t in let so = w .count in omega arith); locked = λ _. is .locked t }
   go false f = record {
-    sound = passed-kept h (Hears meas b) (w .sound);
+    sound = moment-kept h (Hears meas b) (w .sound);
     count = is .same f ∙ w .count;
     locked = λ e r. byte-locked (h .state) (h .cal) meas b (w .sound) r (w .count ∙ e) (w .locked e r);
   }
-passed-tally h (Samples meas event clock) n w =
+passed-tally h (OnEvent meas event clock) n w =
     let a = event-alike (h .state) (h .cal) meas event clock in
-    record { sound = passed-kept h (Samples meas event clock) (w .sound); count = a .wrongKeys ∙ w .count; locked = λ e r. ap (λ (f : Resource → Bool). f r) (a .unlocked) ∙ w .locked e r }
+    record { sound = moment-kept h (OnEvent meas event clock) (w .sound); count = a .wrongKeys ∙ w .count; locked = λ e r. ap (λ (f : Resource → Bool). f r) (a .unlocked) ∙ w .locked e r }
 passed-tally h (Serves out) n w =
     let a = slot-alike (h .state) out (w .sound) in
-    record { sound = passed-kept h (Serves out) (w .sound); count = a .wrongKeys ∙ w .count; locked = λ e r. ap (λ (f : Resource → Bool). f r) (a .unlocked) ∙ w .locked e r }
+    record { sound = moment-kept h (Serves out) (w .sound); count = a .wrongKeys ∙ w .count; locked = λ e r. ap (λ (f : Resource → Bool). f r) (a .unlocked) ∙ w .locked e r }
 
 life-tally : (ms : List Moment) (h : Device) (n : ℕ) → Tally h n → Tally (lived ours h ms) (wrongIn ours h ms n)
 life-tally [] h n w = w
-life-tally (m ∷ ms) h n w = life-tally ms (passed ours h m) (wrongAt ours h m n) (passed-tally h m n w)
+life-tally (m ∷ ms) h n w = life-tally ms (afterMoment ours h m) (wrongAt ours h m n) (passed-tally h m n w)
 
 -- from a power-up on
 tally : (h : Device) (start : ℕ) (ms : List Moment) → length (h .state) ≡ size → Tally (lived ours h (PowerOn start ∷ ms)) (wrongIn ours h (PowerOn start ∷ ms) 0)
 tally h start ms e =
-    let is : passed ours h (PowerOn start) .state ≡ powered start = power-up-is (h .state) start e in
-    life-tally ms (passed ours h (PowerOn start)) 0 (record { sound = rw is (power-consistent start); count = ap (λ (s : List ℕ). sessionOf s .wrongKeys) is ∙ power-count start; locked = λ z. absurd (omega arith) })
+    let is : afterMoment ours h (PowerOn start) .state ≡ powered start = power-up-is (h .state) start e in
+    life-tally ms (afterMoment ours h (PowerOn start)) 0 (record { sound = rw is (power-consistent start); count = ap (λ (s : List ℕ). sessionOf s .wrongKeys) is ∙ power-count start; locked = λ z. absurd (omega arith) })
 
 shut-then : (h : Device) (start : ℕ) (ms later : List Moment) → length (h .state) ≡ size → wrongIn ours h (PowerOn start ∷ ms) 0 ≡ 3 → PoweredOn later
     → ((r : Resource) → sessionOf (lived ours (lived ours h (PowerOn start ∷ ms)) later .state) .unlocked r ≡ false)
@@ -279,7 +279,7 @@ shut-then h start ms later e three n =
 
 pub stays-shut : StaysShut ours
 stays-shut = record {
-  counts = λ s cal meas b c t. (counted s cal meas b c .few t, counted s cal meas b c .more t);
+  countsWrong = λ s cal meas b c t. (counted s cal meas b c .few t, counted s cal meas b c .more t);
   keeps = λ s cal meas b c f. counted s cal meas b c .same f;
   keepsOn = λ s cal meas out event clock c. (event-alike s cal meas event clock .wrongKeys, slot-alike s out c .wrongKeys);
   anew = λ s start e. ap (λ (t : List ℕ). sessionOf t .wrongKeys) (power-up-is s start e) ∙ power-count start;

@@ -36,7 +36,7 @@ pub record AsDefined (v : AnySlave) : Type 0 where
   -- a slot with room sends one frame, of whose turn it is, and what was sent no longer waits
   pub serves : (s out : List ℕ) → consistent s ≡ true → room ≤ length out → v .slot s out ≡ sentBy (turnIn (viewOf s)) s out
   -- an event samples the lists that run on it and have no unsent packet, and misses those that have one; exactly these are counted
-  pub counts : (s cal meas : List ℕ) (event clock : ℕ) → consistent s ≡ true → event ≤ 1
+  pub tellsCounts : (s cal meas : List ℕ) (event clock : ℕ) → consistent s ≡ true → event ≤ 1
       → v .event s cal meas event clock .evented ≡ countedIn (sessionOf s) event
   -- which is stored as if that list alone were captured
   pub stores : (s cal meas : List ℕ) (event clock l : ℕ) → consistent s ≡ true → event ≤ 1 → samplingIn (sessionOf s) l event ≡ Sampled

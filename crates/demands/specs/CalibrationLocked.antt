@@ -12,12 +12,12 @@ use Rattle.words.specs.declared.Resource.the-variants.{Calibration}
 use Rattle.demands.specs.Keys.{RightKeyEnds}
 
 -- the calibration resource is locked, or no session is open
-abbrev pub shut : Session → Bool
-shut c = cond (c .opened) (cond (c .unlocked Calibration) false true) true
+abbrev pub calibrationShut : Session → Bool
+calibrationShut c = cond (c .opened) (cond (c .unlocked Calibration) false true) true
 
 -- a byte comes while calibration is locked, or no session is open
 abbrev pub WhileShut : Device → List ℕ → ℕ → Type 0
-WhileShut h meas b = shut (sessionOf (h .state)) ≡ true
+WhileShut h meas b = calibrationShut (sessionOf (h .state)) ≡ true
 
 -- byte b does not end UNLOCK with the right key to calibration
 abbrev pub Keyless : Device → List ℕ → ℕ → Type 0
@@ -25,8 +25,8 @@ Keyless h meas b = RightKeyEnds (h .state) b Calibration → ⊥
 
 pub record CalibrationLocked (v : AnySlave) : Type 0 where
   -- while calibration is locked, or no session is open, no calibration byte changes
-  pub locked : (s cal meas : List ℕ) (b : ℕ) → shut (sessionOf s) ≡ true → v .receive s cal meas b .cal ≡ cal
+  pub locked : (s cal meas : List ℕ) (b : ℕ) → calibrationShut (sessionOf s) ≡ true → v .receive s cal meas b .cal ≡ cal
   -- so a memory that nothing else writes stays as it is through a life in which calibration is locked whenever a byte comes
   pub lockedOn : (h : Device) (ms : List Moment) → OfBytes WhileShut v h ms → lived v h ms .cal ≡ h .cal
   -- and from any state that is locked or without a session until the right key to calibration comes
-  pub lockedTill : (h : Device) (ms : List Moment) → consistent (h .state) ≡ true → shut (sessionOf (h .state)) ≡ true → OfBytes Keyless v h ms → lived v h ms .cal ≡ h .cal
+  pub lockedTill : (h : Device) (ms : List Moment) → consistent (h .state) ≡ true → calibrationShut (sessionOf (h .state)) ≡ true → OfBytes Keyless v h ms → lived v h ms .cal ≡ h .cal

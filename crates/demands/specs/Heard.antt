@@ -64,8 +64,8 @@ unfoldable pub heeds : Option (List ℕ) → Slave → ℕ → ℕ → Option De
 heeds none v nc nm = none
 heeds (some p) v nc nm = deedBy (heedingIn (hasAnswer v) p (v .session) nc nm)
 
-abbrev pub doneAt : List ℕ → List ℕ → List ℕ → ℕ → Option Deed
-doneAt s cal meas b = heeds (packetEnded s b) (viewOf s) (length cal) (length meas)
+abbrev pub deedAt : List ℕ → List ℕ → List ℕ → ℕ → Option Deed
+deedAt s cal meas b = heeds (packetEnded s b) (viewOf s) (length cal) (length meas)
 
 -- ---- a test of the command that byte b ended and of its answer, by what the call did; of no other byte it holds
 abbrev pub ofEnded : (List ℕ → List ℕ → Bool) → Option (List ℕ) → List ℕ → Bool
@@ -138,4 +138,4 @@ stopsBy l (some d) c = stops l d c
 
 -- at byte b list l is stopped or freed, or its session ends or is renewed
 abbrev pub stopsAt : ℕ → List ℕ → List ℕ → List ℕ → ℕ → Bool
-stopsAt l s cal meas b = stopsBy l (doneAt s cal meas b) (sessionOf s)
+stopsAt l s cal meas b = stopsBy l (deedAt s cal meas b) (sessionOf s)

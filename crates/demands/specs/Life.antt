@@ -13,38 +13,38 @@ pub record Device : Type 0 where
 pub data Moment : Type 0 where
   PowerOn : (start : ℕ) → Moment
   Hears : (meas : List ℕ) (b : ℕ) → Moment
-  Samples : (meas : List ℕ) (event clock : ℕ) → Moment
+  OnEvent : (meas : List ℕ) (event clock : ℕ) → Moment
   Serves : (out : List ℕ) → Moment
 
 -- the device once a moment has passed, and once a life has
-abbrev pub passed : AnySlave → Device → Moment → Device
-passed v h (PowerOn start) = record { state = v .powerUp (h .state) start .state; cal = h .cal }
-passed v h (Hears meas b) = record { state = v .receive (h .state) (h .cal) meas b .state; cal = v .receive (h .state) (h .cal) meas b .cal }
-passed v h (Samples meas event clock) = record { state = v .event (h .state) (h .cal) meas event clock .state; cal = h .cal }
-passed v h (Serves out) = record { state = v .slot (h .state) out .state; cal = h .cal }
+abbrev pub afterMoment : AnySlave → Device → Moment → Device
+afterMoment v h (PowerOn start) = record { state = v .powerUp (h .state) start .state; cal = h .cal }
+afterMoment v h (Hears meas b) = record { state = v .receive (h .state) (h .cal) meas b .state; cal = v .receive (h .state) (h .cal) meas b .cal }
+afterMoment v h (OnEvent meas event clock) = record { state = v .event (h .state) (h .cal) meas event clock .state; cal = h .cal }
+afterMoment v h (Serves out) = record { state = v .slot (h .state) out .state; cal = h .cal }
 
 abbrev pub lived : AnySlave → Device → List Moment → Device
 lived v h [] = h
-lived v h (m ∷ ms) = lived v (passed v h m) ms
+lived v h (m ∷ ms) = lived v (afterMoment v h m) ms
 
 -- the frame that a moment sends, if any; those of a life
 abbrev pub sendsAt : AnySlave → Device → Moment → List (List ℕ)
 sendsAt v h (PowerOn start) = []
 sendsAt v h (Hears meas b) = []
-sendsAt v h (Samples meas event clock) = []
+sendsAt v h (OnEvent meas event clock) = []
 sendsAt v h (Serves out) = sends v (h .state) (SendingSlot out)
 
 abbrev pub sentInLife : AnySlave → Device → List Moment → List (List ℕ)
 sentInLife v h [] = []
-sentInLife v h (m ∷ ms) = sendsAt v h m ++ sentInLife v (passed v h m) ms
+sentInLife v h (m ∷ ms) = sendsAt v h m ++ sentInLife v (afterMoment v h m) ms
 
 -- P holds of every byte that comes in a life, and of the device as it then is
 abbrev pub OfByte : (Device → List ℕ → ℕ → Type 0) → Device → Moment → Type 0
 OfByte P h (PowerOn start) = Unit {0}
 OfByte P h (Hears meas b) = P h meas b
-OfByte P h (Samples meas event clock) = Unit {0}
+OfByte P h (OnEvent meas event clock) = Unit {0}
 OfByte P h (Serves out) = Unit {0}
 
 abbrev pub OfBytes : (Device → List ℕ → ℕ → Type 0) → AnySlave → Device → List Moment → Type 0
 OfBytes P v h [] = Unit {0}
-OfBytes P v h (m ∷ ms) = OfByte P h m × OfBytes P v (passed v h m) ms
+OfBytes P v h (m ∷ ms) = OfByte P h m × OfBytes P v (afterMoment v h m) ms

@@ -10,8 +10,8 @@ use Rattle.state.specs.State.{consistent}
 use Rattle.model.specs.Model.{byte, Session}
 use Rattle.model.specs.View.{sessionOf, viewOf}
 use Rattle.demands.specs.Slave.{AnySlave}
-use Rattle.demands.specs.Life.{Device, Moment, lived, Hears, passed, OfBytes}
-use Rattle.demands.specs.Heard.{Commands, doneAt}
+use Rattle.demands.specs.Life.{Device, Moment, lived, Hears, afterMoment, OfBytes}
+use Rattle.demands.specs.Heard.{Commands, deedAt}
 use Rattle.demands.specs.Waiting.{SameOutside}
 use mathlib.Core.Option.{some}
 use Rattle.state.specs.Bytes.{block, u32At}
@@ -58,7 +58,7 @@ pub record Brings (v : AnySlave) (number : ℕ) (s cal meas : List ℕ) (b : ℕ
 
 -- it ends no DOWNLOAD or SHORT_DOWNLOAD that writes one of the n bytes from a
 abbrev pub Spares : ℕ → ℕ → Device → List ℕ → ℕ → Type 0
-Spares a n h meas b = (from at many : ℕ) → doneAt (h .state) (h .cal) meas b ≡ some (Download from at many) → (at + many ≤ a) ⊎ (a + n ≤ at)
+Spares a n h meas b = (from at many : ℕ) → deedAt (h .state) (h .cal) meas b ≡ some (Download from at many) → (at + many ≤ a) ⊎ (a + n ≤ at)
 
 pub record Memory (v : AnySlave) : Type 0 where
   -- only the first 4,096 bytes of a memory matter, and the rest stays
@@ -71,9 +71,9 @@ pub record Memory (v : AnySlave) : Type 0 where
   -- so do these any time later, if nothing but the slave writes that memory and no DOWNLOAD or SHORT_DOWNLOAD has written there since, whatever calls
   -- and power-ups came
   pub givesBackLater : (h : Device) (meas : List ℕ) (b : ℕ) (p : List ℕ) (from a n : ℕ) (between : List Moment) (meas′ : List ℕ) (c : ℕ) (q : List ℕ) → consistent (h .state) ≡ true
-      → Downloads (h .state) b p from a n → viewOf (passed v h (Hears meas b) .state) .answer ≡ 0xFF ∷ [] → OfBytes (Spares a n) v (passed v h (Hears meas b)) between
-      → Uploads (lived v (passed v h (Hears meas b)) between .state) c q a n
-      → viewOf (passed v (lived v (passed v h (Hears meas b)) between) (Hears meas′ c) .state) .answer ≡ 0xFF ∷ block p from n
+      → Downloads (h .state) b p from a n → viewOf (afterMoment v h (Hears meas b) .state) .answer ≡ 0xFF ∷ [] → OfBytes (Spares a n) v (afterMoment v h (Hears meas b)) between
+      → Uploads (lived v (afterMoment v h (Hears meas b)) between .state) c q a n
+      → viewOf (afterMoment v (lived v (afterMoment v h (Hears meas b)) between) (Hears meas′ c) .state) .answer ≡ 0xFF ∷ block p from n
   -- UPLOAD after SHORT_UPLOAD, whenever it comes and whatever came between that does not change the MTA, goes on there: both done and lent the same memories, their bytes together are the
   -- block of both lengths
   pub goesOn : (s cal meas : List ℕ) (b : ℕ) (p first : List ℕ) (between : List Call) (c : ℕ) (q second : List ℕ) → consistent s ≡ true

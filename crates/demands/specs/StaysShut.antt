@@ -14,7 +14,7 @@ use Rattle.model.specs.Model.{byte}
 use Rattle.model.specs.View.{sessionOf}
 use Rattle.demands.specs.Slave.{AnySlave}
 use Rattle.demands.specs.Heard.{ofAnswered}
-use Rattle.demands.specs.Life.{Device, Moment, PowerOn, Hears, Samples, Serves, passed, lived}
+use Rattle.demands.specs.Life.{Device, Moment, PowerOn, Hears, OnEvent, Serves, afterMoment, lived}
 
 -- ---- a key is judged wrong: UNLOCK is answered FE 25
 abbrev pub saysWrong : List ℕ → List ℕ → Bool
@@ -28,24 +28,24 @@ judgedWrong = ofAnswered saysWrong
 abbrev pub wrongAt : AnySlave → Device → Moment → ℕ → ℕ
 wrongAt v h (PowerOn start) n = 0
 wrongAt v h (Hears meas b) n = cond (judgedWrong (v .receive (h .state) (h .cal) meas b) (h .state) b) (suc n) n
-wrongAt v h (Samples meas event clock) n = n
+wrongAt v h (OnEvent meas event clock) n = n
 wrongAt v h (Serves out) n = n
 
 abbrev pub wrongIn : AnySlave → Device → List Moment → ℕ → ℕ
 wrongIn v h [] n = n
-wrongIn v h (m ∷ ms) n = wrongIn v (passed v h m) ms (wrongAt v h m n)
+wrongIn v h (m ∷ ms) n = wrongIn v (afterMoment v h m) ms (wrongAt v h m n)
 
 -- no power-up comes
 abbrev pub PoweredOn : List Moment → Type 0
 PoweredOn [] = Unit {0}
 PoweredOn (PowerOn start ∷ ms) = ⊥
 PoweredOn (Hears meas b ∷ ms) = PoweredOn ms
-PoweredOn (Samples meas event clock ∷ ms) = PoweredOn ms
+PoweredOn (OnEvent meas event clock ∷ ms) = PoweredOn ms
 PoweredOn (Serves out ∷ ms) = PoweredOn ms
 
 pub record StaysShut (v : AnySlave) : Type 0 where
   -- a key that is judged wrong counts, whichever lock it was for; before it fewer than three did
-  pub counts : (s cal meas : List ℕ) (b : ℕ) → consistent s ≡ true → judgedWrong (v .receive s cal meas b) s b ≡ true
+  pub countsWrong : (s cal meas : List ℕ) (b : ℕ) → consistent s ≡ true → judgedWrong (v .receive s cal meas b) s b ≡ true
       → (sessionOf s .wrongKeys < 3) × (sessionOf (v .receive s cal meas b .state) .wrongKeys ≡ sessionOf s .wrongKeys + 1)
   -- nothing else changes the count: no right key, no CONNECT, no other byte, no event and no slot
   pub keeps : (s cal meas : List ℕ) (b : ℕ) → consistent s ≡ true → judgedWrong (v .receive s cal meas b) s b ≡ false

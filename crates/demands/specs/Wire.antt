@@ -11,7 +11,7 @@ use Rattle.state.specs.State.{consistent}
 use Rattle.model.specs.View.{viewOf}
 use Rattle.words.specs.Number.{slottedValue}
 use Rattle.demands.specs.Slave.{AnySlave}
-use Rattle.demands.specs.Life.{Device, Moment, PowerOn, Hears, Samples, Serves, passed, sentInLife}
+use Rattle.demands.specs.Life.{Device, Moment, PowerOn, Hears, OnEvent, Serves, afterMoment, sentInLife}
 use Rattle.demands.specs.Waiting.{SameOutside}
 use lib.Dec.{ltb}
 use Rattle.line.specs.Run as line
@@ -46,10 +46,10 @@ ReadsBack (f ∷ fs) s =
 -- the frames that are to go, of which i have gone since the power came on: the CTR is i, modulo 256
 abbrev pub dueIn : AnySlave → ℕ → Device → List Moment → List (List ℕ)
 dueIn v i h [] = []
-dueIn v i h (PowerOn start ∷ ms) = dueIn v 0 (passed v h (PowerOn start)) ms
-dueIn v i h (Hears meas b ∷ ms) = dueIn v i (passed v h (Hears meas b)) ms
-dueIn v i h (Samples meas event clock ∷ ms) = dueIn v i (passed v h (Samples meas event clock)) ms
-dueIn v i h (Serves out ∷ ms) = numbered 0 i (dueAt (h .state) (SendingSlot out)) ++ dueIn v (i + length (dueAt (h .state) (SendingSlot out))) (passed v h (Serves out)) ms
+dueIn v i h (PowerOn start ∷ ms) = dueIn v 0 (afterMoment v h (PowerOn start)) ms
+dueIn v i h (Hears meas b ∷ ms) = dueIn v i (afterMoment v h (Hears meas b)) ms
+dueIn v i h (OnEvent meas event clock ∷ ms) = dueIn v i (afterMoment v h (OnEvent meas event clock)) ms
+dueIn v i h (Serves out ∷ ms) = numbered 0 i (dueAt (h .state) (SendingSlot out)) ++ dueIn v (i + length (dueAt (h .state) (SendingSlot out))) (afterMoment v h (Serves out)) ms
 
 pub record Wire (v : AnySlave) : Type 0 where
   -- every frame that goes is that of the packet whose turn it was, one frame a slot, and the CTR grows by one per frame

@@ -37,7 +37,6 @@ pub wrong-key-met : (consistent (seeded keyOfLists) ≡ true) × Commands (seede
 unfolding computed
 wrong-key-met = (refl, record { ends = refl; opened = refl; free = refl }, refl, refl)
 
-
 -- ---- SHORT_DOWNLOAD with the MTA unset is answered FF, and its byte is written
 abbrev loadBegun : List ℕ
 loadBegun = reached ours (loadingFirst [] 7)

@@ -19,85 +19,85 @@ use Rattle.demands.specs.Slave.{AnySlave}
 use Rattle.demands.specs.Heard.{packetEnded, readBy}
 use Rattle.demands.specs.Demand2.{Demand2}
 use Rattle.shown.specs.Exchange.{lastByte}
-use Rattle.shown.specs.Table.{Comes, Holds, connectFrame, connectAnswer, synchFrame, synchAnswer, escapedPacket, escapedCtr, seedGiven, calibrationKey, calibrationOpens, listsKey, listsOpen, weightPacket, weightSent, download62Done, download62Refused, download63Refused, odt61Starts, odt62Refused, table, data62, download, begun62At}
+use Rattle.shown.specs.Table.{Agrees, Holds, connectFrame, connectAnswer, synchFrame, synchAnswer, escapedPacket, escapedCtr, seedGiven, calibrationKey, calibrationOpens, listsKey, listsOpen, weightPacket, weightSent, download62Done, download62Refused, download63Refused, odt61Starts, odt62Refused, benchTable, data62, download, begun62At}
 use Rattle.demands.proofs.Received.{received-by, commanded}
 use Rattle.shown.proofs.Computed.{computed}
 
 -- ---- row by row
-connect-frame : Comes (connectFrame 1)
+connect-frame : Agrees (connectFrame 1)
 unfolding computed
 connect-frame = refl
 
-connect-answer : Comes (connectAnswer 1)
+connect-answer : Agrees (connectAnswer 1)
 unfolding computed
 connect-answer = refl
 
-synch-frame : Comes (synchFrame 2)
+synch-frame : Agrees (synchFrame 2)
 unfolding computed
 synch-frame = refl
 
-synch-answer : Comes (synchAnswer 2)
+synch-answer : Agrees (synchAnswer 2)
 unfolding computed
 synch-answer = refl
 
-escaped-packet : Comes (escapedPacket 3)
+escaped-packet : Agrees (escapedPacket 3)
 unfolding computed
 escaped-packet = refl
 
-escaped-ctr : Comes (escapedCtr 4)
+escaped-ctr : Agrees (escapedCtr 4)
 unfolding computed
 escaped-ctr = refl
 
-seed-given : Comes (seedGiven 5)
+seed-given : Agrees (seedGiven 5)
 unfolding computed
 seed-given = refl
 
-calibration-key : Comes (calibrationKey 5)
+calibration-key : Agrees (calibrationKey 5)
 unfolding computed
 calibration-key = refl
 
-calibration-opens : Comes (calibrationOpens 5)
+calibration-opens : Agrees (calibrationOpens 5)
 unfolding computed
 calibration-opens = refl
 
-lists-key : Comes (listsKey 6)
+lists-key : Agrees (listsKey 6)
 unfolding computed
 lists-key = refl
 
-lists-open : Comes (listsOpen 6)
+lists-open : Agrees (listsOpen 6)
 unfolding computed
 lists-open = refl
 
-weight-packet : Comes (weightPacket 7)
+weight-packet : Agrees (weightPacket 7)
 unfolding computed
 weight-packet = refl
 
-weight-sent : Comes (weightSent 7)
+weight-sent : Agrees (weightSent 7)
 unfolding computed
 weight-sent = refl
 
-download62-done : Comes (download62Done 8)
+download62-done : Agrees (download62Done 8)
 unfolding computed
 download62-done = refl
 
-download62-refused : Comes (download62Refused 8)
+download62-refused : Agrees (download62Refused 8)
 unfolding computed
 download62-refused = refl
 
-download63-refused : Comes (download63Refused 9)
+download63-refused : Agrees (download63Refused 9)
 unfolding computed
 download63-refused = refl
 
-odt61-starts : Comes (odt61Starts 10)
+odt61-starts : Agrees (odt61Starts 10)
 unfolding computed
 odt61-starts = refl
 
-odt62-refused : Comes (odt62Refused 10)
+odt62-refused : Agrees (odt62Refused 10)
 unfolding computed
 odt62-refused = refl
 
 -- all of them
-pub bench-sheet : Holds table
+pub bench-sheet : Holds benchTable
 bench-sheet = (connect-frame, (connect-answer, (synch-frame, (synch-answer, (escaped-packet, (escaped-ctr, (seed-given, (calibration-key, (calibration-opens, (lists-key, (lists-open, (weight-packet, (weight-sent, (download62-done, (download62-refused, (download63-refused, (odt61-starts, (odt62-refused, tt))))))))))))))))))
 
 -- ---- case 8 with whatever memory of 4,096 bytes, of every slave that meets demand 2

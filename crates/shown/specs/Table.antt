@@ -139,8 +139,8 @@ odt61Starts number = row number (answer (startWith 1)) (0xFF ∷ 0x00 ∷ [])
 abbrev pub odt62Refused : ℕ → Row
 odt62Refused number = row number (answer (startWith 2)) (0xFE ∷ 0x2A ∷ [])
 
-abbrev pub table : List Row
-table =
+abbrev pub benchTable : List Row
+benchTable =
     connectFrame 1
     ∷ connectAnswer 1
     ∷ synchFrame 2
@@ -162,9 +162,9 @@ table =
     ∷ []
 
 -- a row comes to what the sheet says, and every row does
-abbrev pub Comes : Row → Type 0
-Comes r = r .comesTo ≡ r .sheet
+abbrev pub Agrees : Row → Type 0
+Agrees r = r .comesTo ≡ r .sheet
 
 abbrev pub Holds : List Row → Type 0
 Holds [] = Unit {0}
-Holds (r ∷ rs) = Comes r × Holds rs
+Holds (r ∷ rs) = Agrees r × Holds rs

@@ -16,7 +16,7 @@ use Rattle.model.specs.Calls.{samplingIn, contentsIn, withPacket}
 use Rattle.model.specs.Whole.{isSampled, isMissed, howMany, countedIn, sampledAs, sampledIn, eventIn}
 use Rattle.views.specs.Commands.{TheGenerator, TheWrongKeys, Whether-open, TheLocks, TheSeed, TheMta, ThePointer, Whether-freed, HowManyLists, TheRound, TheLists, AllBut}
 use Rattle.views.specs.Words.{any, total}
-use Rattle.views.specs.Samples.{Samples}
+use Rattle.views.specs.Samples.{CapturedList}
 use Rattle.views.specs.Events.{onEvent, stillUnsent, takesSample, missesSample, howManyOf, EventLeaves}
 use Rattle.views.proofs.FaultWords.{running-is}
 use Rattle.views.proofs.Listed.{Listed, runs-listed}
@@ -121,7 +121,7 @@ module _ (c : Session) (listed : Listed c) (number : ℕ) where
     unfolding sampledAs
     event-leaves-in = record {
       told = counted-is;
-      taken = λ l t. subst (λ (z : Sampling). Samples clock cal meas (c .list l) (sampledAs z clock cal meas (c .list l))) (sym (sampling-is l ∙ ap (λ (b : Bool). cond b Sampled (cond (missesSample c number l) Missed Idle)) t)) (samples-from clock cal meas (c .list l));
+      taken = λ l t. subst (λ (z : Sampling). CapturedList clock cal meas (c .list l) (sampledAs z clock cal meas (c .list l))) (sym (sampling-is l ∙ ap (λ (b : Bool). cond b Sampled (cond (missesSample c number l) Missed Idle)) t)) (samples-from clock cal meas (c .list l));
       old = λ l t. ap (λ (z : Sampling). sampledAs z clock cal meas (c .list l)) (sampling-is l ∙ ap (λ (b : Bool). cond b Sampled (cond (missesSample c number l) Missed Idle)) t) ∙ stays (missesSample c number l) (c .list l);
       settings = record {
         pointer = refl;
@@ -131,7 +131,7 @@ module _ (c : Session) (listed : Listed c) (number : ℕ) where
         selected = kept (λ x. x .selected) (λ x g. refl);
         started = kept (λ x. x .started) (λ x g. refl);
         odts = kept (λ x. x .odts) (λ x g. refl);
-        counts = kept-odt (λ y. y .entries) (λ y bs. refl);
+        entryCounts = kept-odt (λ y. y .entries) (λ y bs. refl);
         entries = λ l o e. kept-odt (λ y. y .entry e) (λ y bs. refl) l o;
       };
       rest = rest-kept;

@@ -147,7 +147,7 @@ module _ (p : List ℕ) (c : Session) (cal meas : List ℕ) where
         stopped = entry-stopped l o e x (c .list);
         started = entry-started l o e x (c .list);
         odts = entry-odts l o e x (c .list);
-        counts = entry-beside l o e x (c .list) (λ (y : Odt). y .entries) refl;
+        entryCounts = entry-beside l o e x (c .list) (λ (y : Odt). y .entries) refl;
         samples = entry-beside l o e x (c .list) (λ (y : Odt). y .store) refl;
         next = next-is n l o e;
         last = last-is n l o e;
@@ -222,7 +222,7 @@ module _ (p : List ℕ) (c : Session) (cal meas : List ℕ) where
         selected = ap (λ (y : DaqList). y .selected) is;
         stopped = ap (λ (y : DaqList). y .started) is;
         odts = ap (λ (y : DaqList). y .odts) is;
-        counts = λ k. ap (λ (y : DaqList). y .odt k .entries) is;
+        entryCounts = λ k. ap (λ (y : DaqList). y .odt k .entries) is;
         others = put-there l x (c .list);
         rest = but-lists c (put l x (c .list));
         memory = refl;
@@ -261,7 +261,7 @@ module _ (p : List ℕ) (c : Session) (cal meas : List ℕ) where
 runs-on : (x y : DaqList) (opened : Bool) → Switched true x y → opened ≡ true → fits x ≡ true → runs opened y ≡ true
 unfolding runs
 runs-on x y opened w o f =
-    ap₂ (λ (a b : Bool). cond a (cond b (fits y) false) false) o (w .started) ∙ fits-same y x (λ k h. w .counts k) (λ k h. fun-ext (w .entries k)) (w .mode) (w .has) ∙ f
+    ap₂ (λ (a b : Bool). cond a (cond b (fits y) false) false) o (w .started) ∙ fits-same y x (λ k h. w .entryCounts k) (λ k h. fun-ext (w .entries k)) (w .mode) (w .has) ∙ f
 
 runs-still : (x y : DaqList) (opened : Bool) → Unswitched x y → runs opened x ≡ true → runs opened y ≡ true
 runs-still x y opened w r =
@@ -285,7 +285,7 @@ each-fits c l all there s =
 -- ---- DE START_STOP_DAQ_LIST
 switched : (on : Bool) (l : ℕ) (d : ℕ → DaqList) → Switched on (d l) (put l (switch on (d l)) d l)
 switched on l d =
-    subst (Switched on (d l)) (sym (put-here l (switch on (d l)) d)) (record { mode = refl; started = refl; has = refl; counts = λ k. refl; entries = λ k e. refl; dropped = λ k. refl })
+    subst (Switched on (d l)) (sym (put-here l (switch on (d l)) d)) (record { mode = refl; started = refl; has = refl; entryCounts = λ k. refl; entries = λ k e. refl; dropped = λ k. refl })
 
 module _ (p : List ℕ) (c : Session) (cal meas : List ℕ) where
   abbrev list : ℕ
@@ -396,7 +396,7 @@ module _ (x : DaqList) where
 
   started-if : (s r : Bool) → s ≡ true → r ≡ false → Switched true x (startedIf s r)
   started-if s r e f =
-      subst (λ (b : Bool). Switched true x (startedIf b r)) (sym e) (subst (λ (b : Bool). Switched true x (startedIf true b)) (sym f) (record { mode = refl; started = refl; has = refl; counts = λ k. refl; entries = λ k i. refl; dropped = λ k. refl }))
+      subst (λ (b : Bool). Switched true x (startedIf b r)) (sym e) (subst (λ (b : Bool). Switched true x (startedIf true b)) (sym f) (record { mode = refl; started = refl; has = refl; entryCounts = λ k. refl; entries = λ k i. refl; dropped = λ k. refl }))
 
   kept-if : (s r : Bool) → s ≡ true → r ≡ true → Unswitched x (startedIf s r)
   kept-if s r e f =
@@ -406,7 +406,7 @@ module _ (x : DaqList) where
   unstarted-if s r e = subst (λ (b : Bool). Unswitched x (startedIf b r)) (sym e) (record { mode = refl; started = refl; has = refl; odts = λ k. refl })
 
   stopped-if : (s : Bool) → s ≡ true → Switched false x (stoppedIf s)
-  stopped-if s e = subst (λ (b : Bool). Switched false x (stoppedIf b)) (sym e) (record { mode = refl; started = refl; has = refl; counts = λ k. refl; entries = λ k i. refl; dropped = λ k. refl })
+  stopped-if s e = subst (λ (b : Bool). Switched false x (stoppedIf b)) (sym e) (record { mode = refl; started = refl; has = refl; entryCounts = λ k. refl; entries = λ k i. refl; dropped = λ k. refl })
 
   unstopped-if : (s : Bool) → s ≡ false → Unswitched x (stoppedIf s)
   unstopped-if s e = subst (λ (b : Bool). Unswitched x (stoppedIf b)) (sym e) (record { mode = refl; started = refl; has = refl; odts = λ k. refl })
@@ -418,13 +418,13 @@ module _ (p : List ℕ) (c : Session) (cal meas : List ℕ) where
   all-stop : byte p 1 ≡ 0 → Synchs StopAll
   unfolding stepIn writes replyIn
   all-stop m = record {
-    stopsAll = λ _ l. record { mode = refl; started = refl; has = refl; counts = λ k. refl; entries = λ k e. refl; dropped = λ k. refl };
+    stopsAll = λ _ l. record { mode = refl; started = refl; has = refl; entryCounts = λ k. refl; entries = λ k e. refl; dropped = λ k. refl };
     starts = λ e. absurd (omega arith);
     keeps = λ e. absurd (omega arith);
     stops = λ e. absurd (omega arith);
     others = λ n. absurd (n m);
     running = λ _ e. absurd (omega arith);
-    restingAll = λ _ l. runs-off (c .list l) (stopIt (c .list l)) (c .opened) (record { mode = refl; started = refl; has = refl; counts = λ k. refl; entries = λ k e. refl; dropped = λ k. refl });
+    restingAll = λ _ l. runs-off (c .list l) (stopIt (c .list l)) (c .opened) (record { mode = refl; started = refl; has = refl; entryCounts = λ k. refl; entries = λ k e. refl; dropped = λ k. refl });
     resting = λ e. absurd (omega arith);
     deselected = λ l. refl;
     rest = but-lists c (λ l. stopIt (c .list l));

@@ -40,12 +40,12 @@ module _ (p : List ℕ) (c : Session) (cal meas : List ℕ) where
   Keeps d = SettingsKept c (stepIn d c)
 
   as-was : SettingsKept c c
-  as-was = record { pointer = refl; freed = refl; lists = refl; modes = λ l. refl; selected = λ l. refl; started = λ l. refl; odts = λ l. refl; counts = λ l o. refl; entries = λ l o e. refl }
+  as-was = record { pointer = refl; freed = refl; lists = refl; modes = λ l. refl; selected = λ l. refl; started = λ l. refl; odts = λ l. refl; entryCounts = λ l o. refl; entries = λ l o e. refl }
 
   -- generator, wrong keys, locks, seed and MTA are no settings of the lists
   other-parts : {g n : ℕ} {o : Bool} {u : Resource → Bool} {s : Seed} {m : Mta}
       → SettingsKept c (record { generator = g; wrongKeys = n; opened = o; unlocked = u; seed = s; mta = m; pointer = c .pointer; freed = c .freed; lists = c .lists; round = c .round; list = c .list })
-  other-parts = record { pointer = refl; freed = refl; lists = refl; modes = λ l. refl; selected = λ l. refl; started = λ l. refl; odts = λ l. refl; counts = λ l o. refl; entries = λ l o e. refl }
+  other-parts = record { pointer = refl; freed = refl; lists = refl; modes = λ l. refl; selected = λ l. refl; started = λ l. refl; odts = λ l. refl; entryCounts = λ l o. refl; entries = λ l o e. refl }
 
   -- ---- every command but three
   module _ (locked : c .unlocked Lists ≡ false) (nc nm : ℕ) (ff : eqb (byte p 0) 0xFF ≡ false) (fe : eqb (byte p 0) 0xFE ≡ false) (f7 : eqb (byte p 0) 0xF7 ≡ false) where

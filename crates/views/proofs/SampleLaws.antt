@@ -16,7 +16,7 @@ use Rattle.model.specs.Model.{byte, Entry, Odt, DaqList}
 use Rattle.model.specs.Calls.{blockIn, blocksIn, leadOf, contentsIn, sampled}
 use Rattle.model.proofs.Bounded.{either}
 use Rattle.views.specs.Commands.{memoryOf}
-use Rattle.views.specs.Samples.{leadSize, sizesBefore, ReadAs, Captured, Samples}
+use Rattle.views.specs.Samples.{leadSize, sizesBefore, ReadAs, Captured, CapturedList}
 use Rattle.views.proofs.MemoryLaws.{memory-is}
 
 -- ---- one address, and the block from it
@@ -109,5 +109,5 @@ contents-from o clock cal meas y =
     }
 
 -- ---- a list sampled
-pub samples-from : (clock : ℕ) (cal meas : List ℕ) (x : DaqList) → Samples clock cal meas x (sampled clock cal meas x)
+pub samples-from : (clock : ℕ) (cal meas : List ℕ) (x : DaqList) → CapturedList clock cal meas x (sampled clock cal meas x)
 samples-from clock cal meas x o h = subst (Captured o clock cal meas (x .odt o)) (sym (rw (lt-ltb o (x .odts) h))) (contents-from o clock cal meas (x .odt o))

@@ -46,6 +46,6 @@ module _ {s t : List ℕ} (w : Same sessionAt (sampleAt 0) s t) where
     selected = λ l. of-list (λ x. x .selected) l (λ h. flag-reads (selectedAt l) (same-part (omega arith) (omega arith) w));
     started = λ l. of-list (λ x. x .started) l (λ h. flag-reads (runningAt l) (same-part (omega arith) (omega arith) w));
     odts = λ l. of-list (λ x. x .odts) l (λ h. odtCount-reads stays l h);
-    counts = λ l o. of-list (λ x. x .odt o .entries) l (of-odt (λ y. y .entries) l o (entryCount-reads stays));
+    entryCounts = λ l o. of-list (λ x. x .odt o .entries) l (of-odt (λ y. y .entries) l o (entryCount-reads stays));
     entries = λ l o e. of-list (λ x. x .odt o .entry e) l (of-odt (λ y. y .entry e) l o (of-entry e));
   }

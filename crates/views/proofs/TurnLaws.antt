@@ -110,7 +110,7 @@ module _ (v : Slave) where
 
   next-list : (i o : ℕ) → i < c .lists → ((j : ℕ) → j < i → NoPacket c ((c .round + j) % c .lists)) → NextPacket c ((c .round + i) % c .lists) o
       → NextList v ((c .round + i) % c .lists) o
-  next-list i o h f p = record { on = i; few = h; round = refl; passed = f; packet = p }
+  next-list i o h f p = record { on = i; few = h; round = refl; onTheWay = f; packet = p }
 
   -- an answer waits, and the last frame was one: a list's packet, or else the answer
   or-answer : hasAnswer v ≡ true → v .lastAnswer ≡ true → (t : Turn) → Found c (c .round) (c .lists) t → Goes v (orElse t Answer)
@@ -159,7 +159,7 @@ module _ (v : Slave) (l o : ℕ) where
     gone = ap (λ (y : Odt). y .store) its-odt;
     last = refl;
     round = list-after (v .session .lists) l h;
-    counts = ap (λ (y : Odt). y .entries) its-odt;
+    entryCounts = ap (λ (y : Odt). y .entries) its-odt;
     entries = λ e. ap (λ (y : Odt). y .entry e) its-odt;
     otherOdts = λ k n. ap (λ (x : DaqList). x .odt k) itself ∙ put-there o (emptied (v .session .list l .odt o)) (v .session .list l .odt) k n;
     mode = ap (λ (x : DaqList). x .mode) itself;

@@ -238,7 +238,7 @@ pub record CLEAR-DAQ-LIST (p : List ℕ) (c : Session) (cal meas : List ℕ) (o 
   pub selected : o .session .list (two p 2) .selected ≡ false
   pub stopped : o .session .list (two p 2) .started ≡ false
   pub odts : o .session .list (two p 2) .odts ≡ c .list (two p 2) .odts
-  pub counts : (k : ℕ) → o .session .list (two p 2) .odt k .entries ≡ c .list (two p 2) .odt k .entries
+  pub entryCounts : (k : ℕ) → o .session .list (two p 2) .odt k .entries ≡ c .list (two p 2) .odt k .entries
   pub others : (l : ℕ) → l ≢ two p 2 → o .session .list l ≡ c .list l
   pub rest : AllBut TheLists c (o .session)
   pub memory : o .memory ≡ cal
@@ -270,7 +270,7 @@ pub record WRITE-DAQ (p : List ℕ) (c : Session) (cal meas : List ℕ) (o : Don
   pub stopped : o .session .list list .started ≡ false
   pub started : (l : ℕ) → l ≢ list → o .session .list l .started ≡ c .list l .started
   pub odts : (l : ℕ) → o .session .list l .odts ≡ c .list l .odts
-  pub counts : (l k : ℕ) → o .session .list l .odt k .entries ≡ c .list l .odt k .entries
+  pub entryCounts : (l k : ℕ) → o .session .list l .odt k .entries ≡ c .list l .odt k .entries
   pub samples : (l k : ℕ) → o .session .list l .odt k .store ≡ c .list l .odt k .store
   pub next : entry + 1 ≢ c .list list .odt odt .entries → o .session .pointer ≡ Points list odt (entry + 1)
   pub last : entry + 1 ≡ c .list list .odt odt .entries → o .session .pointer ≡ NoEntry
@@ -297,7 +297,7 @@ pub record Switched (on : Bool) (x y : DaqList) : Type 0 where
   pub mode : y .mode ≡ x .mode
   pub started : y .started ≡ on
   pub has : y .odts ≡ x .odts
-  pub counts : (k : ℕ) → y .odt k .entries ≡ x .odt k .entries
+  pub entryCounts : (k : ℕ) → y .odt k .entries ≡ x .odt k .entries
   pub entries : (k e : ℕ) → y .odt k .entry e ≡ x .odt k .entry e
   pub dropped : (k : ℕ) → y .odt k .store ≡ []
 

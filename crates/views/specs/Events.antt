@@ -12,7 +12,7 @@ use Rattle.model.specs.Model.{DaqList, Session}
 use Rattle.views.specs.Words.{any, total, running}
 use Rattle.views.specs.Commands.{TheLists, AllBut}
 use Rattle.views.specs.Locked.{SettingsKept}
-use Rattle.views.specs.Samples.{Samples}
+use Rattle.views.specs.Samples.{CapturedList}
 
 -- list l is there, it runs, and its mode names that event
 abbrev pub onEvent : Session → ℕ → ℕ → Bool
@@ -35,7 +35,7 @@ howManyOf c test = total (c .lists) (λ l. cond (test l) 1 0)
 -- an event that is 0 or 1, in session c, tells e and leaves d
 pub record EventLeaves (number clock : ℕ) (cal meas : List ℕ) (c d : Session) (e : Evented) : Type 0 where
   pub told : e ≡ Done (howManyOf c (takesSample c number)) (howManyOf c (missesSample c number))
-  pub taken : (l : ℕ) → takesSample c number l ≡ true → Samples clock cal meas (c .list l) (d .list l)
+  pub taken : (l : ℕ) → takesSample c number l ≡ true → CapturedList clock cal meas (c .list l) (d .list l)
   pub old : (l : ℕ) → takesSample c number l ≡ false → d .list l ≡ c .list l
   pub settings : SettingsKept c d
   pub rest : AllBut TheLists c d

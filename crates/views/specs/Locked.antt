@@ -17,7 +17,7 @@ pub record SettingsKept (c d : Session) : Type 0 where
   pub selected : (l : ℕ) → d .list l .selected ≡ c .list l .selected
   pub started : (l : ℕ) → d .list l .started ≡ c .list l .started
   pub odts : (l : ℕ) → d .list l .odts ≡ c .list l .odts
-  pub counts : (l o : ℕ) → d .list l .odt o .entries ≡ c .list l .odt o .entries
+  pub entryCounts : (l o : ℕ) → d .list l .odt o .entries ≡ c .list l .odt o .entries
   pub entries : (l o e : ℕ) → d .list l .odt o .entry e ≡ c .list l .odt o .entry e
 
 -- CONNECT or DISCONNECT that is answered FF, or UNLOCK that is answered FE 25, a wrong key

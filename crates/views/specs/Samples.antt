@@ -33,5 +33,5 @@ pub record Captured (o clock : ℕ) (cal meas : List ℕ) (y : Odt) (bs : List �
       → ReadAs (memoryOf (y .entry e .extension) cal meas) (y .entry e .address + j) (byte bs (leadSize o + sizesBefore y e + j))
 
 -- a list, which is x, sampled: z then has in store what was captured of each ODT, whose entries are x's
-abbrev pub Samples : ℕ → List ℕ → List ℕ → DaqList → DaqList → Type 0
-Samples clock cal meas x z = (o : ℕ) → o < x .odts → Captured o clock cal meas (x .odt o) (z .odt o .store)
+abbrev pub CapturedList : ℕ → List ℕ → List ℕ → DaqList → DaqList → Type 0
+CapturedList clock cal meas x z = (o : ℕ) → o < x .odts → Captured o clock cal meas (x .odt o) (z .odt o .store)

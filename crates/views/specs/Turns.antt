@@ -27,7 +27,7 @@ pub record NextList (v : Slave) (l o : ℕ) : Type 0 where
   pub on : ℕ
   pub few : on < v .session .lists
   pub round : l ≡ (v .session .round + on) % v .session .lists
-  pub passed : (i : ℕ) → i < on → NoPacket (v .session) ((v .session .round + i) % v .session .lists)
+  pub onTheWay : (i : ℕ) → i < on → NoPacket (v .session) ((v .session .round + i) % v .session .lists)
   pub packet : NextPacket (v .session) l o
 
 abbrev pub NoList : Slave → Type 0
@@ -60,7 +60,7 @@ pub record PacketLeft (v w : Slave) (l o : ℕ) : Type 0 where
   pub gone : w .session .list l .odt o .store ≡ []
   pub last : w .lastAnswer ≡ false
   pub round : w .session .round ≡ (l + 1) % v .session .lists
-  pub counts : w .session .list l .odt o .entries ≡ v .session .list l .odt o .entries
+  pub entryCounts : w .session .list l .odt o .entries ≡ v .session .list l .odt o .entries
   pub entries : (e : ℕ) → w .session .list l .odt o .entry e ≡ v .session .list l .odt o .entry e
   pub otherOdts : (k : ℕ) → k ≢ o → w .session .list l .odt k ≡ v .session .list l .odt k
   pub mode : w .session .list l .mode ≡ v .session .list l .mode
