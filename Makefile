@@ -2,11 +2,11 @@
 
 help:
 	@echo 'make run             the slave at work: a controller with it inside, and a tool at its line'
-	@echo 'make controller      an archive for a controller: CPU=cortex-m4 (or cortex-m0, riscv32) OPT=-Os UNALIGNED=yes'
+	@echo 'make controller      an archive for a controller: CPU=cortex-m4 (or -m0, -m0+, -m3, -m7, -m33; riscv32) OPT=-Os UNALIGNED=yes'
 	@echo 'make run-controller  the same work by a Cortex-M4, in an emulator'
 	@echo 'make bench           times beside a plain slave in Rust, sizes, stack; instructions on a Cortex-M4'
 	@echo 'make test            the gate: layout, proofs, must-fail edits, programs, host tests'
-	@echo 'make install         header, archive and a pkg-config file: PREFIX=/usr/local, and CPU= for a controller'
+	@echo 'make install         header, archive and a pkg-config file: PREFIX=/usr/local; with CPU= for a controller, beside others'
 	@echo 'make clean           removes all that was built, the proofs too'
 
 # In all of these what is unchanged is not proved again, and proofs in work are named on standard error.
@@ -14,7 +14,7 @@ run:
 	@tools/setup run >&2
 	@tools/run
 
-# CPU, TARGET, FLAGS, OPT and UNALIGNED go to tools/controller as they are given: it says what they mean.
+# CPU, TARGET, FLAGS, OPT and UNALIGNED go on as they are given: tools/processor.sh says what they mean.
 controller:
 	@tools/setup controller >&2
 	@tools/controller

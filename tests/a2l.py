@@ -4,6 +4,8 @@ import re
 import subprocess
 import sys
 
+from a2ml import Grammar, Reading, Unfit, without_comments
+
 SYNC, ESC = 0x9A, 0x9B
 # What opens both locks after the replay program's start number, 1.
 OPENING = ["FF 00", "F8 00 01", "F7 04 00 7F F0 04", "F8 00 04", "F7 04 04 01 E0 08"]
@@ -14,7 +16,6 @@ CODES = {
     "SET_DAQ_LIST_MODE": 0xE0, "START_STOP_DAQ_LIST": 0xDE, "START_STOP_SYNCH": 0xDD, "GET_DAQ_PROCESSOR_INFO": 0xDA,
     "GET_DAQ_RESOLUTION_INFO": 0xD9, "FREE_DAQ": 0xD6, "ALLOC_DAQ": 0xD5, "ALLOC_ODT": 0xD4, "ALLOC_ODT_ENTRY": 0xD3,
 }
-SIZES = {"SIZE_BYTE": 1, "SIZE_WORD": 2, "SIZE_DWORD": 4}
 TYPES = {"UBYTE": 1, "UWORD": 2, "ULONG": 4}
 # How examples/host.c says where what lies: name, place, memory, how often if in rows, size, meaning.
 PLACE = r"\b([A-Z]+) = (0x[0-9A-Fa-f]+),?\s*/\* (\w+): ((?:\d+ times )*)(one|two|four) bytes?, (.*?) \*/"
@@ -50,8 +51,12 @@ def value(word):
     return int(word, 0) if re.fullmatch(r"-?(0x[0-9A-Fa-f]+|\d+)", word) else word
 
 
+def words_of(text):
+    return re.findall(r'"[^"]*"|[^\s"]+', without_comments(text))
+
+
 def parsed(text):
-    words = re.findall(r'"[^"]*"|[^\s"]+', re.sub(r"/\*.*?\*/", " ", text, flags=re.S))
+    words = words_of(text)
     stack = [(None, Block())]
     while words:
         word = words.pop(0)
@@ -66,6 +71,35 @@ def parsed(text):
             stack[-1][1].words.append(word)
     (_, whole), = stack
     return whole
+
+
+def fits(grammar, words):
+    """What is wrong with an IF_DATA block, by the grammar; nothing if it fits."""
+    try:
+        Reading(grammar, words)
+    except Unfit as why:
+        return str(why)
+    return ""
+
+
+def by_grammar(c, text):
+    """Every IF_DATA block fits the file's A2ML, and no longer with any one word of it changed; the numbers of what they name."""
+    blocks = re.findall(r"/begin IF_DATA\b(.*?)/end IF_DATA\b", without_comments(text), re.S)
+    chosen = {}
+    try:
+        grammar = Grammar(re.search(r"/begin A2ML\b(.*?)/end A2ML\b", text, re.S)[1])
+    except Unfit as why:
+        c.same("the A2ML", str(why), "")
+        return chosen
+    c.same("IF_DATA blocks: of the module, its segment and each measurement", len(blocks), 2 + text.count("/begin MEASUREMENT"))
+    for words in map(words_of, blocks):
+        c.same(f"IF_DATA {' '.join(words[:3])}", fits(grammar, words), "")
+        chosen.update(Reading(grammar, words).chosen if not fits(grammar, words) else {})
+        for at, word in enumerate(words):
+            changed = words[:at] + ["NONSENSE"] + words[at + 1 :]
+            c.same(f"IF_DATA {' '.join(words[:3])} with another word than {word} is refused", bool(fits(grammar, changed)), True)
+        c.same(f"IF_DATA {' '.join(words[:3])} cut short is refused", bool(fits(grammar, words[:-1])), True)
+    return chosen
 
 
 def record(kind, body=b""):
@@ -116,6 +150,22 @@ def protocol(c, module):
         c.same(f"command {code:02X}", code in listed | MANDATORY, answer[:2] != b"\xfe\x20")
 
 
+def numbers(c, chosen):
+    """The numbers that the A2ML gives to the words that stand in the blocks, each as the slave says or means it."""
+    processor, resolution, _, summed, connected = asked(
+        "DA", "D9", "F6 00 00 00 00 00 00 00", "F3 00 00 00 10 00 00 00", "FF 00")
+    properties, key, granularity, stamp, sum_type, mode = processor[1], processor[7], resolution[1], resolution[5], summed[1], connected[2]
+    told = {
+        **CODES, "BYTE_ORDER_MSB_LAST": mode & 1, "ADDRESS_GRANULARITY_BYTE": 1 << (mode >> 1 & 3), "DYNAMIC": properties & 1,
+        "NO_OVERLOAD_INDICATION": properties >> 6, "OPTIMISATION_TYPE_DEFAULT": key & 15, "ADDRESS_EXTENSION_FREE": key >> 4 & 3,
+        "IDENTIFICATION_FIELD_TYPE_ABSOLUTE": key >> 6, "GRANULARITY_ODT_ENTRY_SIZE_DAQ_BYTE": granularity,
+        "SIZE_WORD": stamp & 7, "UNIT_1MS": stamp >> 4, "XCP_ADD_12": sum_type,
+    }
+    # Of the others no answer tells: an event's direction, and what is common practice of the serial line.
+    untold = {"DAQ": 1, "PARITY_NONE": 0, "ONE_STOP_BIT": 1, "HEADER_LEN_CTR_BYTE": 1, "CHECKSUM_BYTE": 1}
+    c.same("numbers of the A2ML", dict(sorted(chosen.items())), dict(sorted({**told, **untold}.items())))
+
+
 def wrong_keys(c, text):
     """How many of them the comment beside the keys lets pass, and what GET_SEED is answered then."""
     most, code = re.search(r"After (\w+)[\s*]+wrong keys GET_SEED is refused with (0x\w\w)", text).groups()
@@ -144,8 +194,7 @@ def lists(c, daq):
     described = daq.one("TIMESTAMP_SUPPORTED").values()
     c.same("timestamps", bool(described), bool(properties & 0x10))
     c.same("tick", described[0], ticks)
-    c.same("bytes of a timestamp", SIZES[described[1]], stamp & 7)
-    c.same("unit of a timestamp", described[2] == "UNIT_1MS", stamp >> 4 == 6)
+    c.same("bytes and unit of a timestamp", described[1:3], ["SIZE_WORD", "UNIT_1MS"])
     c.same("timestamp fixed", "TIMESTAMP_FIXED" in described, bool(stamp & 8))
     c.same("lists described, as many as there are at first", len(daq.all("DAQ_LIST")), lists_low + 256 * lists_high)
     for one in daq.all("EVENT"):
@@ -299,6 +348,7 @@ def example(c, module):
 def main():
     c = Checks()
     text = open("docs/controller.a2l").read()
+    numbers(c, by_grammar(c, text))
     module = parsed(text).one("PROJECT", "MODULE")
     protocol(c, module)
     wrong_keys(c, text)

@@ -2,19 +2,29 @@
 Arguments: how to run compare/driver.c, the slave at the end of a pipe."""
 import pathlib
 import re
-import subprocess
 import sys
 
+from driver import ROOM, SYNC, Slave, escaped, frame, little, plain
+
 PAGE = "docs/COMMANDS.md"
-SYNC = 0x9A
-MEMORY, ROOM = 4096, 135
-START = 1  # the start number that the page's situations have
 HEX = {"mode", "extension", "length", "resource", "bit offset"}  # fields whose values the page has in hex; others are decimal
 RESOURCES = {"calibration": 0x01, "lists": 0x04}
 COUNTS = ["no", "one", "two", "three", "four", "five", "six"]
 SHUT, NO_SEED = b"\xfe\x25", b"\xfe\x29"
 SHOWING = ("F5", "F4", "FD", "E2", "DE", "DA")  # commands that show what another one has done
 COUNTING = ("D5", "D4", "D3")  # commands whose last number is a count, and no list, ODT or entry
+# Of the standard: the commands that are not optional, and the names of the error codes.
+MANDATORY = {
+    "FF": "CONNECT", "FE": "DISCONNECT", "FD": "GET_STATUS", "FC": "SYNCH", "F0": "DOWNLOAD", "EB": "SET_CAL_PAGE",
+    "EA": "GET_CAL_PAGE", "E3": "CLEAR_DAQ_LIST", "E2": "SET_DAQ_PTR", "E1": "WRITE_DAQ", "E0": "SET_DAQ_LIST_MODE",
+    "DF": "GET_DAQ_LIST_MODE", "DE": "START_STOP_DAQ_LIST", "DD": "START_STOP_SYNCH", "D2": "PROGRAM_START",
+    "D1": "PROGRAM_CLEAR", "D0": "PROGRAM", "CF": "PROGRAM_RESET",
+}
+ERRORS = {
+    "00": "ERR_CMD_SYNCH", "11": "ERR_DAQ_ACTIVE", "20": "ERR_CMD_UNKNOWN", "21": "ERR_CMD_SYNTAX", "22": "ERR_OUT_OF_RANGE",
+    "23": "ERR_WRITE_PROTECTED", "24": "ERR_ACCESS_DENIED", "25": "ERR_ACCESS_LOCKED", "29": "ERR_SEQUENCE",
+    "2A": "ERR_DAQ_CONFIG", "30": "ERR_MEMORY_OVERFLOW",
+}
 
 
 # The page.
@@ -41,10 +51,13 @@ class Page:
             elif not line.startswith("|"):
                 self.prose[heading] = self.prose.get(heading, "") + line + " "
 
-    def table(self, heading, first):
+    def table(self, heading, first, which=0, of=1):
+        """The table of that heading and first column, where there are so many of these."""
         self.used.add((heading, first))
-        (rows,) = self.tables[heading, first]
-        return rows
+        tables = self.tables[heading, first]
+        if len(tables) != of:
+            sys.exit(f"{PAGE}: under {heading} are {len(tables)} tables that begin with {first}, and not {of}\n0 passed, 1 failed")
+        return tables[which]
 
     def commands(self):
         return [heading for heading, first in self.tables if first == "Check"]
@@ -83,77 +96,7 @@ def leading(cell):
     return bytes.fromhex(re.match(r"((?:[0-9A-F]{2} ?)*)", spelled(cell)).group(1))
 
 
-# The slave.
-
-def little(number, size):
-    return number.to_bytes(size, "little")
-
-
-def escaped(message):
-    return message.replace(b"\x9b", b"\x9b\x00").replace(b"\x9a", b"\x9b\x01")
-
-
-def plain(wire):
-    return wire.replace(b"\x9b\x01", b"\x9a").replace(b"\x9b\x00", b"\x9b")
-
-
-def frame(packet):
-    message = bytes([len(packet), 0]) + packet
-    return bytes([SYNC]) + escaped(message + bytes([sum(message) % 256]))
-
-
-class Slave:
-    def __init__(self, words):
-        self.end = subprocess.Popen(words, stdin=subprocess.PIPE, stdout=subprocess.PIPE)
-        self.state = int.from_bytes(self.end.stdout.read(4), "little")
-
-    def lent(self, kind, state=None):
-        return bytes([kind]) + little(self.state if state is None else state, 2) + little(MEMORY, 2) * 2
-
-    def power_up(self, start=START, state=None):
-        return self.lent(0, state) + little(start, 4)
-
-    def bytes(self, wire, state=None):
-        return b"".join(self.lent(1, state) + bytes([byte]) for byte in wire)
-
-    def event(self, number, clock=0, state=None):
-        return self.lent(2, state) + little(number, 4) + little(clock, 2)
-
-    def slot(self, room=ROOM, state=None):
-        return self.lent(3, state) + bytes([room])
-
-    def measured(self, place, values):
-        return self.lent(4) + little(place, 2) + bytes([len(values)]) + values
-
-    def exchanges(self, commands):
-        """Each command, and a slot for its answer."""
-        return b"".join(self.bytes(frame(bytes.fromhex(command))) + self.slot() for command in commands)
-
-    def run(self, script):
-        """What each call returned, and the frame of those that wrote one."""
-        self.end.stdin.write(little(len(script), 4) + script)
-        self.end.stdin.flush()
-        reply = self.end.stdout.read(int.from_bytes(self.end.stdout.read(4), "little"))
-        calls, at = [], 0
-        while at < len(reply):
-            returned, wrote = int.from_bytes(reply[at : at + 4], "little"), reply[at + 5]
-            calls.append((returned >> 16, reply[at + 6 : at + 6 + wrote][: returned & 0xFFFF]))
-            at += 6 + wrote
-            for _ in range(2):
-                at += 4 + int.from_bytes(reply[at + 2 : at + 4], "little")
-        return calls
-
-    def asked(self, commands, start=START):
-        """The answer to each command, from a power-up on; None where there was none."""
-        calls = self.run(self.power_up(start) + self.exchanges(commands))
-        answers, at = [], 1
-        for command in commands:
-            at += len(frame(bytes.fromhex(command)))
-            sent = calls[at][1]
-            answers.append(plain(sent[1:])[2:-1] if sent else None)
-            at += 1
-        return answers
-
+# Its locks.
 
 def key(seed, addend):
     x = (seed + addend) % 2**32
@@ -243,7 +186,7 @@ def bad_bytes(c, page, slave):
 def lengths(c, page, slave):
     """How long packets are, each time that it is said, and so how many bytes an ODT can send."""
     most = int(re.search(r"A packet, 1 to (\d+) bytes", page.prose["The wire"])[1])
-    connect = next(row["Answer"] for row in page.table("All commands", "Code") if row["Command"] == "CONNECT")
+    connect = next(row["Answer"] for row in page.table("All commands", "Code", 0, 2) if row["Command"] == "CONNECT")
     c.same("packets of CONNECT's answer, in words", int(re.search(r"packets of up to (\d+) bytes", connect)[1]), most)
     answer = slave.asked(["FF 00"])[-1]
     c.same("packets of CONNECT's answer", [most, most], [answer[3], int.from_bytes(answer[4:6], "little")])
@@ -270,7 +213,7 @@ def sizes(cell):
 
 
 def all_commands(c, page, slave, opened, resource_of):
-    rows = page.table("All commands", "Code")
+    rows = page.table("All commands", "Code", 0, 2)
     known = {int(row["Code"], 16) for row in rows}
     for code in range(256):
         answer = slave.asked(opened + [f"{code:02X} 00 00 00 00 00 00 00"])[-1]
@@ -300,6 +243,49 @@ def all_commands(c, page, slave, opened, resource_of):
             c.same(f"whole answer of {name}", leading(row["Answer"]), leading(goods[0])[: len(leading(row["Answer"]))])
 
 
+def not_there(c, page, slave, opened):
+    """The mandatory codes that are answered as unknown, and no other one."""
+    known = {row["Code"]: row["Command"] for row in page.table("All commands", "Code", 0, 2)}
+    rows = page.table("All commands", "Code", 1, 2)
+    c.same("mandatory commands that are not there", {row["Code"]: row["Command"] for row in rows},
+           {code: name for code, name in MANDATORY.items() if code not in known})
+    there = [name for code, name in MANDATORY.items() if code in known]
+    prose = page.prose["All commands"].partition("The other mandatory ones are there:")[2].partition(". ")[0]
+    c.same("mandatory commands that are there, in words", re.findall(r"[A-Z_]{5,}", prose), there)
+    c.same("their names in the table", [known[code] for code in MANDATORY if code in known], there)
+    for code in (row["Code"] for row in rows):
+        for packet in (code, code + " 00" * 7, code + " FF" * 63):
+            c.same(f"answer to {packet}", slave.asked(opened + [packet])[-1], b"\xfe\x20")
+
+
+def no_answer(c, page, slave, situations):
+    """What a tool hears after a loss."""
+    for row in page.table("When no answer comes", "Lost"):
+        situation, _, tried = row["In, and sent"].partition(" ")
+        *before, last = commands_of(quoted(tried)[0])
+        packet = frame(bytes.fromhex(last))
+        lost = row["Lost"].partition(":")[0]
+        # What becomes of the last command; a late answer waits on.
+        fate = {"the command": b"", "its answer": slave.bytes(packet) + slave.slot(), "nothing": slave.bytes(packet),
+                "the power": slave.bytes(packet) + slave.slot() + slave.power_up()}[lost]
+        script = slave.power_up() + slave.exchanges(situations[situation] + before) + fate
+        heard = []
+        for command in commands_of(quoted(row["Then"])[0]):
+            script += slave.exchanges([command])
+            sent = slave.run(script)[-1][1]
+            heard.append(plain(sent[1:])[2:-1].hex(" ").upper() if sent else "-")
+        c.same(f"lost: {row['Lost']}", quoted(row["Heard"])[0].split("; "), heard)
+    prose = page.prose["When no answer comes"]
+    frames, longest, wait, baud = re.search(r"(\w+) frames of at most (\d+) bytes.* That is (\d+) ms at ([\d,]+) baud", prose).groups()
+    # A byte is ten bits on the line.
+    c.same("time of an answer", int(wait), round(COUNTS.index(frames) * int(longest) * 10_000 / int(baud.replace(",", ""))))
+    messages = (bytes([64, SYNC]) + bytes([SYNC] * n) + bytes([SYNC + 1] * (64 - n)) for n in range(65))
+    c.same("the longest frame", int(longest), max(1 + len(escaped(m + bytes([sum(m) % 256]))) for m in messages))
+    described = pathlib.Path("docs/controller.a2l").read_text(encoding="ascii")
+    c.same("time-outs of docs/controller.a2l, a second each", set(re.search(r"((?:\d+ ){7}) +/\* time-outs", described)[1].split()),
+           {"1000"})
+
+
 def follows(codes, order):
     """Whether the codes come in that order; two rows of one check may stand one behind the other."""
     rest = iter(order)
@@ -314,17 +300,19 @@ def arrived(name, command, answer):
 
 def sections(c, page, slave, situations):
     order = [row["Code"] for row in page.table("What can be wrong", "Code")]
+    names = {row["Code"]: row["Name"] for row in page.table("What can be wrong", "Code")}
+    c.same("names of error codes", names, ERRORS)
     for name, commands in situations.items():
         came = [arrived(name, *exchange) for exchange in zip(commands, slave.asked(commands))]
         c.same(f"situation {name}", [True] * len(commands), came)
-    shown = {"20"}
+    shown = {"20"}  # of codes that have no section
     for heading in page.commands():
         rows = page.table(heading, "Check")
         refusals = [row for row in rows if row["Answer"].startswith("FE") and not row["Check"].startswith("good")]
         # A wrong key is judged when all else is right.
         codes = [row["Answer"].split()[1] for row in refusals if "session ends" not in row["Check"]]
         c.same(f"order of {heading}'s checks", follows(codes, order), True)
-        shown.update(codes)
+        shown.update(row["Answer"].split()[1] for row in rows if row["Answer"].startswith("FE"))
         for row in rows:
             situation, _, tried = row["Shown by"].partition(" ")
             for commands in quoted(tried):
@@ -335,7 +323,7 @@ def sections(c, page, slave, situations):
             if "session ends" in row["Check"]:
                 c.same(f"{heading}, {row['Check']}", slave.asked(situations[situation] + sent + ["FD"])[-1], None)
         fewest = re.findall(r"^fewer than (\d+) bytes$", rows[0]["Check"])
-        stated = next(row["Fewest"] for row in page.table("All commands", "Code") if heading.startswith(row["Code"]))
+        stated = next(row["Fewest"] for row in page.table("All commands", "Code", 0, 2) if heading.startswith(row["Code"]))
         c.same(f"{heading}, fewest bytes", fewest or ["1"], [stated])
     c.same("codes that are shown", set(order), shown)
 
@@ -376,7 +364,7 @@ def tried(packet, place, number):
 
 def worded(c, page, slave, situations):
     """The numbers in the words of a check: a good command with just that field changed is refused, or not."""
-    for summary in page.table("All commands", "Code"):
+    for summary in page.table("All commands", "Code", 0, 2):
         heading = f"{summary['Code']} {summary['Command']}"
         rows = page.table(heading, "Check")
         goods = [(row["Shown by"].split()[0], commands_of(quoted(row["Shown by"])[0])) for row in rows if row["Check"].startswith("good")]
@@ -515,11 +503,10 @@ def words(c, page):
     """The words of the code are in it."""
     sources = [*pathlib.Path("crates").glob("*/src/*.rt"), *pathlib.Path("crates").glob("*/specs/*.antt")]
     text = " ".join(path.read_text(encoding="utf-8") for path in sources)
-    ours, standard = page.tables["Words", "Word"]
-    page.used.add(("Words", "Word"))
+    ours, standard = (page.table("Words", "Word", which, 3) for which in (0, 2))
     for row in ours:
         c.same(f"the word {row['Word']}", bool(re.search(rf"\b{row['Word']}\w*", text, re.I)), True)
-    c.same("words of XCP", {"DAQ list", "ODT", "MTA", "CTO", "DTO"} <= {row["Word"] for row in standard}, True)
+    c.same("words of XCP", {"DAQ list, list", "ODT", "MTA", "CTO", "DTO"} <= {row["Word"] for row in standard}, True)
 
 
 def main():
@@ -534,6 +521,8 @@ def main():
     situations = situations_of(page)
     opened = situations["open"]
     all_commands(c, page, slave, opened, resource_of)
+    not_there(c, page, slave, opened)
+    no_answer(c, page, slave, situations)
     sections(c, page, slave, situations)
     worded(c, page, slave, situations)
     pool = limits(c, page, slave, situations)

@@ -70,7 +70,9 @@ LINES = [
     ("a tab for a space", GOOD.replace(" ", "\t", 1), 2, "printable"),
     ("a tab before the bytes", f"P power-up\t{'01 00 00 00'}", 11, "printable"),
     ("a tab between bytes", step(">", "FF\t00"), 33, "printable"),
-    ("a carriage return", GOOD + "\r", 42, "printable"),
+    ("a carriage return that ends no line", GOOD[:20] + "\r" + GOOD[20:], 21, "printable"),
+    ("a carriage return before a line's ending", GOOD + "\r\r", 42, "printable"),
+    ("a carriage return alone before it", "\r\r", 1, "printable"),
     ("an umlaut in a name", step("P", "01 00 00 00", "f\xfcr"), 4, "printable"),
     ("a zero byte", step(">", "FF 00\0"), 36, "printable"),
     ("a step without bytes", "> CONNECT", 30, "name ends here"),
@@ -141,6 +143,8 @@ SHEETS = [
     ("a step outside a case", f"{GOOD}\n", "sheet: line 1, column 1: a step outside a case: a case begins with a title (# and a space)\n"),
     ("a step behind a case", f"{TITLE}\n{GOOD}\n\n{GOOD}\n",
      "sheet: line 4, column 1: a step outside a case: a case begins with a title (# and a space)\n"),
+    ("a carriage return at the sheet's end", f"{TITLE}\n{GOOD}\r",
+     "sheet: line 2, column 42: only printable ASCII can stand in a sheet, no tab and no carriage return\n"),
     ("65,536 bytes", f"{TITLE}\n{GOOD}\n".ljust(65536, "\n"), "sheet: it has more than 65,535 bytes and was not run\n"),
 ]
 
@@ -149,6 +153,8 @@ RIGHT = [
     ("one step", f"{TITLE}\n{GOOD}\n", "as expected: 1 case, 1 step"),
     ("no line feed at the end", f"{TITLE}\n{GOOD}", "as expected: 1 case, 1 step"),
     ("empty lines before, between and behind", f"\n{TITLE}\n{GOOD}\n{CONNECT}\n\n\n{TITLE}\n{ANSWER}\n\n\n", "as expected: 2 cases, 3 steps"),
+    ("lines that end in CR LF", f"\r\n{TITLE}\r\n{GOOD}\r\n{CONNECT}\r\n\r\n\r\n{TITLE}\r\n{ANSWER}\r\n", "as expected: 2 cases, 3 steps"),
+    ("CR LF at some lines, and none at the end", f"{TITLE}\r\n{GOOD}\n{CONNECT}\r\n\n{TITLE}\n{ANSWER}", "as expected: 2 cases, 3 steps"),
     ("an event that is refused", f"{TITLE}\n{GOOD}\n{step('E', '02 00 00 = 08')}\n", "as expected: 1 case, 2 steps"),
     ("the longest line", f"{TITLE}\n{GOOD}\n{step('W', some(ROOM) + ' = ' + some(ROOM))}\n", "as expected: 1 case, 2 steps"),
     ("the longest command", f"{TITLE}\n{GOOD}\n{step('>', some(MOST, '9A') + ' = 9A 40 00 ' + some(MOST, '9B 01') + ' C0')}\n",
@@ -187,6 +193,13 @@ def expectations(c, lines):
             c.holds(good, f"line {i + 1}, {other}", (out[-80:], told))
 
 
+def other_endings(c, stored):
+    """What is printed does not depend on how lines end."""
+    c.holds(run(stored.replace("\n", "\r\n").encode()) == run(stored.encode()), "the sheet with CR LF", "other output")
+    wrong = f"{TITLE}\n{GOOD}\n{GOOD} \n"
+    c.holds(run(wrong.replace("\n", "\r\n").encode()) == run(wrong.encode()), "a wrong line with CR LF", "other output")
+
+
 def wrong_lines(c):
     for name, line, column, words in LINES:
         out, told = run(f"{TITLE}\n{GOOD}\n{line}\n{GOOD}\n".encode("latin-1"))
@@ -220,6 +233,7 @@ def main():
     with open(sys.argv[1], encoding="ascii") as f:
         stored = f.read()
     expectations(c, stored.split("\n"))
+    other_endings(c, stored)
     statuses(c, stored)
     wrong_lines(c)
     wrong_sheets(c)

@@ -8,9 +8,11 @@
 mod built;
 mod dice;
 mod effect;
+mod lent;
 #[cfg(feature = "linked")]
 mod linked;
 mod log;
+mod packet;
 mod piped;
 mod proved;
 mod random;

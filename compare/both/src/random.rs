@@ -1,11 +1,12 @@
 //! Calls by chance: a master that mostly does well, damage, noise, a restless host.
 
-use crate::rig::Rig;
-use crate::seen::ROOMS;
-use crate::tool::{
+use crate::lent::ROOMS;
+use crate::packet::{
     alloc_entries, alloc_lists, alloc_odts, download, key, short_download, unlock_packet,
-    with_address, CALIBRATION, FOUR, LISTS,
+    with_address, CALIBRATION, LISTS,
 };
+use crate::rig::Rig;
+use crate::tool::FOUR;
 use crate::wire::{frame, ESC, FRAME, LONGEST, SYNC};
 
 /// So many turns with one pair of slaves, then others; it bounds the log of a difference.

@@ -2,10 +2,11 @@
 
 use crate::dice::Dice;
 use crate::effect::Effect;
+use crate::lent::{LENGTHS, ROOMS, WRONG_SIZES};
 use crate::log;
 use crate::proved::{first_unlike, Proved, STATE};
 use crate::reference::Reference;
-use crate::seen::{Seen, LENGTHS, ROOMS, WRONG_SIZES};
+use crate::seen::Seen;
 use crate::step::{Call, Step};
 use crate::wire;
 

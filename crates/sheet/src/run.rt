@@ -112,10 +112,11 @@ fn run_lines(
         if tool.stopped {
             return tool;
         }
-        if text.len() <= end {
+        let ending = syntax::ending(text, end);
+        if ending == 0 {
             return tool;
         }
-        at = end + 1;
+        at = end + ending;
     }
     tool
 }

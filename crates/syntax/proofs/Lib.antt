@@ -1,4 +1,5 @@
--- Laws that the functions' proofs cite, and that a step's line is used up.
+-- Laws that the functions' proofs cite, where a line ends, and that a step's line is used up.
 pub mod Lists
+pub mod Endings
 pub mod Spelled
 pub mod Used

@@ -1,12 +1,13 @@
 -- Laws of lists of bytes in capital hex, of the printable front of a line, and of its end. Assumes nothing.
-use mathlib.Core.Path.{_≡_, ap, _∙_}
+use mathlib.Core.Path.{_≡_, refl, ap, _∙_}
+use mathlib.Core.Bool.{cond}
 use mathlib.Core.List.{List, [], _∷_}
 use Prim.Native.Nat.{ℕ, zero, suc, _+_, _-_, _*_, _<_, _≤_}
 use native.Mathlib.Numerals.{add-one}
 use native.Mathlib.Omega.{arith}
 use native.Mathlib.Nat.{not-suc-le-zero}
-use lib.ListN.{length, getD, set, drop, drop-of-length-le}
-use lib.Seq.{sets, drop-cons}
+use lib.ListN.{length, getD, set, drop, length-drop, drop-of-length-le, List·getD-eq-default}
+use lib.Seq.{sets, drop-cons, drop-drop, getD-drop}
 use lib.Dec.{eqb, ltb}
 use borrow.Author.Tests.{le-leb, lt-leb, eq-eqb, ne-eqb}
 use Rattle.line.specs.Message.{room}
@@ -16,7 +17,7 @@ use Rattle.syntax.specs.declared.hex.Pair.the-variants.{Nothing, Last, M
 use Rattle.syntax.specs.declared.Step.{Step}
 use Rattle.syntax.specs.Hex.{pairAt, counted, pairsFrom, valueAt, valuesFrom}
 use Rattle.syntax.specs.Columns.{bytesAt, firstMost}
-use Rattle.syntax.specs.Form.{newline, lineLength, plainOf, dashes, firstEnd}
+use Rattle.syntax.specs.Form.{newline, carriageReturn, endingAt, lineLength, plainOf, dashes, firstEnd}
 
 -- no byte stands at k
 pub pairs-none : (s : List ℕ) (k n : ℕ) → 0 < n → pairAt s k ≡ Nothing → pairsFrom n s k ≡ 0
@@ -109,14 +110,54 @@ first-most step s n h =
     (λ _. cond-ind (λ (k : ℕ). k ≤ firstMost) (dashes step) (λ _. omega arith) (λ _. omega arith))
     (λ _. omega arith))
 
--- a line ends here, further on, or with the text
-pub line-here : (s : List ℕ) (i : ℕ) → i < length s → getD s i 0 ≡ newline → lineLength (drop i s) ≡ 0
-unfolding lineLength
-line-here s i h e = rw (drop-cons s i 0 h, eq-eqb (getD s i 0) newline e)
+-- a byte that is not 0 stands inside
+pub stands-inside : (s : List ℕ) (k c : ℕ) → getD s k 0 ≡ suc c → k < length s
+stands-inside [] k c e = absurd (omega (arith, e))
+stands-inside (b ∷ bs) zero c e = omega arith
+stands-inside (b ∷ bs) (suc k) c e = omega (arith, stands-inside bs k c e)
 
-pub line-next : (s : List ℕ) (i : ℕ) → i < length s → (getD s i 0 ≡ newline → ⊥) → lineLength (drop i s) ≡ suc (lineLength (drop (i + 1) s))
+-- the ending of a line: none with the text, one byte, two, or none
+pub ending-none : (s : List ℕ) (k : ℕ) → length s ≤ k → 0 ≡ endingAt s k
+unfolding endingAt
+ending-none s k h = rw (List·getD-eq-default s 0 h)
+
+pub ending-one : (s : List ℕ) (k : ℕ) → getD s k 0 ≡ newline → 1 ≡ endingAt s k
+unfolding endingAt
+ending-one s k e = rw (eq-eqb (getD s k 0) newline e)
+
+pub ending-two : (s : List ℕ) (k : ℕ) → getD s k 0 ≡ carriageReturn → getD s (k + 1) 0 ≡ newline → 2 ≡ endingAt s k
+unfolding endingAt
+ending-two s k e f = rw (e, f)
+
+pub ending-lone : (s : List ℕ) (k : ℕ) → getD s k 0 ≡ carriageReturn → (getD s (k + 1) 0 ≡ newline → ⊥) → 0 ≡ endingAt s k
+unfolding endingAt
+ending-lone s k e f = rw (e, ne-eqb (getD s (k + 1) 0) newline f)
+
+pub ending-other : (s : List ℕ) (k : ℕ) → (getD s k 0 ≡ newline → ⊥) → (getD s k 0 ≡ carriageReturn → ⊥) → 0 ≡ endingAt s k
+unfolding endingAt
+ending-other s k e f = rw (ne-eqb (getD s k 0) newline e, ne-eqb (getD s k 0) carriageReturn f)
+
+-- what ends a line stands at the front of the rest
+ending-front : (s : List ℕ) (i : ℕ) → endingAt (drop i s) 0 ≡ endingAt s i
+unfolding endingAt
+ending-front s i =
+    let p : i + 0 ≡ i = omega arith in
+    rw (getD-drop i s 0 0, getD-drop i s 1 0, p)
+
+-- a line ends here, further on, or with the text
+line-front : (s : List ℕ) → 0 < length s → lineLength s ≡ cond (eqb (endingAt s 0) 0) (suc (lineLength (drop 1 s))) 0
 unfolding lineLength
-line-next s i h n = rw (add-one, drop-cons s i 0 h, ne-eqb (getD s i 0) newline n)
+line-front [] h = absurd (not-suc-le-zero h)
+line-front (c ∷ cs) h = refl
+
+line-at : (s : List ℕ) (i : ℕ) → i < length s → lineLength (drop i s) ≡ cond (eqb (endingAt s i) 0) (suc (lineLength (drop (i + 1) s))) 0
+line-at s i h = line-front (drop i s) (omega (arith, length-drop i s)) ∙ rw (ending-front s i, drop-drop 1 i s)
+
+pub line-here : (s : List ℕ) (i : ℕ) → i < length s → 0 < endingAt s i → lineLength (drop i s) ≡ 0
+line-here s i h e = line-at s i h ∙ rw (ne-eqb (endingAt s i) 0 (λ z. omega (arith, e, z)))
+
+pub line-next : (s : List ℕ) (i : ℕ) → i < length s → endingAt s i ≡ 0 → lineLength (drop i s) ≡ suc (lineLength (drop (i + 1) s))
+line-next s i h e = line-at s i h ∙ rw (eq-eqb (endingAt s i) 0 e)
 
 pub line-end : (s : List ℕ) (i : ℕ) → length s ≤ i → lineLength (drop i s) ≡ 0
 unfolding lineLength

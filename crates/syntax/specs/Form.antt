@@ -21,10 +21,19 @@ use Rattle.syntax.specs.Hex.{space, valueAt, pairsFrom, valuesFrom, spel
 abbrev pub newline : ℕ
 newline = 10
 
--- how many bytes the first line has, whose end is a newline or the text's
+abbrev pub carriageReturn : ℕ
+carriageReturn = 13
+
+-- how many bytes at k end a line: a newline, or a carriage return and a newline; none where it goes on
+unfoldable pub endingAt : List ℕ → ℕ → ℕ
+endingAt s k =
+    cond (eqb (getD s k 0) newline) 1
+    (cond (eqb (getD s k 0) carriageReturn) (cond (eqb (getD s (k + 1) 0) newline) 2 0) 0)
+
+-- how many bytes the first line has, up to its ending or the text's end
 unfoldable pub lineLength : List ℕ → ℕ
 lineLength [] = 0
-lineLength (c ∷ cs) = cond (eqb c newline) 0 (suc (lineLength cs))
+lineLength (c ∷ cs) = cond (eqb (endingAt (c ∷ cs) 0) 0) (suc (lineLength cs)) 0
 
 abbrev pub bad : Fault → ℕ → Line
 bad f k = line.Bad f k

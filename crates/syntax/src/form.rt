@@ -7,7 +7,7 @@ ghost use lib.ListN.{length, drop};
 ghost use lib.Seq.{sets};
 ghost use Rattle.line.specs.Message.{room};
 ghost use Rattle.syntax.specs.Columns.{firstMost};
-ghost use Rattle.syntax.specs.Form.{lineLength, plainOf, kindOf, placedOf, resourceOf, timesOf, bytesFit, someUpTo, expectedFits, fittedOf, dashes, firstEnd, signAt, expectingOf, listsOf, stepOf, kindLine, lineOf, stepBytes, expectedBytes};
+ghost use Rattle.syntax.specs.Form.{endingAt, lineLength, plainOf, kindOf, placedOf, resourceOf, timesOf, bytesFit, someUpTo, expectedFits, fittedOf, dashes, firstEnd, signAt, expectingOf, listsOf, stepOf, kindLine, lineOf, stepBytes, expectedBytes};
 use crate::Fault;
 use crate::Line;
 use crate::Step;
@@ -31,13 +31,32 @@ enum Kind {
     Neither,
 }
 
+// How many bytes at a place end a line: a newline, or a carriage return and a newline. None where it goes on, and at the text's end.
+pub fn ending(text: &[u8], at: usize) -> usize
+    ensures { λ r. ⌜ (at ≤ length (now (text .entry)) → at + r ≤ length (now (text .entry))) × (r ≡ endingAt (now (text .entry)) at) ⌝ }
+{
+    if text.len() <= at {
+        return 0;
+    }
+    if text[at] == b'\n' {
+        return 1;
+    }
+    if text[at] == b'\r' {
+        if get(text, at + 1) == b'\n' {
+            return 2;
+        }
+        return 0;
+    }
+    0
+}
+
 // Where the line that begins at a place ends.
 pub fn line_end(text: &[u8], from: usize) -> usize
     ensures { λ r. ⌜ (from ≤ r) × (from ≤ length (now (text .entry)) → r ≤ length (now (text .entry))) × (r ≡ from + lineLength (drop from (now (text .entry)))) ⌝ }
 {
     let mut at = from;
     while at < text.len() {
-        if text[at] == b'\n' {
+        if 0 < ending(text, at) {
             return at;
         }
         at += 1;

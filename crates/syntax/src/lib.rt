@@ -7,6 +7,7 @@ pub use cases::turn_of;
 pub use form::BYTES;
 pub use form::NAME;
 pub use form::bytes;
+pub use form::ending;
 pub use form::expected;
 pub use form::line_end;
 pub use form::line_of;
@@ -23,7 +24,7 @@ pub enum Step {
 }
 
 pub enum Fault {
-    // A byte that is no printable ASCII: a tab, a carriage return.
+    // A byte that is no printable ASCII: a tab, a carriage return that ends no line.
     Sign,
     // Neither a step, nor a title, nor empty.
     Kind,

@@ -1,8 +1,8 @@
 //! Blocks at the edges of memories of every length.
 
+use crate::lent::LENGTHS;
+use crate::packet::{download, rising, short_download, with_address};
 use crate::rig::Rig;
-use crate::seen::LENGTHS;
-use crate::tool::{download, rising, short_download, with_address};
 use crate::wire::LONGEST;
 
 pub fn run(rig: &mut Rig) {

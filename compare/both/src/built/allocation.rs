@@ -2,9 +2,9 @@
 //! they leave.
 
 use super::shapes::run_lists;
+use crate::packet::{alloc_entries, alloc_lists, alloc_odts, key, rising, unlock_packet};
+use crate::packet::{CALIBRATION, LISTS};
 use crate::rig::Rig;
-use crate::tool::{alloc_entries, alloc_lists, alloc_odts, key, rising, unlock_packet};
-use crate::tool::{CALIBRATION, LISTS};
 use crate::wire::FRAME;
 
 pub fn run(rig: &mut Rig) {

@@ -1,7 +1,7 @@
 //! Every command in every situation, cut to every length, each byte at its edges, two bytes wrong at once.
 
+use crate::packet::{CALIBRATION, LISTS};
 use crate::rig::Rig;
-use crate::tool::{CALIBRATION, LISTS};
 use crate::wire::LONGEST;
 
 /// Packets that are done in an open session, those that allocate where it is their turn.

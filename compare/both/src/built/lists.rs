@@ -1,8 +1,9 @@
 //! Lists that fit and do not, samples taken and missed, the turns of slots.
 
+use crate::lent::LENGTHS;
+use crate::packet::{rising, CALIBRATION, LISTS};
 use crate::rig::Rig;
-use crate::seen::LENGTHS;
-use crate::tool::{rising, CALIBRATION, FOUR, LISTS};
+use crate::tool::FOUR;
 use crate::wire::FRAME;
 
 /// As many bytes as each ODT holds.

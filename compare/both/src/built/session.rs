@@ -1,7 +1,7 @@
 //! Sessions, seeds and keys.
 
+use crate::packet::{key, unlock_packet, CALIBRATION, LISTS};
 use crate::rig::Rig;
-use crate::tool::{key, unlock_packet, CALIBRATION, LISTS};
 
 /// Among these are the default's own number, and three whose first seeds, FFFFFFFF, FFFF2FA2 and
 /// FFFF2600, are the last and the first for which a key's addition wraps.

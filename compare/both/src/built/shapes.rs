@@ -1,8 +1,8 @@
 //! Lists of many sizes, from one long one to eight short ones: what they sample and send, how they start and
 //! stop.
 
+use crate::packet::rising;
 use crate::rig::Rig;
-use crate::tool::rising;
 use crate::wire::FRAME;
 
 pub fn run(rig: &mut Rig) {

@@ -1,7 +1,7 @@
 //! Counts at their limits, and SHORT_DOWNLOAD in each of its outcomes.
 
+use crate::packet::{download, rising, short_download, with_address, CALIBRATION};
 use crate::rig::Rig;
-use crate::tool::{download, rising, short_download, with_address, CALIBRATION};
 
 pub fn run(rig: &mut Rig) {
     reads(rig);

@@ -1,7 +1,7 @@
 //! Damage on the line: every cut, every flipped bit, escapes everywhere.
 
+use crate::packet::{download, rising, short_download};
 use crate::rig::Rig;
-use crate::tool::{download, rising, short_download};
 use crate::wire::{escaped, frame, ESC, FRAME, SYNC};
 
 /// Packets whose frames hold no escape, some, and nothing else.

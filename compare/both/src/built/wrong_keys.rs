@@ -1,7 +1,7 @@
 //! Three wrong keys since power-up, and it stays shut.
 
+use crate::packet::{unlock_packet, CALIBRATION, LISTS};
 use crate::rig::Rig;
-use crate::tool::{unlock_packet, CALIBRATION, LISTS};
 
 /// GET_SEED cut, with each mode and resource that is refused, and good; UNLOCK short of a key.
 const FORMS: [&[u8]; 14] = [

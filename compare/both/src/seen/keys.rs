@@ -1,7 +1,7 @@
 //! What a command covers by the keys before it, which count across sessions until the next power-up.
 
 use super::named;
-use crate::tool::{CALIBRATION, LISTS};
+use crate::packet::{CALIBRATION, LISTS};
 
 /// So many wrong ones, and it stays shut.
 const MOST: usize = 3;

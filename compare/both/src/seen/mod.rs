@@ -11,9 +11,9 @@ mod samples;
 mod setup;
 
 use crate::effect::Effect;
-use crate::proved::STATE;
+use crate::lent::{LENGTHS, ROOMS, WRONG_SIZES};
 use crate::step::{Call, Step};
-use crate::wire::{self, FRAME, LONGEST};
+use crate::wire::{self, LONGEST};
 use answers::Answers;
 use keys::Keys;
 use limits::Limits;
@@ -23,12 +23,8 @@ use pool::Pool;
 use samples::Samples;
 use setup::{Emptied, Setup};
 
-pub const LENGTHS: [usize; 5] = [0, 1, 4095, 4096, 5000];
-/// Room for a slot: none, what was enough while packets had 8 bytes, around what is, and more.
-pub const ROOMS: [usize; 7] = [0, 22, 23, FRAME - 1, FRAME, FRAME + 1, FRAME + 7];
 /// A LEN that is refused.
 const BAD_LENS: [u8; 4] = [0, 65, 128, 255];
-pub const WRONG_SIZES: [usize; 5] = [0, 3, 4, STATE - 1, STATE + 1];
 
 /// What a memory's length can do to a call.
 const USES: [&str; 3] = ["inside", "not inside", "sampled"];

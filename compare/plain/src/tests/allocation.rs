@@ -1,7 +1,7 @@
 //! FREE_DAQ, ALLOC_DAQ, ALLOC_ODT and ALLOC_ODT_ENTRY: each check in its order, then what is done;
 //! and the lists that they make.
 
-use super::{alloc_daq, alloc_entry, alloc_odt, bytes, hex, rising, sizes, Bench, CONNECT};
+use super::{alloc_daq, alloc_entry, alloc_odt, bytes, hex, rising, Bench, CONNECT};
 use crate::lists::Pointer;
 use crate::memory::{Extension, Mta};
 
@@ -145,80 +145,39 @@ fn d6_free_daq_leaves_all_else() {
 
 #[test]
 fn d5_alloc_daq() {
-    for done in ALL {
-        let mut bench = after(done);
-        for packet in ["D5", "D5 00", "D5 00 09"] {
-            bench.refused(packet, "FE 21");
-        }
-        if done != Done::Freed {
-            for count in [0, 1, 8, 9, 256, 65_535] {
-                bench.refused(&alloc_daq(count), "FE 29");
-            }
-            continue;
-        }
-        bench.refused(&alloc_daq(0), "FE 22");
-        for count in (9..300).chain([511, 512, 0x0800, 0xFF00, 0xFFFF]) {
-            bench.refused(&alloc_daq(count), "FE 30");
-        }
-        bench.good(&alloc_daq(8));
+    let mut bench = after(Done::Freed);
+    bench.refused("D5 00 09", "FE 21");
+    bench.refused(&alloc_daq(0), "FE 22");
+    for count in [9, 256, 65_535] {
+        bench.refused(&alloc_daq(count), "FE 30");
     }
-    for count in 1..=8 {
-        let mut bench = after(Done::Freed);
-        bench.good(&alloc_daq(count));
-        let lists = bench.slave.session.pool.lists();
-        assert_eq!(lists.len(), usize::from(count));
-        assert!(lists.iter().all(|l| l.odts().is_empty() && !l.runs()));
-        assert!(lists.iter().all(|l| l.event.is_none() && !l.selected));
-        // A list without ODTs may be pointed into by nothing, and not started.
-        for list in 0..count as u8 {
-            bench.refused(&format!("E2 00 {:02X} 00 00 00", list), "FE 22");
-            bench.mode(list, 0);
-            bench.refused(&format!("DE 01 {:02X} 00", list), "FE 2A");
-        }
-        bench.refused(&format!("E0 10 {:02X} 00 00 00 01 00", count), "FE 22");
-        bench.refused(&alloc_daq(1), "FE 29");
-    }
-}
-
-#[test]
-fn d4_alloc_odt_out_of_order() {
-    for done in ALL {
-        let mut bench = after(done);
-        for packet in ["D4", "D4 00 03", "D4 00 03 00"] {
-            bench.refused(packet, "FE 21");
-        }
-        if matches!(done, Done::Lists | Done::Odts) {
-            bench.good(&alloc_odt(0, 1));
-            // A second time, whatever else is wrong.
-            for count in [0, 1, 17, 255] {
-                bench.refused(&alloc_odt(0, count), "FE 29");
-            }
-            continue;
-        }
-        // Lists with and without ODTs, and such as are not there.
-        for list in [0, 1, 2, 3, 8, 256, 65_535] {
-            for count in [0, 1, 16, 17] {
-                bench.refused(&alloc_odt(list, count), "FE 29");
-            }
-        }
-    }
+    bench.good(&alloc_daq(8));
+    let lists = bench.slave.session.pool.lists();
+    assert_eq!(lists.len(), 8);
+    assert!(lists.iter().all(|l| l.odts().is_empty() && !l.runs()));
+    assert!(lists.iter().all(|l| l.event.is_none() && !l.selected));
+    // A list without ODTs may be pointed into by nothing, and not started.
+    bench.refused("E2 00 07 00 00 00", "FE 22");
+    bench.mode(7, 0);
+    bench.refused("DE 01 07 00", "FE 2A");
+    bench.refused("E0 10 08 00 00 00 01 00", "FE 22");
+    bench.refused(&alloc_daq(1), "FE 29");
 }
 
 #[test]
 fn d4_alloc_odt() {
     let mut bench = after(Done::Lists);
-    for list in [3, 4, 7, 8, 255, 256, 257, 0x0200, 65_535] {
-        for count in [0, 1, 16, 17, 255] {
+    bench.refused("D4 00 03 00", "FE 21");
+    for list in [3, 256] {
+        for count in [0, 1, 17] {
             bench.refused(&alloc_odt(list, count), "FE 22");
         }
     }
     bench.refused(&alloc_odt(0, 0), "FE 22");
-    for count in 17..=255 {
-        bench.refused(&alloc_odt(0, count), "FE 30");
-    }
+    bench.refused(&alloc_odt(0, 17), "FE 30");
     bench.good(&alloc_odt(1, 11));
-    // Twelve to sixteen would have been good before; 245 and more would be good modulo 256.
-    for count in 6..=255 {
+    // 6 would have been good before, and 245 would be good modulo 256.
+    for count in [6, 245, 255] {
         bench.refused(&alloc_odt(2, count), "FE 30");
     }
     bench.good(&alloc_odt(2, 5));
@@ -232,43 +191,19 @@ fn d4_alloc_odt() {
 }
 
 #[test]
-fn d3_alloc_odt_entry_out_of_order() {
-    for done in ALL {
-        let mut bench = after(done);
-        for packet in ["D3", "D3 00 03 00", "D3 00 03 00 02"] {
-            bench.refused(packet, "FE 21");
-        }
-        if matches!(done, Done::Odts | Done::Entries) {
-            bench.good(&alloc_entry(1, 0, 7));
-            // A second time, whatever else is wrong.
-            for count in [0, 1, 129, 255] {
-                bench.refused(&alloc_entry(1, 0, count), "FE 29");
-            }
-            continue;
-        }
-        for (list, odt) in [(0, 0), (1, 0), (1, 1), (1, 2), (3, 0), (256, 0)] {
-            for count in [0, 1, 128, 129] {
-                bench.refused(&alloc_entry(list, odt, count), "FE 29");
-            }
-        }
-    }
-}
-
-#[test]
 fn d3_alloc_odt_entry() {
     let mut bench = after(Done::Odts);
-    for (list, odt) in [(0, 0), (1, 2), (1, 255), (2, 0), (3, 0), (256, 0), (257, 1)] {
-        for count in [0, 1, 128, 129, 255] {
+    bench.refused("D3 00 03 00 02", "FE 21");
+    for (list, odt) in [(0, 0), (1, 2), (3, 0), (257, 1)] {
+        for count in [0, 1, 129] {
             bench.refused(&alloc_entry(list, odt, count), "FE 22");
         }
     }
     bench.refused(&alloc_entry(1, 0, 0), "FE 22");
-    for count in 129..=255 {
-        bench.refused(&alloc_entry(1, 0, count), "FE 30");
-    }
+    bench.refused(&alloc_entry(1, 0, 129), "FE 30");
     bench.good(&alloc_entry(1, 1, 100));
     // 156 and more would be good modulo 256.
-    for count in 29..=255 {
+    for count in [29, 156, 255] {
         bench.refused(&alloc_entry(1, 0, count), "FE 30");
     }
     bench.good(&alloc_entry(1, 0, 28));
@@ -533,23 +468,13 @@ fn clearing_keeps_the_allocation() {
 /// A session begins without lists, however the one before ended.
 #[test]
 fn a_session_begins_without_lists() {
-    for end in ["", CONNECT, "FE", "F7 04 00 00 00 00"] {
+    for end in [CONNECT, "FE"] {
         let mut bench = Bench::with_lists();
         bench.run(3, 0, &[1], &[1]);
         bench.event(0, 0);
         bench.packet();
-        if end.starts_with("F7") {
-            // A lock must be closed for a seed to be given; this one is closed by hand.
-            bench.slave.session.calibration_locked = true;
-            bench.ask("DE 00 03 00");
-            bench.seed(0x01);
-        }
-        if end.is_empty() {
-            bench.slave = crate::Slave::power_up(1);
-        } else {
-            bench.send(end);
-            bench.packet();
-        }
+        bench.send(end);
+        bench.packet();
         bench.ask(CONNECT);
         bench.unlock(0x04);
         bench.told("DA", "FF 11 00 00 02 00 00 00");
@@ -576,25 +501,6 @@ fn a_session_begins_without_lists() {
     }
 }
 
-/// Eight lists sample, or miss, or some of each.
-#[test]
-fn events_of_eight_lists() {
-    let mut bench = filled();
-    bench.allocate(&[[1, 1]; 8]);
-    for list in 0..8 {
-        bench.run(list, 0, &[1], &[1]);
-    }
-    assert_eq!(bench.event(0, 0), 8 * 256);
-    assert_eq!(bench.event(0, 0), 8);
-    for _ in 0..8 {
-        bench.packet();
-    }
-    for sent in 0..8 {
-        assert_eq!(bench.packet()[..2], format!("{:02X}", 2 * sent + 1));
-        assert_eq!(bench.event(0, 0), 256 + 7);
-    }
-}
-
 /// The weighing gun's one long list: sixteen packets, of which the pool's entries fill all but a few.
 #[test]
 fn one_list_of_sixteen_odts() {
@@ -617,45 +523,12 @@ fn one_list_of_sixteen_odts() {
     assert_eq!(bench.event(0, 0), 256);
 }
 
-/// Of every ODT of a list the room is judged: 61 bytes in the first, 63 in each later one.
-#[test]
-fn the_room_of_each_odt() {
-    for odt in 0..5u8 {
-        let most = if odt == 0 { 61 } else { 63 };
-        for bytes in [most, most + 1, 64] {
-            let mut bench = filled();
-            bench.allocate(&[[16; 5]]);
-            bench.mode(0, 0);
-            bench.entries(0, (odt + 1) % 5, &[1]);
-            bench.entries(0, odt, &sizes(bytes));
-            if bytes > most {
-                bench.refused("DE 01 00 00", "FE 2A");
-                bench.ask("DE 02 00 00");
-                bench.refused("DD 01", "FE 2A");
-            } else {
-                bench.starts(0, 0);
-            }
-        }
-    }
-    // 128 entries of four bytes in one ODT are more than a byte can count.
-    let mut bench = filled();
-    bench.allocate(&[[128]]);
-    bench.mode(0, 0);
-    bench.entries(0, 0, &[4; 60]);
-    bench.refused("DE 01 00 00", "FE 2A");
-    bench.good("E2 00 00 00 00 3C");
-    for _ in 60..128 {
-        bench.good("E1 FF 04 01 00 00 00 00");
-    }
-    bench.refused("DE 01 00 00", "FE 2A");
-}
-
 /// Where an answer waits at every slot, the last list of the round has its next packet leave in the
 /// 2L-th slot, and the last packet of its sample in the 2Lp-th; no list waits longer.
 #[test]
 fn packets_leave_in_time() {
-    for lists in 1..=8u8 {
-        for packets in 1..=16 / lists {
+    for lists in [1, 3, 8u8] {
+        for packets in [1, 16 / lists] {
             let mut bench = filled();
             bench.allocate(&vec![vec![1; packets.into()]; lists.into()]);
             for list in 0..lists {

@@ -123,35 +123,6 @@ fn an_answer_waits_for_a_list_only_after_an_answer() {
 }
 
 #[test]
-fn stopping_drops_unsent_packets() {
-    for stop in [
-        "DE 00 00 00",
-        "DD 00",
-        "DD 02",
-        "D6",
-        CONNECT,
-        "FE",
-        "F7 04 00 00 00 00",
-    ] {
-        let mut bench = filled();
-        bench.run(0, 0, &[1], &[1]);
-        bench.ask("DE 02 00 00");
-        if stop.starts_with("F7") {
-            // A lock must be closed for a seed to be given; this one is closed by hand.
-            bench.slave.session.calibration_locked = true;
-            bench.seed(0x01);
-        }
-        bench.event(0, 0);
-        assert_eq!(bench.send(stop), 1);
-        let mut lists = bench.slave.session.pool.lists().iter();
-        assert!(lists.all(|list| !list.has_packet()), "{}", stop);
-        assert_ne!(bench.packet(), "-");
-        assert_eq!(bench.packet(), "-", "{}", stop);
-        assert_eq!(bench.event(0, 0), 0);
-    }
-}
-
-#[test]
 fn half_a_sample_is_dropped_too() {
     let mut bench = filled();
     bench.run(0, 0, &[1], &[1]);
@@ -190,32 +161,5 @@ fn the_round_begins_anew_when_lists_are_freed() {
         }
         let expected = if freed.is_empty() { "4602" } else { "0246" };
         assert_eq!(order(&mut bench), expected, "{}", freed);
-    }
-}
-
-/// It is not the list served last that the next life of the lists begins after.
-#[test]
-fn a_round_of_fewer_lists() {
-    for lists in 1..=8u8 {
-        let mut bench = filled();
-        bench.allocate(&[[1]; 8]);
-        bench.mode(7, 0);
-        bench.entries(7, 0, &[1]);
-        bench.starts(7, 7);
-        bench.event(0, 0);
-        assert_eq!(bench.packet(), "07 00 00 01");
-        bench.allocate(&vec![[1]; lists.into()]);
-        for list in 0..lists {
-            bench.entries(list, 0, &[1]);
-            bench.mode(list, 0);
-            bench.starts(list, list);
-        }
-        for _ in 0..2 {
-            assert_eq!(bench.event(0, 0), u32::from(lists) * 256);
-            for list in 0..lists {
-                assert_eq!(bench.packet(), format!("{:02X} 00 00 01", list));
-            }
-            assert_eq!(bench.packet(), "-");
-        }
     }
 }

@@ -1,9 +1,11 @@
 //! A small test bench around the slave; packets and frames are written as hex text.
+//!
+//! Here stands what the paper answers: of each check and rule an example, and what only the inside shows. Every length,
+//! value, order and count, and calls by chance, are made to both slaves by compare/both, and not again here.
 
 mod allocation;
 mod bench_sheet;
 mod events_and_slots;
-mod random;
 mod seeds;
 mod sizes;
 mod table;

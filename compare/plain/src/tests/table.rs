@@ -39,16 +39,11 @@ fn without_a_session() {
 
 #[test]
 fn unknown_codes() {
-    let known = [
-        0xFF, 0xFE, 0xFD, 0xFC, 0xF8, 0xF7, 0xF6, 0xF5, 0xF4, 0xF3, 0xF0, 0xED, 0xE3, 0xE2, 0xE1,
-        0xE0, 0xDE, 0xDD, 0xDA, 0xD9, 0xD6, 0xD5, 0xD4, 0xD3,
-    ];
     for mut bench in [locked(), Bench::open()] {
-        for code in (0..=0xFFu8).filter(|code| !known.contains(code)) {
-            bench.refused(&hex(&[code]), "FE 20");
-            bench.refused(&hex(&[code, 0, 0, 0, 0, 0, 0, 0]), "FE 20");
-            bench.refused(&hex(&[code; 64]), "FE 20");
+        for packet in ["00", "BF", "C0", "CF", "DF", "EE 01 02", "FB"] {
+            bench.refused(packet, "FE 20");
         }
+        bench.refused(&hex(&[0xD2; 64]), "FE 20");
     }
 }
 
@@ -77,14 +72,10 @@ fn too_short() {
     ];
     for mut bench in [locked(), Bench::open()] {
         for (code, fewest) in fewest {
-            for len in 1..fewest {
-                // The bytes that are there are out of range for most commands.
-                let mut packet = vec![0xEE; len];
-                packet[0] = code;
-                bench.refused(&hex(&packet), "FE 21");
-            }
+            // The bytes that are there are out of range for most commands.
             let mut packet = vec![0xEE; fewest];
             packet[0] = code;
+            bench.refused(&hex(&packet[..fewest - 1]), "FE 21");
             let answer = bench.ask(&hex(&packet));
             assert_ne!(answer, "FE 21", "{}", hex(&packet));
             assert_ne!(answer, "FE 20", "{}", hex(&packet));
@@ -179,8 +170,8 @@ fn f8_get_seed() {
     for packet in ["F8 02 01", "F8 FF 04", "F8 02 00"] {
         bench.refused(packet, "FE 22");
     }
-    for resource in (0..=255u8).filter(|r| *r != 0x01 && *r != 0x04) {
-        bench.refused(&hex(&[0xF8, 0x00, resource]), "FE 22");
+    for packet in ["F8 00 00", "F8 00 02", "F8 00 05", "F8 00 FF"] {
+        bench.refused(packet, "FE 22");
     }
     assert_eq!(bench.ask("F8 00 01 09 09"), "FF 04 21 20 04 00");
     assert_eq!(bench.ask("F7 04 00 7F F0 04"), "FF 04");
@@ -383,15 +374,15 @@ fn ed_short_download() {
     bench.refused(&short_download(1, 0, 0, 1), "FE 25");
     bench.unlock(0x01);
     bench.refused("ED 39", "FE 21");
-    for count in (0..=255).filter(|count| !(1..=56).contains(count)) {
+    for count in [0, 57, 255] {
         bench.refused(&short_download(count, 2, 4096, 0), "FE 22");
         bench.refused(&short_download(count, 0, 0, 56), "FE 22");
     }
-    for extension in 2..=255 {
+    for extension in [2, 255] {
         bench.refused(&short_download(56, extension, 4096, 55), "FE 22");
         bench.refused(&short_download(1, extension, 0, 1), "FE 22");
     }
-    for count in 1..=56 {
+    for count in [1, 56] {
         bench.refused(&short_download(count, 1, 4096, count - 1), "FE 21");
         bench.refused(&short_download(count, 1, 4096, count), "FE 23");
         bench.refused(&short_download(count, 1, 0, 56), "FE 23");
@@ -408,8 +399,8 @@ fn ed_short_download() {
 
 #[test]
 fn ed_short_download_done() {
-    for count in 1..=56u8 {
-        for first in [0, 1, 4096 - u16::from(count)] {
+    for count in [1, 56u8] {
+        for first in [0, 4096 - u16::from(count)] {
             // Reserved is ignored, and so is data beyond the count.
             let mut bench = Bench::open();
             let packet = short_download(count, 0, first, 56).replacen(" 00 ", " AA ", 1);
@@ -685,7 +676,7 @@ fn da_and_d9_information() {
     bench.told("D9", "FF 01 04 00 00 6A 01 00");
     bench.told("DA 01 02", "FF 11 00 00 02 00 00 00");
     bench.told("D9 01 02", "FF 01 04 00 00 6A 01 00");
-    for count in 1..=8 {
+    for count in [1, 8] {
         bench.good("D6");
         bench.told("DA", "FF 11 00 00 02 00 00 00");
         bench.good(&alloc_daq(count));

@@ -36,17 +36,21 @@ run-line-requires c κs = search needs
 returns : tie.Need-returns Inv-loop μ-loop
 returns c = search needs
 
+ending-requires : tie.Need-ending-requires Inv-loop μ-loop
+ending-requires c κs = search needs
+
 returns-2 : tie.Need-returns-2 Inv-loop μ-loop
 returns-2 c = search needs
 
+-- the line ends within the sheet, and so does its ending
 add-at : tie.Need-add-at Inv-loop μ-loop
-add-at c = search needs
+add-at c = search (needs, c .before .ending .ensures .0 (c .before .before .before .before .before .before .before .before .line-end .ensures .1 (omega arith)))
 
 loop-less : tie.Need-loop-less Inv-loop μ-loop
 loop-less c = search needs
 
 loop-again : tie.Need-loop-again Inv-loop μ-loop
-loop-again c = search needs
+loop-again c = c .before .ending .ensures .0 (c .before .before .before .before .before .before .before .before .line-end .ensures .1 (omega arith))
 
 returns-3 : tie.Need-returns-3 Inv-loop μ-loop
 returns-3 c = search needs
@@ -65,6 +69,7 @@ run-lines-spec =
     part-run-line-end
     run-line-requires
     returns
+    ending-requires
     returns-2
     add-at
     loop-less

@@ -18,11 +18,11 @@ abbrev μ-loop : tie.MeasureT-loop
 loop-holds : tie.Need-loop-holds Inv-loop μ-loop
 loop-holds c = (omega arith, λ h. h, refl)
 
-shared-slice-read-if1 : tie.Need-shared-slice-read-if1 Inv-loop μ-loop
-shared-slice-read-if1 c = search needs
+ending-requires : tie.Need-ending-requires Inv-loop μ-loop
+ending-requires c κs = search needs
 
 returns : tie.Need-returns Inv-loop μ-loop
-returns c = (omega arith, c .before .before .before .loop .inv .1, omega (arith, c .before .before .before .loop .inv .2, line-here (c .before .before .before .before .args .text .now) (c .before .before .before .loop .at) (omega arith) (c .if1 .taken)))
+returns c = (omega arith, c .before .before .before .loop .inv .1, omega (arith, c .before .before .before .loop .inv .2, line-here (c .before .before .before .before .before .args .text .now) (c .before .before .before .loop .at) (omega arith) (omega (arith, c .if1 .taken, c .before .ending .ensures .1))))
 
 add-at : tie.Need-add-at Inv-loop μ-loop
 add-at c = search needs
@@ -31,10 +31,10 @@ loop-less : tie.Need-loop-less Inv-loop μ-loop
 loop-less c = search needs
 
 loop-again : tie.Need-loop-again Inv-loop μ-loop
-loop-again c = (omega arith, λ _. omega arith, omega (arith, c .before .before .before .loop .inv .2, line-next (c .before .before .before .before .args .text .now) (c .before .before .before .loop .at) (omega arith) (c .if1 .left)))
+loop-again c = (omega arith, λ _. omega arith, omega (arith, c .before .before .before .loop .inv .2, line-next (c .before .before .before .before .before .args .text .now) (c .before .before .before .loop .at) (omega arith) (omega (arith, c .if1 .left, c .before .ending .ensures .1))))
 
 returns-2 : tie.Need-returns-2 Inv-loop μ-loop
-returns-2 c = (omega arith, c .before .loop .inv .1, omega (arith, c .before .loop .inv .2, line-end (c .before .before .args .text .now) (c .before .loop .at) (omega arith)))
+returns-2 c = (omega arith, c .before .loop .inv .1, omega (arith, c .before .loop .inv .2, line-end (c .before .before .before .args .text .now) (c .before .loop .at) (omega arith)))
 
 pub line-end-spec : {M : Type 1} → statement M
 line-end-spec =
@@ -43,7 +43,7 @@ line-end-spec =
     Inv-loop
     μ-loop
     loop-holds
-    shared-slice-read-if1
+    ending-requires
     returns
     add-at
     loop-less
