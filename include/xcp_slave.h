@@ -52,7 +52,7 @@ extern "C" {
 #endif
 
 /* Of this header and the archives made with it; CHANGELOG.md says what each version changed. */
-#define XCP_SLAVE_VERSION "1.4.0"
+#define XCP_SLAVE_VERSION "1.4.1"
 
 /* The state's one size: a shorter or longer buffer is refused. */
 #define XCP_STATE_SIZE 1486
