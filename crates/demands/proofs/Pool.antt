@@ -13,13 +13,15 @@ use Rattle.words.specs.declared.Command.the-variants as command
 use Rattle.words.specs.declared.Resource.the-variants.{Lists}
 use Rattle.model.specs.declared.Deed.{Deed}
 use Rattle.model.specs.Judge.{judgeThe, judgeBy}
-use Rattle.model.specs.Model.{byte, Bytes, Odt, DaqList, Session, odtsBefore, odtsTaken, entriesOf, entriesBefore, entriesTaken, runs}
+use Rattle.model.specs.Model.{byte, Bytes, Odt, DaqList, Session, odtsTaken, entriesOf, entriesBefore, entriesTaken, runs}
 use Rattle.model.specs.Answers.{Done, replyIn}
 use Rattle.model.specs.View.{sessionOf, shown}
 use Rattle.session.specs.Receive.{receiveOf}
 use Rattle.fields.proofs.Kept.{receive-kept}
 use Rattle.views.proofs.BytesKept.{receive-bytes}
+use Rattle.views.specs.Words.{total}
 use Rattle.views.specs.Commands.{two, Way, TheLocks, HowManyLists, TheLists, FREE-DAQ, ALLOC-DAQ, ALLOC-ODT, ALLOC-ODT-ENTRY}
+use Rattle.views.proofs.FaultWords.{odts-sum, entries-sum}
 use Rattle.views.proofs.Parts.{this-or-other}
 use Rattle.views.proofs.Taken.{by-code}
 use Rattle.views.proofs.Obeys.{AsModel, obeys}
@@ -27,7 +29,7 @@ use Rattle.views.proofs.Due.{lists-done, odts-done, entries-done}
 use Rattle.demands.specs.Slave.{ours}
 use Rattle.demands.specs.Runs.{run}
 use Rattle.demands.specs.Obeyed.{Obeyed}
-use Rattle.demands.specs.Pool.{Plan, total, InPool, Allocated, In, Distinct, EachOnce, HasOdts, OdtAt, HasEntries, Request, SomeOdts, SomeEntries, Asks, asked, GoThrough, WholePool}
+use Rattle.demands.specs.Pool.{Plan, InPool, Allocated, In, Distinct, EachOnce, HasOdts, OdtAt, HasEntries, Request, SomeOdts, SomeEntries, Asks, asked, GoThrough, WholePool}
 use Rattle.demands.proofs.Reached.{run-kept, run-bytes}
 use Rattle.demands.proofs.Changes.{PoolKept}
 use Rattle.demands.proofs.Between.{run-pool}
@@ -35,34 +37,22 @@ use Rattle.demands.proofs.Obeyed.{as-model, heard-obeyed}
 
 -- ---- sums
 module _ (f g : ℕ → ℕ) where
-  total-most : (n : ℕ) → ((j : ℕ) → j < n → f j ≤ g j) → total f n ≤ total g n
-  unfolding total
+  total-most : (n : ℕ) → ((j : ℕ) → j < n → f j ≤ g j) → total n f ≤ total n g
   total-most zero h = omega arith
   total-most (suc n) h = omega (arith, total-most n (λ j p. h j (omega arith)), h n (omega arith))
 
   -- room for m more in one of them is room in all
-  total-room : (n l m : ℕ) → l < n → ((j : ℕ) → j < n → f j ≤ g j) → f l + m ≤ g l → total f n + m ≤ total g n
-  unfolding total
+  total-room : (n l m : ℕ) → l < n → ((j : ℕ) → j < n → f j ≤ g j) → f l + m ≤ g l → total n f + m ≤ total n g
   total-room zero l m p h r = absurd (omega arith)
   total-room (suc n) l m p h r =
       this-or-other l n
       (λ e. omega (arith, subst (λ (j : ℕ). f j + m ≤ g j) e r, total-most n (λ j q. h j (omega arith))))
       (λ ne. omega (arith, total-room n l m (omega arith) (λ j q. h j (omega arith)) r, h n (omega arith)))
 
-odts-total : (f : ℕ → DaqList) (n : ℕ) → odtsBefore f n ≡ total (λ l. f l .odts) n
-unfolding odtsBefore total
-odts-total f zero = refl
-odts-total f (suc n) = ap (λ (m : ℕ). m + f n .odts) (odts-total f n)
-
-entries-of : (x : DaqList) (n : ℕ) → entriesOf x n ≡ total (λ o. x .odt o .entries) n
-unfolding entriesOf total
-entries-of x zero = refl
-entries-of x (suc n) = ap (λ (m : ℕ). m + x .odt n .entries) (entries-of x n)
-
-entries-total : (f : ℕ → DaqList) (n : ℕ) → entriesBefore f n ≡ total (λ l. entriesOf (f l) (f l .odts)) n
-unfolding entriesBefore total
-entries-total f zero = refl
-entries-total f (suc n) = ap (λ (m : ℕ). m + entriesOf (f n) (f n .odts)) (entries-total f n)
+lists-sum : (f : ℕ → DaqList) (n : ℕ) → entriesBefore f n ≡ total n (λ l. entriesOf (f l) (f l .odts))
+unfolding entriesBefore
+lists-sum f zero = refl
+lists-sum f (suc n) = ap (λ (m : ℕ). m + entriesOf (f n) (f n .odts)) (lists-sum f n)
 
 no-entries-of : (x : DaqList) → ((o : ℕ) → x .odt o .entries ≡ 0) → (n : ℕ) → entriesOf x n ≡ 0
 unfolding entriesOf
@@ -189,9 +179,9 @@ module _ (w : Plan) where
     odt-room : (l : ℕ) (ls : List ℕ) (c : Session) → l < w .lists → Sizing (l ∷ ls) c → odtsTaken c + w .odts l ≤ 16
     odt-room l ls c p s =
         let most : (j : ℕ) → j < w .lists → c .list j .odts ≤ w .odts j = λ j q. ⊎-elim (λ i. omega (arith, s .due j i)) (λ e. omega arith) (s .made j q) in
-        let sum : total (λ j. c .list j .odts) (w .lists) + w .odts l ≤ total (w .odts) (w .lists) =
+        let sum : total (w .lists) (λ j. c .list j .odts) + w .odts l ≤ total (w .lists) (w .odts) =
         total-room (λ j. c .list j .odts) (w .odts) (w .lists) l (w .odts l) p most (omega (arith, s .due l (inl refl))) in
-        rw (s .out .lists, odts-total (c .list) (w .lists)) (omega (arith, sum, pool .odts))
+        rw (s .out .lists, odts-sum (c .list) (w .lists)) (omega (arith, sum, pool .odts))
 
     odt-goes : (p : List ℕ) (ls : List ℕ) (c : Session) (cal meas : List ℕ) (o : Done) → byte p 0 ≡ 0xD4 → 5 ≤ length p → byte p 4 ≡ w .odts (two p 2)
         → HasOdts w (two p 2) → (In (two p 2) ls → ⊥) → Sizing (two p 2 ∷ ls) c → R p c cal meas o → (o .answer ≡ 0xFF ∷ []) × Sizing ls (o .session)
@@ -242,17 +232,17 @@ module _ (w : Plan) where
     entry-room x xs c has s =
         let n : ℕ = w .entries (x .list) (x .odt) in
         let have : ℕ → ℕ = λ l. entriesOf (c .list l) (c .list l .odts) in
-        let want : ℕ → ℕ = λ l. total (w .entries l) (w .odts l) in
+        let want : ℕ → ℕ = λ l. total (w .odts l) (w .entries l) in
         let each : (l o : ℕ) → l < w .lists → o < w .odts l → c .list l .odt o .entries ≤ w .entries l o =
         λ l o p q. ⊎-elim (λ i. omega (arith, s .due (record { list = l; odt = o }) i)) (λ e. omega (arith, e)) (s .made l o p q) in
-        let is : (l : ℕ) → l < w .lists → have l ≡ total (λ o. c .list l .odt o .entries) (w .odts l) =
-        λ l p. entries-of (c .list l) (c .list l .odts) ∙ ap (total (λ o. c .list l .odt o .entries)) (s .odts l p) in
+        let is : (l : ℕ) → l < w .lists → have l ≡ total (w .odts l) (λ o. c .list l .odt o .entries) =
+        λ l p. entries-sum (c .list l) (c .list l .odts) ∙ ap (λ (k : ℕ). total k (λ o. c .list l .odt o .entries)) (s .odts l p) in
         let most : (l : ℕ) → l < w .lists → have l ≤ want l =
         λ l p. rw (is l p) (total-most (λ o. c .list l .odt o .entries) (w .entries l) (w .odts l) (λ o q. each l o p q)) in
         let here : have (x .list) + n ≤ want (x .list) =
         rw (is (x .list) (has .0)) (total-room (λ o. c .list (x .list) .odt o .entries) (w .entries (x .list)) (w .odts (x .list)) (x .odt) n (has .1) (λ o q. each (x .list) o (has .0) q) (omega (arith, s .due x (inl refl)))) in
-        let sum : total have (w .lists) + n ≤ total want (w .lists) = total-room have want (w .lists) (x .list) n (has .0) most here in
-        rw (s .out .lists, entries-total (c .list) (w .lists)) (omega (arith, sum, pool .entries))
+        let sum : total (w .lists) have + n ≤ total (w .lists) want = total-room have want (w .lists) (x .list) n (has .0) most here in
+        rw (s .out .lists, lists-sum (c .list) (w .lists)) (omega (arith, sum, pool .entries))
 
     entry-goes : (p : List ℕ) (xs : List OdtAt) (c : Session) (cal meas : List ℕ) (o : Done) → byte p 0 ≡ 0xD3 → 6 ≤ length p → byte p 5 ≡ w .entries (two p 2) (byte p 4)
         → HasEntries w (named p) → (In (named p) xs → ⊥) → Filling (named p ∷ xs) c → R p c cal meas o → (o .answer ≡ 0xFF ∷ []) × Filling xs (o .session)

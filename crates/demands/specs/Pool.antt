@@ -1,7 +1,7 @@
 -- The whole pool can be had: after FREE_DAQ, from any state in which lists are unlocked, every allocation of at most 8 lists, 16 ODTs and 128 entries in
 -- all goes through, in any order of the lists and of the ODTs; whatever lists there were, whether they ran, and whatever commands come between that
 -- neither allocate nor free nor start a list nor end or renew the session.
-use Prim.Native.Nat.{ℕ, zero, suc, _+_, _≤_, _<_}
+use Prim.Native.Nat.{ℕ, _+_, _≤_, _<_}
 use mathlib.Core.Path.{_≡_}
 use mathlib.Core.Logic.{_⊎_}
 use mathlib.Core.Bool.{true}
@@ -11,6 +11,7 @@ use Rattle.words.specs.declared.Resource.the-variants.{Lists}
 use Rattle.state.specs.State.{consistent}
 use Rattle.model.specs.Model.{byte, Bytes, Session}
 use Rattle.model.specs.View.{sessionOf, viewOf}
+use Rattle.views.specs.Words.{total}
 use Rattle.views.specs.Commands.{two}
 use Rattle.demands.specs.Slave.{AnySlave}
 use Rattle.demands.specs.Runs.{Call, Byte, run, LentBytes}
@@ -23,16 +24,11 @@ pub record Plan : Type 0 where
   pub odts : ℕ → ℕ
   pub entries : ℕ → ℕ → ℕ
 
--- the first n together
-unfoldable pub total : (ℕ → ℕ) → ℕ → ℕ
-total f zero = 0
-total f (suc n) = total f n + f n
-
 pub record InPool (w : Plan) : Type 0 where
   pub some : 1 ≤ w .lists
   pub lists : w .lists ≤ 8
-  pub odts : total (w .odts) (w .lists) ≤ 16
-  pub entries : total (λ l. total (w .entries l) (w .odts l)) (w .lists) ≤ 128
+  pub odts : total (w .lists) (w .odts) ≤ 16
+  pub entries : total (w .lists) (λ l. total (w .odts l) (w .entries l)) ≤ 128
 
 -- session c has just what the plan says
 pub record Allocated (w : Plan) (c : Session) : Type 0 where

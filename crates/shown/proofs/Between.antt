@@ -22,8 +22,8 @@ use Rattle.demands.specs.Between.{changesSeed, changesMta, changesPool, Without
 use Rattle.demands.specs.Waiting.{packetRead}
 use Rattle.demands.specs.Memory.{Brings}
 use Rattle.demands.specs.Keys.{keyTo}
-use Rattle.demands.specs.Pool.{Plan, total, InPool, EachOnce, HasOdts, OdtAt, HasEntries, Request, Freed, SomeLists, SomeOdts, SomeEntries, Asks, asked}
-use Rattle.shown.specs.Exchange.{asks, begun, lastByte, reached, meanwhile, connect, synch, getStatus, seedOfCalibration, seedOfLists, keyOfCalibration, mtaTo, upload, uploadFirst, pair, fetchingFirst, listable, allocLists, allocOdts, onEvent0, start, select}
+use Rattle.demands.specs.Pool.{Plan, InPool, EachOnce, HasOdts, OdtAt, HasEntries, Request, Freed, SomeLists, SomeOdts, SomeEntries, Asks, asked}
+use Rattle.shown.specs.Exchange.{asks, begun, lastByte, reached, meanwhile, connect, synch, getStatus, seedOfCalibration, seedOfLists, keyOfCalibration, mtaTo, upload, uploadFirst, pair, fetchingFirst, listable, allocLists, allocOdts, onEvent0, start, selectList}
 use Rattle.shown.proofs.Computed.{computed}
 use Rattle.shown.proofs.Never.{never, never-so}
 use Rattle.shown.proofs.Taken.{low, low-bytes}
@@ -140,7 +140,6 @@ abbrev plan : Plan
 plan = record { lists = 1; odts = λ l. 1; entries = λ l o. 128 }
 
 plan-fits : InPool plan
-unfolding total
 plan-fits = record { some = lit≤ tt; lists = lit≤ tt; odts = lit≤ tt; entries = lit≤ tt }
 
 list-once : EachOnce (HasOdts plan) (0 ∷ [])
@@ -174,11 +173,11 @@ record Asking : Type 0 where
 -- FE 2A, a selection, and GET_SEED. Reserved bytes are 55, and a byte AA lies behind each packet
 abbrev askings : List Asking
 askings =
-    record { before = select 0 ∷ []; said = (0xFE ∷ 0x22 ∷ []) ∷ []; packet = 0xD6 ∷ 0xAA ∷ []; request = Freed }
+    record { before = selectList 0 ∷ []; said = (0xFE ∷ 0x22 ∷ []) ∷ []; packet = 0xD6 ∷ 0xAA ∷ []; request = Freed }
     ∷ record { before = allocOdts 0 1 ∷ synch ∷ []; said = (0xFF ∷ []) ∷ (0xFE ∷ 0x29 ∷ []) ∷ (0xFE ∷ 0x00 ∷ []) ∷ []; packet = 0xD5 ∷ 0x55 ∷ 1 ∷ 0 ∷ 0xAA ∷ []; request = SomeLists 1 }
     ∷ record { before = allocLists 1 ∷ onEvent0 0 ∷ []; said = (0xFF ∷ []) ∷ (0xFE ∷ 0x29 ∷ []) ∷ (0xFF ∷ []) ∷ []; packet = 0xD4 ∷ 0x55 ∷ 0 ∷ 0 ∷ 1 ∷ 0xAA ∷ []; request = SomeOdts 0 1 }
     ∷ record {
-      before = start 0 ∷ select 0 ∷ seedOfCalibration ∷ [];
+      before = start 0 ∷ selectList 0 ∷ seedOfCalibration ∷ [];
       said = (0xFF ∷ []) ∷ (0xFE ∷ 0x2A ∷ []) ∷ (0xFF ∷ 0 ∷ []) ∷ (0xFF ∷ 4 ∷ 0x01 ∷ 0x06 ∷ 0x08 ∷ 0x04 ∷ []) ∷ [];
       packet = 0xD3 ∷ 0x55 ∷ 0 ∷ 0 ∷ 0 ∷ 128 ∷ 0xAA ∷ [];
       request = SomeEntries firstOdt 128;

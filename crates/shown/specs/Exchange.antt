@@ -161,8 +161,8 @@ onEvent0 l = 0xE0 ∷ 0x10 ∷ l ∷ 0 ∷ 0 ∷ 0 ∷ 1 ∷ 0 ∷ []
 abbrev pub start : ℕ → List ℕ
 start l = 0xDE ∷ 1 ∷ l ∷ 0 ∷ []
 
-abbrev pub select : ℕ → List ℕ
-select l = 0xDE ∷ 2 ∷ l ∷ 0 ∷ []
+abbrev pub selectList : ℕ → List ℕ
+selectList l = 0xDE ∷ 2 ∷ l ∷ 0 ∷ []
 
 -- two ODTs for each of n lists; a session with n such lists, and no entries yet
 abbrev pub twoOdts : ℕ → List (List ℕ)

@@ -189,8 +189,8 @@ stampsEach =
 
 -- ---- the pool
 -- a command with that code is done: it is answered FF
-abbrev pub done : ℕ → List ℕ → Step → Bool
-done code p o = cond (eqb (getD p 0 0) code) (eqb (getD (answerOf (o .state)) 0 0) 0xFF) false
+abbrev pub doneWith : ℕ → List ℕ → Step → Bool
+doneWith code p o = cond (eqb (getD p 0 0) code) (eqb (getD (answerOf (o .state)) 0 0) 0xFF) false
 
 -- how many of these entries, each of two bytes, were written
 abbrev pub writtenIn : List ℕ → ℕ
@@ -207,14 +207,14 @@ abbrev pub overfull : List ℕ → List ℕ → Bool
 overfull p s = ltb allEntries (entryTotal s + freedEntries s + getD p 5 0)
 
 abbrev pub keepsFreed : AnySlave
-keepsFreed = heeding (λ p s cal meas. cond (done 0xD3 p (heeded p s cal meas)) (cond (overfull p s) (obeyed (Refuse PoolFull) p s cal meas) (heeded p s cal meas)) (heeded p s cal meas))
+keepsFreed = heeding (λ p s cal meas. cond (doneWith 0xD3 p (heeded p s cal meas)) (cond (overfull p s) (obeyed (Refuse PoolFull) p s cal meas) (heeded p s cal meas)) (heeded p s cal meas))
 
 -- after FREE_DAQ and ALLOC_DAQ the round begins behind list 0
 abbrev pub behindFirst : Step → Step
 behindFirst o = record { received = o .received; state = set (o .state) roundAt 1; cal = o .cal }
 
 abbrev pub beginsBehind : AnySlave
-beginsBehind = heeding (λ p s cal meas. cond (done 0xD5 p (heeded p s cal meas)) (behindFirst (heeded p s cal meas)) (heeded p s cal meas))
+beginsBehind = heeding (λ p s cal meas. cond (doneWith 0xD5 p (heeded p s cal meas)) (behindFirst (heeded p s cal meas)) (heeded p s cal meas))
 
 -- ---- slips
 -- the MTA moves on by n bytes

@@ -11,7 +11,7 @@ use Rattle.words.specs.declared.Resource.the-variants.{Lists}
 use Rattle.model.specs.Model.{byte, Session, odtsTaken, entriesTaken, runsIn}
 use Rattle.model.specs.Answers.{Done}
 use Rattle.views.specs.Commands.{two, Way}
-use Rattle.views.specs.Words.{running, allOdts, allEntries}
+use Rattle.views.specs.Words.{running, odtsInAll, entriesInAll}
 use Rattle.views.specs.Faults.{table, firstFault, AnswersFirst}
 use Rattle.views.proofs.Listed.{before-next, empty-rests}
 use Rattle.views.proofs.FaultWords.{odts-total, entries-total, running-is}
@@ -56,39 +56,39 @@ module _ (p : List ℕ) (c : Session) (nc nm : ℕ) where
   odts-none : byte p 0 ≡ 0xD4 → OdtsDue p c → firstFault p c nc nm ≡ none
   unfolding firstFault table
   odts-none code d =
-      let entries : allEntries c ≡ 0 = sym (entries-total c) ∙ d .noEntries in
+      let entries : entriesInAll c ≡ 0 = sym (entries-total c) ∙ d .noEntries in
       let rests : running c (two p 2) ≡ false = sym (running-is c (two p 2)) ∙ empty-rests (c .opened) (c .list (two p 2)) (λ o h. absurd (omega (arith, d .none, h))) in
-      let room : allOdts c + byte p 4 ≤ 16 = subst (λ (n : ℕ). n + byte p 4 ≤ 16) (odts-total c) (d .room) in
+      let room : odtsInAll c + byte p 4 ≤ 16 = subst (λ (n : ℕ). n + byte p 4 ≤ 16) (odts-total c) (d .room) in
       simp (
         code,
         le-ltb (length p) 5 (d .long),
         d .unlocked,
         ne-eqb (c .lists) 0 (omega (arith, d .there)),
-        le-ltb 0 (allEntries c) (omega (arith, entries)),
+        le-ltb 0 (entriesInAll c) (omega (arith, entries)),
         le-ltb 0 (c .list (two p 2) .odts) (omega (arith, d .none)),
         lt-leb (c .lists) (two p 2) (d .there),
         ne-eqb (byte p 4) 0 (omega (arith, d .some)),
         rests,
-        le-ltb 16 (allOdts c + byte p 4) room,
+        le-ltb 16 (odtsInAll c + byte p 4) room,
       )
 
   entries-none : byte p 0 ≡ 0xD3 → EntriesDue p c → firstFault p c nc nm ≡ none
   unfolding firstFault table
   entries-none code d =
-      let some : allOdts c ≡ 0 → ⊥ = λ e. omega (arith, odts-total c, e, d .inList, before-next (c .list) (two p 2) (c .lists) (d .there)) in
+      let some : odtsInAll c ≡ 0 → ⊥ = λ e. omega (arith, odts-total c, e, d .inList, before-next (c .list) (two p 2) (c .lists) (d .there)) in
       let rests : running c (two p 2) ≡ false = sym (running-is c (two p 2)) ∙ d .still in
-      let room : allEntries c + byte p 5 ≤ 128 = subst (λ (n : ℕ). n + byte p 5 ≤ 128) (entries-total c) (d .room) in
+      let room : entriesInAll c + byte p 5 ≤ 128 = subst (λ (n : ℕ). n + byte p 5 ≤ 128) (entries-total c) (d .room) in
       simp (
         code,
         le-ltb (length p) 6 (d .long),
         d .unlocked,
-        ne-eqb (allOdts c) 0 some,
+        ne-eqb (odtsInAll c) 0 some,
         d .none,
         lt-leb (c .lists) (two p 2) (d .there),
         lt-leb (c .list (two p 2) .odts) (byte p 4) (d .inList),
         ne-eqb (byte p 5) 0 (omega (arith, d .some)),
         rests,
-        le-ltb 128 (allEntries c + byte p 5) room,
+        le-ltb 128 (entriesInAll c + byte p 5) room,
       )
 
 -- ---- by any way that does as the model does

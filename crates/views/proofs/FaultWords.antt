@@ -16,7 +16,7 @@ use Rattle.words.specs.declared.Resource.the-variants.{Calibration, Lists}
 use Rattle.model.specs.Model.{Odt, DaqList, Session, odtsBefore, odtsTaken, entriesOf, entriesBefore, entriesTaken, sizesOf, bytesIn, allBytes, eachFits, fits, runs, runsIn}
 use Rattle.model.specs.Judge.{allStartable}
 use Rattle.model.proofs.Bounded.{either}
-use Rattle.views.specs.Words.{any, total, outside, nextSeed, keyNumber, rotated, keyFor, bytesOfOdt, tooLong, unfit, running, allOdts, allEntries}
+use Rattle.views.specs.Words.{any, total, outside, nextSeed, keyNumber, rotated, keyFor, bytesOfOdt, tooLong, unfit, running, odtsInAll, entriesInAll}
 
 -- ---- tests
 pub at-most : (a b : ℕ) → leb a b ≡ not (ltb b a)
@@ -53,23 +53,25 @@ any-some zero f = refl
 any-some (suc n) f = ap (λ (x : Bool). x || ltb 0 (f n)) (any-some n f) ∙ or-sum (total n f) (f n)
 
 -- ---- the pool
-pub odts-total : (c : Session) → odtsTaken c ≡ allOdts c
+pub odts-sum : (f : ℕ → DaqList) (n : ℕ) → odtsBefore f n ≡ total n (λ l. f l .odts)
 unfolding odtsBefore
-odts-total c = go (c .lists) where
-  go : (n : ℕ) → odtsBefore (c .list) n ≡ total n (λ l. c .list l .odts)
-  go zero = refl
-  go (suc n) = ap (λ (x : ℕ). x + c .list n .odts) (go n)
+odts-sum f zero = refl
+odts-sum f (suc n) = ap (λ (x : ℕ). x + f n .odts) (odts-sum f n)
 
-pub entries-total : (c : Session) → entriesTaken c ≡ allEntries c
-unfolding entriesOf entriesBefore
+pub entries-sum : (x : DaqList) (n : ℕ) → entriesOf x n ≡ total n (λ o. x .odt o .entries)
+unfolding entriesOf
+entries-sum x zero = refl
+entries-sum x (suc n) = ap (λ (y : ℕ). y + x .odt n .entries) (entries-sum x n)
+
+pub odts-total : (c : Session) → odtsTaken c ≡ odtsInAll c
+odts-total c = odts-sum (c .list) (c .lists)
+
+pub entries-total : (c : Session) → entriesTaken c ≡ entriesInAll c
+unfolding entriesBefore
 entries-total c = go (c .lists) where
-  inOne : (x : DaqList) (n : ℕ) → entriesOf x n ≡ total n (λ o. x .odt o .entries)
-  inOne x zero = refl
-  inOne x (suc n) = ap (λ (y : ℕ). y + x .odt n .entries) (inOne x n)
-
   go : (n : ℕ) → entriesBefore (c .list) n ≡ total n (λ l. total (c .list l .odts) (λ o. c .list l .odt o .entries))
   go zero = refl
-  go (suc n) = ap₂ _+_ (go n) (inOne (c .list n) (c .list n .odts))
+  go (suc n) = ap₂ _+_ (go n) (entries-sum (c .list n) (c .list n .odts))
 
 -- ---- what can be started
 bytes-total : (y : Odt) → bytesIn y ≡ bytesOfOdt y

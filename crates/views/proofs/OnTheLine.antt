@@ -23,7 +23,7 @@ use Rattle.state.specs.Bytes.{block}
 use Rattle.model.specs.Model.{byte}
 use Rattle.model.proofs.Bounded.{either}
 use Rattle.views.specs.Commands.{sumFrom}
-use Rattle.views.specs.OnTheLine.{Comes, Quiet, Whole, Lost, underWay, lenIs, checksumIs, nextByte, inside, escaped, comesTo}
+use Rattle.views.specs.OnTheLine.{Comes, Quiet, Whole, Lost, underWay, lenIs, checksumIs, nextByte, insideOne, behindEsc, comesTo}
 use Rattle.views.proofs.FaultWords.{at-most}
 use Rattle.views.proofs.MemoryLaws.{sum-from}
 
@@ -131,10 +131,10 @@ agrees p m b fits = rw (take-long p m b fits) (go p) where
 
   go : (q : Place) → Agrees (comesTo q m b) (takeBy messages q m b)
   go Outside = outside
-  go (Inside k) = rw (under-way k m) (begun k (Inside k) (inside k m b) (λ g.
+  go (Inside k) = rw (under-way k m) (begun k (Inside k) (insideOne k m b) (λ g.
       both (eqb b 0x9A) (λ _. cut (eqb k 0))
       (λ _. both (eqb b 0x9B) (λ _. quiet) (λ _. byte-agrees m b fits k g))) (begunOf k (byte m 0)) refl)
-  go (Escaped k) = rw (under-way k m) (begun k (Escaped k) (escaped k m b) (λ g.
+  go (Escaped k) = rw (under-way k m) (begun k (Escaped k) (behindEsc k m b) (λ g.
       both (eqb b 0x9A) (λ _. cut-off)
       (λ _. both (eqb b 0x00) (λ _. byte-agrees m 0x9B fits k g)
       (λ _. both (eqb b 0x01) (λ _. byte-agrees m 0x9A fits k g) (λ _. bad-escape)))) (begunOf k (byte m 0)) refl)

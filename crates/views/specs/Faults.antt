@@ -17,9 +17,10 @@ use Rattle.words.specs.declared.Mta.the-variants.{Unset, At}
 use Rattle.words.specs.declared.Pointer.{Pointer}
 use Rattle.words.specs.declared.Pointer.the-variants.{Unset as NoEntry, At as Points}
 use Rattle.model.specs.Model.{byte, Session}
-use Rattle.views.specs.Words.{any, outside, lentTo, keyFor, unfit, running, allOdts, allEntries}
+use Rattle.views.specs.Words.{any, outside, lentTo, keyFor, unfit, running, odtsInAll, entriesInAll}
 use Rattle.views.specs.Commands.{two, four}
 
+-- ---- what the session shows
 abbrev pub mtaUnset : Mta → Bool
 mtaUnset Unset = true
 mtaUnset (At e a) = false
@@ -64,16 +65,16 @@ infix 70 _when_
 abbrev pub _when_ : ℕ → Bool → Check
 code when test = record { code = code; applies = test }
 
--- ---- each command's own checks, behind 21 for too few bytes and 25 for a lock
--- mode
+-- ---- each command's own checks, in the paper's order; before them come 21 for too few bytes and 25 for a lock
+-- FF CONNECT: mode
 abbrev pub ofConnect : List ℕ → List Check
 ofConnect p = 0x22 when not (eqb (byte p 1) 0) ∷ []
 
--- always
+-- FC SYNCH: always
 abbrev pub ofSynch : List Check
 ofSynch = 0x00 when true ∷ []
 
--- three wrong keys since power-up; mode; resource
+-- F8 GET_SEED: three wrong keys since power-up; mode; resource
 abbrev pub ofGetSeed : List ℕ → Session → List Check
 ofGetSeed p c =
     0x25 when leb 3 (c .wrongKeys)
@@ -82,7 +83,7 @@ ofGetSeed p c =
     ∷ 0x22 when not (eqb (byte p 2) 0x01 || eqb (byte p 2) 0x04)
     ∷ []
 
--- no seed; length; bytes missing; the key
+-- F7 UNLOCK: no seed; length; bytes missing; the key
 abbrev pub ofUnlock : List ℕ → Seed → ℕ → List Check
 ofUnlock p seed generator =
     0x29 when noSeedOut seed
@@ -91,11 +92,11 @@ ofUnlock p seed generator =
     ∷ 0x25 when keyWrong seed generator (four p 2)
     ∷ []
 
--- extension
+-- F6 SET_MTA: extension
 abbrev pub ofSetMta : List ℕ → List Check
 ofSetMta p = 0x22 when ltb 1 (byte p 3) ∷ []
 
--- MTA; count; block
+-- F5 UPLOAD: MTA; count; block
 abbrev pub ofUpload : List ℕ → Mta → ℕ → ℕ → List Check
 ofUpload p mta nc nm =
     0x29 when mtaUnset mta
@@ -104,7 +105,7 @@ ofUpload p mta nc nm =
     ∷ 0x24 when mtaOutside mta (byte p 1) nc nm
     ∷ []
 
--- count; extension; block
+-- F4 SHORT_UPLOAD: count; extension; block
 abbrev pub ofShortUpload : List ℕ → ℕ → ℕ → List Check
 ofShortUpload p nc nm =
     0x22 when eqb (byte p 1) 0
@@ -113,7 +114,7 @@ ofShortUpload p nc nm =
     ∷ 0x24 when outside (four p 4) (byte p 1) (lentTo (byte p 3) nc nm)
     ∷ []
 
--- MTA; size; block
+-- F3 BUILD_CHECKSUM: MTA; size; block
 abbrev pub ofBuildChecksum : List ℕ → Mta → ℕ → ℕ → List Check
 ofBuildChecksum p mta nc nm =
     0x29 when mtaUnset mta
@@ -122,7 +123,7 @@ ofBuildChecksum p mta nc nm =
     ∷ 0x24 when mtaOutside mta (four p 4) nc nm
     ∷ []
 
--- MTA; count; data missing; extension 1; block
+-- F0 DOWNLOAD: MTA; count; data missing; extension 1; block
 abbrev pub ofDownload : List ℕ → Mta → ℕ → ℕ → List Check
 ofDownload p mta nc nm =
     0x29 when mtaUnset mta
@@ -133,7 +134,7 @@ ofDownload p mta nc nm =
     ∷ 0x24 when mtaOutside mta (byte p 1) nc nm
     ∷ []
 
--- count; extension; data missing; extension 1; block
+-- ED SHORT_DOWNLOAD: count; extension; data missing; extension 1; block
 abbrev pub ofShortDownload : List ℕ → ℕ → List Check
 ofShortDownload p nc =
     0x22 when eqb (byte p 1) 0
@@ -144,14 +145,14 @@ ofShortDownload p nc =
     ∷ 0x24 when outside (four p 4) (byte p 1) nc
     ∷ []
 
--- list; it runs
+-- E3 CLEAR_DAQ_LIST: list; it runs
 abbrev pub ofClearDaqList : List ℕ → Session → List Check
 ofClearDaqList p c =
     0x22 when noSuchList c (two p 2)
     ∷ 0x11 when running c (two p 2)
     ∷ []
 
--- list; ODT; entry
+-- E2 SET_DAQ_PTR: list; ODT; entry
 abbrev pub ofSetDaqPtr : List ℕ → Session → List Check
 ofSetDaqPtr p c =
     0x22 when noSuchList c (two p 2)
@@ -159,7 +160,7 @@ ofSetDaqPtr p c =
     ∷ 0x22 when leb (c .list (two p 2) .odt (byte p 4) .entries) (byte p 5)
     ∷ []
 
--- pointer; bit offset; size; extension; the list runs; block, which of size 0 is always inside
+-- E1 WRITE_DAQ: pointer; bit offset; size; extension; the list runs; block, which of size 0 is always inside
 abbrev pub ofWriteDaq : List ℕ → Pointer → Session → ℕ → ℕ → List Check
 ofWriteDaq p pointer c nc nm =
     0x29 when pointerUnset pointer
@@ -170,7 +171,7 @@ ofWriteDaq p pointer c nc nm =
     ∷ 0x24 when (not (eqb (byte p 2) 0) && outside (four p 4) (byte p 2) (lentTo (byte p 3) nc nm))
     ∷ []
 
--- mode; list; event; prescaler; priority; it runs
+-- E0 SET_DAQ_LIST_MODE: mode; list; event; prescaler; priority; it runs
 abbrev pub ofSetDaqListMode : List ℕ → Session → List Check
 ofSetDaqListMode p c =
     0x22 when not (eqb (byte p 1) 0x10)
@@ -181,7 +182,7 @@ ofSetDaqListMode p c =
     ∷ 0x11 when running c (two p 2)
     ∷ []
 
--- mode; list; a start of one that does not run and cannot be started
+-- DE START_STOP_DAQ_LIST: mode; list; a start of one that does not run and cannot be started
 abbrev pub ofStartStopDaqList : List ℕ → Session → List Check
 ofStartStopDaqList p c =
     0x22 when ltb 2 (byte p 1)
@@ -189,14 +190,14 @@ ofStartStopDaqList p c =
     ∷ 0x2A when (eqb (byte p 1) 1 && (not (running c (two p 2)) && unfit (c .list (two p 2))))
     ∷ []
 
--- mode; a start of the selected, of which one does not run and cannot be started
+-- DD START_STOP_SYNCH: mode; a start of the selected, of which one does not run and cannot be started
 abbrev pub ofStartStopSynch : List ℕ → Session → List Check
 ofStartStopSynch p c =
     0x22 when ltb 2 (byte p 1)
     ∷ 0x2A when (eqb (byte p 1) 1 && any (c .lists) (λ l. c .list l .selected && (not (running c l) && unfit (c .list l))))
     ∷ []
 
--- FREE_DAQ first, and once; count; the pool's 8 lists
+-- D5 ALLOC_DAQ: FREE_DAQ first, and once; count; the pool's 8 lists
 abbrev pub ofAllocDaq : List ℕ → Session → List Check
 ofAllocDaq p c =
     0x29 when not (c .freed)
@@ -205,31 +206,31 @@ ofAllocDaq p c =
     ∷ 0x30 when ltb 8 (two p 2)
     ∷ []
 
--- ALLOC_DAQ first, no entry yet, and once for a list; list; count; it runs; the pool's 16 ODTs
+-- D4 ALLOC_ODT: ALLOC_DAQ first, no entry yet, and once for a list; list; count; it runs; the pool's 16 ODTs
 abbrev pub ofAllocOdt : List ℕ → Session → List Check
 ofAllocOdt p c =
     0x29 when eqb (c .lists) 0
-    ∷ 0x29 when ltb 0 (allEntries c)
+    ∷ 0x29 when ltb 0 (entriesInAll c)
     ∷ 0x29 when ltb 0 (c .list (two p 2) .odts)
     ∷ 0x22 when noSuchList c (two p 2)
     ∷ 0x22 when eqb (byte p 4) 0
     ∷ 0x11 when running c (two p 2)
-    ∷ 0x30 when ltb 16 (allOdts c + byte p 4)
+    ∷ 0x30 when ltb 16 (odtsInAll c + byte p 4)
     ∷ []
 
--- ALLOC_ODT first, and once for an ODT; list; ODT; count; it runs; the pool's 128 entries
+-- D3 ALLOC_ODT_ENTRY: ALLOC_ODT first, and once for an ODT; list; ODT; count; it runs; the pool's 128 entries
 abbrev pub ofAllocOdtEntry : List ℕ → Session → List Check
 ofAllocOdtEntry p c =
-    0x29 when eqb (allOdts c) 0
+    0x29 when eqb (odtsInAll c) 0
     ∷ 0x29 when ltb 0 (c .list (two p 2) .odt (byte p 4) .entries)
     ∷ 0x22 when noSuchList c (two p 2)
     ∷ 0x22 when leb (c .list (two p 2) .odts) (byte p 4)
     ∷ 0x22 when eqb (byte p 5) 0
     ∷ 0x11 when running c (two p 2)
-    ∷ 0x30 when ltb 128 (allEntries c + byte p 5)
+    ∷ 0x30 when ltb 128 (entriesInAll c + byte p 5)
     ∷ []
 
--- ---- the table: code, fewest bytes, the lock that must be open, and these checks
+-- ---- the table: code, fewest bytes, the lock that must be open, and these checks; FE, FD, DA, D9 and D6 have none of their own
 pub record Row : Type 0 where
   pub code : ℕ
   pub fewest : ℕ

@@ -36,15 +36,15 @@ nextByte k m x =
     Quiet)
 
 -- behind k bytes: SYNC cuts the message off, 7, if it has one; ESC begins a pair
-abbrev pub inside : ℕ → List ℕ → ℕ → Comes
-inside k m b =
+abbrev pub insideOne : ℕ → List ℕ → ℕ → Comes
+insideOne k m b =
     cond (eqb b 0x9A) (cond (eqb k 0) Quiet (Lost 7))
     (cond (eqb b 0x9B) Quiet
     (nextByte k m b))
 
 -- behind an ESC too: SYNC cuts the message off, 00 and 01 end the pair, any other byte is 4
-abbrev pub escaped : ℕ → List ℕ → ℕ → Comes
-escaped k m b =
+abbrev pub behindEsc : ℕ → List ℕ → ℕ → Comes
+behindEsc k m b =
     cond (eqb b 0x9A) (Lost 7)
     (cond (eqb b 0x00) (nextByte k m 0x9B)
     (cond (eqb b 0x01) (nextByte k m 0x9A)
@@ -53,5 +53,5 @@ escaped k m b =
 -- byte b, by the reader's place: outside a message SYNC begins one and every other byte is passed over. A place that no message can have is outside too
 unfoldable pub comesTo : Place → List ℕ → ℕ → Comes
 comesTo Outside m b = Quiet
-comesTo (Inside k) m b = cond (underWay k m) (inside k m b) Quiet
-comesTo (Escaped k) m b = cond (underWay k m) (escaped k m b) Quiet
+comesTo (Inside k) m b = cond (underWay k m) (insideOne k m b) Quiet
+comesTo (Escaped k) m b = cond (underWay k m) (behindEsc k m b) Quiet

@@ -1,6 +1,6 @@
 -- The words of the laws. What they name the definitions name too, and it is said here once more on purpose, with the paper's numbers and without those
 -- definitions, so that one that is wrong is refused: `keyFor` beside `keyOf`, `nextSeed` beside `nextOf`, `outside` beside `insideOf`, `running` and `unfit`
--- beside `runs` and `fits`, `allOdts` and `allEntries` beside `odtsTaken` and `entriesTaken`; `two` and `four` (Commands.antt) beside `u16At` and `u32At`, and
+-- beside `runs` and `fits`, `odtsInAll` and `entriesInAll` beside `odtsTaken` and `entriesTaken`; `two` and `four` (Commands.antt) beside `u16At` and `u32At`, and
 -- the key as bytes, `keyTo` of the demands, beside both. That each pair is one is proved: proofs/FaultWords.antt, proofs/Taken.antt.
 use Prim.Native.Nat.{ℕ, zero, suc, _+_, _*_, _%_, _/_}
 use mathlib.Core.Bool.{Bool, false, cond, not, _&&_, _||_}
@@ -69,8 +69,8 @@ abbrev pub running : Session → ℕ → Bool
 running c l = c .opened && (c .list l .started && not (unfit (c .list l)))
 
 -- ---- what of the pool is taken
-abbrev pub allOdts : Session → ℕ
-allOdts c = total (c .lists) (λ l. c .list l .odts)
+abbrev pub odtsInAll : Session → ℕ
+odtsInAll c = total (c .lists) (λ l. c .list l .odts)
 
-abbrev pub allEntries : Session → ℕ
-allEntries c = total (c .lists) (λ l. total (c .list l .odts) (λ o. c .list l .odt o .entries))
+abbrev pub entriesInAll : Session → ℕ
+entriesInAll c = total (c .lists) (λ l. total (c .list l .odts) (λ o. c .list l .odt o .entries))
