@@ -154,7 +154,8 @@ def numbers(c, chosen):
     """The numbers that the A2ML gives to the words that stand in the blocks, each as the slave says or means it."""
     processor, resolution, _, summed, connected = asked(
         "DA", "D9", "F6 00 00 00 00 00 00 00", "F3 00 00 00 10 00 00 00", "FF 00")
-    properties, key, granularity, stamp, sum_type, mode = processor[1], processor[7], resolution[1], resolution[5], summed[1], connected[2]
+    properties, key, granularity, stamp = processor[1], processor[7], resolution[1], resolution[5]
+    sum_type, mode = summed[1], connected[2]
     told = {
         **CODES, "BYTE_ORDER_MSB_LAST": mode & 1, "ADDRESS_GRANULARITY_BYTE": 1 << (mode >> 1 & 3), "DYNAMIC": properties & 1,
         "NO_OVERLOAD_INDICATION": properties >> 6, "OPTIMISATION_TYPE_DEFAULT": key & 15, "ADDRESS_EXTENSION_FREE": key >> 4 & 3,

@@ -276,7 +276,8 @@ def no_answer(c, page, slave, situations):
             heard.append(plain(sent[1:])[2:-1].hex(" ").upper() if sent else "-")
         c.same(f"lost: {row['Lost']}", quoted(row["Heard"])[0].split("; "), heard)
     prose = page.prose["When no answer comes"]
-    frames, longest, wait, baud = re.search(r"(\w+) frames of at most (\d+) bytes.* That is (\d+) ms at ([\d,]+) baud", prose).groups()
+    told = re.search(r"(\w+) frames of at most (\d+) bytes.* That is (\d+) ms at ([\d,]+) baud", prose)
+    frames, longest, wait, baud = told.groups()
     # A byte is ten bits on the line.
     c.same("time of an answer", int(wait), round(COUNTS.index(frames) * int(longest) * 10_000 / int(baud.replace(",", ""))))
     messages = (bytes([64, SYNC]) + bytes([SYNC] * n) + bytes([SYNC + 1] * (64 - n)) for n in range(65))

@@ -99,12 +99,14 @@ def exports(path):
     header = number(0x3C)
     optional = header + 24
     wide = number(optional, 2) == 0x20B
-    sections = [struct.unpack_from("<IIII", image, optional + number(header + 20, 2) + 40 * i + 8) for i in range(number(header + 6, 2))]
+    table = optional + number(header + 20, 2)
+    sections = [struct.unpack_from("<IIII", image, table + 40 * i + 8) for i in range(number(header + 6, 2))]
+
     def place(address):
         return next(raw + address - start for _, start, size, raw in sections if start <= address < start + size)
-    table = place(number(optional + (112 if wide else 96)))
-    names = place(number(table + 32))
-    starts = [place(number(names + 4 * i)) for i in range(number(table + 24))]
+    exported = place(number(optional + (112 if wide else 96)))
+    names = place(number(exported + 32))
+    starts = [place(number(names + 4 * i)) for i in range(number(exported + 24))]
     return [image[at : image.index(b"\0", at)].decode() for at in starts]
 
 
