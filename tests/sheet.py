@@ -144,7 +144,7 @@ SHEETS = [
     ("a step behind a case", f"{TITLE}\n{GOOD}\n\n{GOOD}\n",
      "sheet: line 4, column 1: a step outside a case: a case begins with a title (# and a space)\n"),
     ("a carriage return at the sheet's end", f"{TITLE}\n{GOOD}\r",
-     "sheet: line 2, column 42: only printable ASCII can stand in a sheet, no tab and no carriage return\n"),
+     "sheet: line 2, column 42: only printable ASCII can stand in a sheet, no tab, and no carriage return but before a line feed\n"),
     ("65,536 bytes", f"{TITLE}\n{GOOD}\n".ljust(65536, "\n"), "sheet: it has more than 65,535 bytes and was not run\n"),
 ]
 

@@ -52,7 +52,7 @@ fn tell_hex() {
 fn tell_fault(fault: Fault) {
     match fault {
         Fault::Sign => tell(
-            b"only printable ASCII can stand in a sheet, no tab and no carriage return",
+            b"only printable ASCII can stand in a sheet, no tab, and no carriage return but before a line feed",
         ),
         Fault::Kind => tell(
             b"neither a step (P M W > < U R E and a space), nor a title (# and a space), nor empty",
