@@ -38,7 +38,7 @@ pub record AsDefined (v : AnySlave) : Type 0 where
   -- an event samples the lists that run on it and have no unsent packet, and misses those that have one; exactly these are counted
   pub tellsCounts : (s cal meas : List ℕ) (event clock : ℕ) → consistent s ≡ true → event ≤ 1
       → v .event s cal meas event clock .evented ≡ countedIn (sessionOf s) event
-  -- which is stored as if that list alone were captured
+  -- a sample is stored as if its list alone were captured
   pub stores : (s cal meas : List ℕ) (event clock l : ℕ) → consistent s ≡ true → event ≤ 1 → samplingIn (sessionOf s) l event ≡ Sampled
       → storesOf (v .event s cal meas event clock .state) s l ≡ storesOf (captured s l clock cal meas) s l
   -- no other byte of the state changes

@@ -74,8 +74,8 @@ pub record Memory (v : AnySlave) : Type 0 where
       → Downloads (h .state) b p from a n → viewOf (afterMoment v h (Hears meas b) .state) .answer ≡ 0xFF ∷ [] → OfBytes (Spares a n) v (afterMoment v h (Hears meas b)) between
       → Uploads (lived v (afterMoment v h (Hears meas b)) between .state) c q a n
       → viewOf (afterMoment v (lived v (afterMoment v h (Hears meas b)) between) (Hears meas′ c) .state) .answer ≡ 0xFF ∷ block p from n
-  -- UPLOAD after SHORT_UPLOAD, whenever it comes and whatever came between that does not change the MTA, goes on there: both done and lent the same memories, their bytes together are the
-  -- block of both lengths
+  -- UPLOAD after SHORT_UPLOAD, whenever it comes and whatever came between that does not change the MTA, goes on there: both done and lent the same
+  -- memories, their bytes together are the block of both lengths
   pub goesOn : (s cal meas : List ℕ) (b : ℕ) (p first : List ℕ) (between : List Call) (c : ℕ) (q second : List ℕ) → consistent s ≡ true
       → Brings v 0xF4 s cal meas b p first → Without changesMta v (v .receive s cal meas b .state) between
       → Brings v 0xF5 (run v (v .receive s cal meas b .state) between) cal meas c q second
