@@ -13,13 +13,14 @@ use Rattle.words.specs.declared.Resource.{Resource}
 use Rattle.words.specs.declared.Resource.the-variants.{Lists}
 use Rattle.model.specs.declared.Deed.{Deed}
 use Rattle.model.specs.Judge.{judgeThe, judgeBy}
-use Rattle.model.specs.Model.{byte, Bytes, Odt, DaqList, Session, odtsBefore, odtsTaken, entriesOf, entriesBefore, entriesTaken, runs}
+use Rattle.model.specs.Model.{byte, Bytes, Odt, DaqList, Session, odtsBefore, odtsTaken, entriesOf, entriesBefore, entriesTaken}
 use Rattle.model.specs.Answers.{Done, replyIn}
 use Rattle.model.specs.View.{sessionOf, shown}
 use Rattle.session.specs.Receive.{receiveOf}
 use Rattle.lists.specs.Event.{eventOf}
 use Rattle.lists.specs.Slot.{slotOf}
 use Rattle.fields.proofs.Kept.{receive-kept, event-kept, slot-kept}
+use Rattle.views.proofs.Listed.{unstarted-rests}
 use Rattle.views.proofs.BytesKept.{receive-bytes}
 use Rattle.views.specs.Commands.{two, Way, TheLocks, HowManyLists, TheLists, FREE-DAQ, ALLOC-DAQ, ALLOC-ODT, ALLOC-ODT-ENTRY}
 use Rattle.views.specs.Locked.{SettingsKept}
@@ -103,12 +104,6 @@ module _ {p cal meas : List ℕ} {c : Session} {o : Done} (law : ALLOC-ODT-ENTRY
       this-or-other (x .list) (two p 2)
       (λ e. rw e (ap (λ (y : Odt). y .entries) (law .otherOdts (x .odt) (λ f. ne (λ t. record { list = e t; odt = f t })))))
       (λ nl. ap (λ (y : DaqList). y .odt (x .odt) .entries) (law .others (x .list) nl))
-
--- a list that was not started does not run
-unstarted-rests : (opened : Bool) (x : DaqList) → x .started ≡ false → runs opened x ≡ false
-unfolding runs
-unstarted-rests true x e = rw e
-unstarted-rests false x e = refl
 
 none-or-some : (n : ℕ) {P : Type 0} → (n ≡ 0 → P) → (1 ≤ n → P) → P
 none-or-some zero f g = f refl
@@ -210,6 +205,7 @@ module _ (w : Plan) where
             noEntries = no-entries (c .list) (s .empty) (c .lists);
             there = omega (arith, has .0, s .out .lists);
             none = s .due l (inl refl);
+            still = λ j h. s .out .still j;
             some = omega (arith, has .1, count);
           },
           omega (arith, count, odt-room l ls c (has .0) s),

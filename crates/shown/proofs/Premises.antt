@@ -1,6 +1,7 @@
 -- Runs of ours that meet premises which no other run here meets: a good message while an answer waits; a wrong key, and DISCONNECT in its place;
 -- UPLOAD behind SHORT_UPLOAD; SHORT_DOWNLOAD; three wrong keys, and GET_SEED and UNLOCK after them; an allocation that fills the pool, and one that
 -- passes it. Assumes nothing.
+use Rattle.views.proofs.Listed.{not-started}
 use Rattle.demands.specs.Waiting.{SameOutside}
 use Prim.Native.Nat.{ℕ, _≤_, _<_}
 use mathlib.Core.Path.{_≡_, refl, ap, sym, subst}
@@ -133,7 +134,15 @@ OdtsAsked s p a = OdtsDue p (sessionOf s) × (odtsTaken (sessionOf s) ≡ 2) × 
 odts-asked : (s p a : List ℕ) → asked ours s p ≡ heardSo p a 2 0 2 0 → lastByte p < 256 → 5 ≤ length p → two p 2 < 2 → 1 ≤ byte p 4 → OdtsAsked s p a
 unfolding asked heardSo
 odts-asked s p a k h n l m = (
-  record { long = n; unlocked = ap (λ x. x .unlocked) k; noEntries = ap (λ x. x .entriesTaken) k; there = subst (λ L. two p 2 < L) (sym (ap (λ x. x .lists) k)) l; none = ap (λ x. x .odts) k; some = m },
+  record {
+    long = n;
+    unlocked = ap (λ x. x .unlocked) k;
+    noEntries = ap (λ x. x .entriesTaken) k;
+    there = subst (λ L. two p 2 < L) (sym (ap (λ x. x .lists) k)) l;
+    none = ap (λ x. x .odts) k;
+    still = not-started (sessionOf s) (sessionOf s .lists) (ap (λ x. x .started) k);
+    some = m;
+  },
   ap (λ x. x .odtsTaken) k,
   (taken-so ours s p a 2 0 2 0 h k, ap (λ x. x .answer) k),
 )

@@ -11,7 +11,7 @@ use Rattle.line.proofs.Stuffed.{false-true}
 use Rattle.state.specs.State.{consistent}
 use Rattle.words.specs.Number.{receivedNumber}
 use Rattle.words.specs.declared.Resource.the-variants.{Lists}
-use Rattle.model.specs.Model.{byte, Bytes, odtsTaken, entriesTaken, runsIn}
+use Rattle.model.specs.Model.{byte, Bytes, odtsTaken, entriesTaken, runsIn, someStarted}
 use Rattle.model.specs.Answers.{Done}
 use Rattle.model.specs.View.{sessionOf, viewOf, shown}
 use Rattle.views.specs.Commands.{two}
@@ -44,6 +44,7 @@ pub record Asked : Type 0 where
   pub odts : ℕ
   pub entries : ℕ
   pub runs : Bool
+  pub started : Bool
   pub odtsTaken : ℕ
   pub entriesTaken : ℕ
 
@@ -61,11 +62,13 @@ asked v s p =
       odts = sessionOf s .list (two p 2) .odts;
       entries = sessionOf s .list (two p 2) .odt (byte p 4) .entries;
       runs = runsIn (sessionOf s) (two p 2);
+      started = someStarted (sessionOf s) (sessionOf s .lists);
       odtsTaken = odtsTaken (sessionOf s);
       entriesTaken = entriesTaken (sessionOf s);
     }
 
--- it is heard and answered a; there are so many lists, ODTs of that list, and none of its ODT's entries; so many ODTs and entries are taken in all
+-- it is heard and answered a; there are so many lists, ODTs of that list, and none of its ODT's entries; no list was started; so many ODTs and
+-- entries are taken in all
 unfoldable pub heardSo : List ℕ → List ℕ → ℕ → ℕ → ℕ → ℕ → Asked
 heardSo p a L odts allOdts allEntries =
     record {
@@ -80,6 +83,7 @@ heardSo p a L odts allOdts allEntries =
       odts = odts;
       entries = 0;
       runs = false;
+      started = false;
       odtsTaken = allOdts;
       entriesTaken = allEntries;
     }

@@ -19,13 +19,13 @@ use Rattle.words.specs.declared.Reason.{Reason}
 use Rattle.words.specs.declared.Reason.the-variants.{TooShort, Locked, Sequence, OutOfRange, ListRuns, PoolFull}
 use Rattle.model.specs.declared.Deed.{Deed}
 use Rattle.model.specs.declared.Deed.the-variants.{Refuse, AllocLists, AllocOdts, AllocEntries}
-use Rattle.model.specs.Model.{byte, Session, odtsTaken, entriesTaken, runsIn}
+use Rattle.model.specs.Model.{byte, Session, odtsTaken, entriesTaken, runsIn, someStarted}
 use Rattle.model.specs.Judge.{allocListsDeed, allocOdtsDeed, allocEntriesDeed, judgeThe, judgeBy, judgeIn}
 use Rattle.model.specs.Answers.{Done, replyIn, commandIn}
 use Rattle.views.specs.Commands.{two, Way}
 use Rattle.views.specs.Full.{ListsDue, OdtsDue, EntriesDue, Both, Fills}
 use Rattle.views.proofs.Verdict.{no-more, at-least}
-use Rattle.views.proofs.Listed.{Listed, odts-listed, before-next, empty-rests}
+use Rattle.views.proofs.Listed.{Listed, odts-listed, before-next, none-started, not-started}
 use Rattle.views.proofs.Taken.{by-code}
 use Rattle.views.proofs.Obeys.{AsModel}
 
@@ -92,6 +92,7 @@ module _ (p : List ℕ) (c : Session) (cal meas : List ℕ) where
       cond-ind C (eqb (c .lists) 0) (λ b. otherwise Sequence (omega arith) (λ due. omega (arith, eqb-true (c .lists) 0 b, due .there))) (λ _.
       cond-ind C (ltb 0 (entriesTaken c)) (λ b. otherwise Sequence (omega arith) (λ due. omega (arith, ltb-true 0 (entriesTaken c) b, due .noEntries))) (λ unused.
       cond-ind C (ltb 0 (c .list l .odts)) (λ b. otherwise Sequence (omega arith) (λ due. omega (arith, ltb-true 0 (c .list l .odts) b, due .none))) (λ none.
+      cond-ind C (someStarted c (c .lists)) (λ b. otherwise Sequence (omega arith) (λ due. false-true (sym (none-started c (c .lists) (due .still)) ∙ b))) (λ still.
       cond-ind C (leb (c .lists) l) (λ b. otherwise OutOfRange (omega arith) (λ due. omega (arith, leb-true (c .lists) l b, due .there))) (λ list.
       cond-ind C (eqb n 0) (λ b. otherwise OutOfRange (omega arith) (λ due. omega (arith, eqb-true n 0 b, due .some))) (λ some.
       let due : OdtsDue p c =
@@ -101,14 +102,10 @@ module _ (p : List ℕ) (c : Session) (cal meas : List ℕ) where
         noEntries = no-more (entriesTaken c) unused;
         there = leb-false (c .lists) l list;
         none = no-more (c .list l .odts) none;
+        still = not-started c (c .lists) still;
         some = at-least n (eqb-false n 0 some);
       } in
-      cond-ind C (runsIn c l) (λ b. otherwise ListRuns (omega arith) (λ _. false-true (sym (still (due .none)) ∙ b))) (λ _.
       cond-ind C (ltb allOdts (odtsTaken c + n)) (λ b. full due (ltb-true allOdts (odtsTaken c + n) b)) (λ b. done (AllocOdts l n) refl due (ltb-false allOdts (odtsTaken c + n) b)))))))))))
-    where
-      -- a list without ODTs does not run
-      still : c .list (two p 2) .odts ≡ 0 → runsIn c (two p 2) ≡ false
-      still e = empty-rests (c .opened) (c .list (two p 2)) (λ o h. absurd (omega (arith, e, h)))
 
   entries-come : Listed c → byte p 0 ≡ 0xD3 → Comes c cal meas (EntriesDue p c) 128 (entriesTaken c + byte p 5) (judgeIn p c (length cal) (length meas))
   unfolding judgeBy judgeThe commandOf allocEntriesDeed u16At replyIn

@@ -24,6 +24,7 @@ pub record OdtsDue (p : List ℕ) (c : Session) : Type 0 where
   pub noEntries : entriesTaken c ≡ 0
   pub there : two p 2 < c .lists
   pub none : c .list (two p 2) .odts ≡ 0
+  pub still : (l : ℕ) → l < c .lists → c .list l .started ≡ false
   pub some : 1 ≤ byte p 4
 
 -- of ALLOC_ODT_ENTRY
