@@ -20,6 +20,7 @@ void test_shapes(void);         /* lists of any shape at work: started, sampled,
 void test_lists(void);          /* lists: set up, selected, started, stopped */
 void test_events(void);         /* events and slots: samples, whose turn it is */
 void test_state(void);          /* the state's bytes: how each value reads, what is written */
+void test_started(void);        /* lists that say started, though no start would be done */
 void test_bench(void);          /* the bench sheet, byte for byte */
 void test_several(void);        /* several slaves in one program; a copy of a state is one too */
 

@@ -21,15 +21,16 @@ static unsigned usual_entry(unsigned odt, unsigned at)
     return ENTRY_COUNT * odt + at;
 }
 
-/* An event: this ODT samples these bytes and no other has any; with none, its list does not run. */
+/* An event: this ODT samples these bytes and no other has any; with none, the clock goes alone. */
 static void samples(struct rig *r, unsigned odt, const uint8_t *bytes, size_t count)
 {
-    check_numbers("sampled", count > 0 ? 0x100 : 0, event(r, 0, CLOCK));
-    if (count > 0 && odt % ODT_COUNT == 0) {
+    check_numbers("sampled", 0x100, event(r, 0, CLOCK));
+    if (odt % ODT_COUNT == 0) {
         sends(r, "%02X 34 12 %s", odt, hex_of(bytes, count));
-    } else if (count > 0) {
+    } else {
         sends(r, "%02X 34 12", odt - 1);
-        sends(r, "%02X %s", odt, hex_of(bytes, count));
+        if (count > 0)
+            sends(r, "%02X %s", odt, hex_of(bytes, count));
     }
     sends(r, "");
 }

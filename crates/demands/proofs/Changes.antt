@@ -203,17 +203,17 @@ module _ (p t cal meas : List ℕ) (h : length t ≡ size) where
   by-verdict _ _ o (modes free list event still) can =
       shows (deed.SetMode (u16At p 2) (u16At p 4)) can tt (settles-at p _ c (c .pointer) (u16At p 2) _ (record { odts = refl; entryCounts = λ i. refl; still = λ _. refl }))
   by-verdict _ _ o (stops free list) can = shows (deed.Stop (u16At p 2)) can tt (settles-at p _ c (c .pointer) (u16At p 2) _ (record { odts = refl; entryCounts = λ i. refl; still = λ _. refl }))
-  by-verdict _ _ o (starts free list mode still) can = shows (deed.Start (u16At p 2)) can tt (takes p _ c _ _ _ _ _ (rw (o, mode)))
+  by-verdict _ _ o (starts free list mode still fit) can = shows (deed.Start (u16At p 2)) can tt (takes p _ c _ _ _ _ _ (rw (o, mode)))
   by-verdict _ _ o (goes-on free list) can = stays p _ c
   by-verdict _ _ o (selects free list) can = shows (deed.Select (u16At p 2)) can tt (settles-at p _ c (c .pointer) (u16At p 2) _ (record { odts = refl; entryCounts = λ i. refl; still = λ e. e }))
   by-verdict _ _ o (stops-all free) can = shows deed.StopAll can tt (settles p _ c (c .pointer) _ (λ l. record { odts = refl; entryCounts = λ i. refl; still = λ _. refl }))
-  by-verdict _ _ o (starts-all free mode) can = shows deed.StartSelected can tt (takes p _ c _ _ _ _ _ (rw (o, mode)))
+  by-verdict _ _ o (starts-all free mode ready) can = shows deed.StartSelected can tt (takes p _ c _ _ _ _ _ (rw (o, mode)))
   by-verdict _ _ o (stops-some free) can = shows deed.StopSelected can tt (settles p _ c (c .pointer) _ (λ l. settled-stop (c .list l)))
   by-verdict _ _ o processor can = stays p _ c
   by-verdict _ _ o resolution can = stays p _ c
   by-verdict _ _ o (frees free) can = shows deed.FreeLists can tt (takes p _ c _ _ _ _ _ (rw o))
   by-verdict _ _ o (allocs-lists free freed none some few) can = shows (deed.AllocLists (u16At p 2)) can tt (takes p _ c _ _ _ _ _ (rw o))
-  by-verdict _ _ o (allocs-odts free list none unused some room) can = shows (deed.AllocOdts (u16At p 2) (byte p 4)) can tt (takes p _ c _ _ _ _ _ (rw o))
+  by-verdict _ _ o (allocs-odts free list none unused still some room) can = shows (deed.AllocOdts (u16At p 2) (byte p 4)) can tt (takes p _ c _ _ _ _ _ (rw o))
   by-verdict _ _ o (allocs-entries free odt none still some room) can = shows (deed.AllocEntries (u16At p 2) (byte p 4) (byte p 5)) can tt (takes p _ c _ _ _ _ _ (rw o))
 
   pub judged-leaves : Doable (judgeIn p c (length cal) (length meas)) c (length p) (length cal) (length meas) → Left (judgeIn p c (length cal) (length meas))

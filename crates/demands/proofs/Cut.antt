@@ -15,7 +15,7 @@ use Rattle.model.specs.View.{sessionOf, odtOf}
 use Rattle.line.specs.declared.Outcome.{Outcome}
 use Rattle.line.specs.declared.Outcome.the-variants as line
 use Rattle.state.specs.Layout.{addressable, uploadMost}
-use Rattle.state.specs.Pool.{listCount, firstOdt, odtCount, entryCount}
+use Rattle.state.specs.Pool.{listCount, firstOdt, odtCount}
 use Rattle.state.specs.Bytes.{block}
 use Rattle.state.specs.Memory.{reach, pick, insideOf, blockSum, byteOf, bytesOf}
 use Rattle.state.specs.State.{consistent, openOf, waits}
@@ -26,7 +26,7 @@ use Rattle.session.specs.Receive.{Step, only, obeyed, heeded, meant, readOn, fe
 use Rattle.model.specs.Heed.{goodConnect}
 use Rattle.lists.specs.Event.{samplingOf, captured, sampledState, Tally, counted, tally, eventOf, contentsOf, capturedOdts}
 use Rattle.model.specs.Model.{Entry, Odt, Session}
-use Rattle.model.specs.Calls.{blockIn, blocksIn, leadOf, contentsIn}
+use Rattle.model.specs.Calls.{blockIn, blocksIn, leadOf, takenIn, contentsIn}
 use Rattle.words.specs.declared.Extension.{Extension}
 use Rattle.words.specs.declared.Extension.the-variants.{Calibration, Measured}
 use Rattle.model.specs.declared.Sampling.{Sampling}
@@ -78,7 +78,7 @@ module _ (cal meas : List ℕ) where
 
   contents-cut : (s : List ℕ) (k o clock : ℕ) → contentsOf s k o clock (front cal) (front meas) ≡ contentsOf s k o clock cal meas
   unfolding contentsIn
-  contents-cut s k o clock = ap (λ (bs : List ℕ). leadOf o clock ++ bs) (blocks-cut (odtOf s (k + o)) (entryCount s (k + o)))
+  contents-cut s k o clock = ap (λ (bs : List ℕ). leadOf o clock ++ bs) (blocks-cut (odtOf s (k + o)) (takenIn o (odtOf s (k + o))))
 
   odts-cut : (s : List ℕ) (k clock n : ℕ) → capturedOdts s k clock (front cal) (front meas) n ≡ capturedOdts s k clock cal meas n
   unfolding capturedOdts

@@ -10,32 +10,27 @@ use borrow.Author.Tests.{eqb-true, eqb-false}
 use lib.Dec.{eqb}
 use Rattle.line.proofs.Laws.{cond-ind}
 use Rattle.line.proofs.Stuffed.{false-true}
-use Rattle.model.specs.Model.{noEntry, DaqList, noList, Session, firstOf, fits, runs, runsIn, waiting, waitingIn}
+use Rattle.model.specs.Model.{noEntry, DaqList, noList, Session, firstOf, runs, runsIn, waiting, waitingIn}
 use Rattle.model.specs.Step.{at, eachList, stopIt, clear, setMode, setEntry, switch, select, startIfSelected, stopIfSelected, allocEntries, stepIn}
 use Rattle.model.specs.declared.Deed.{Deed}
 use Rattle.model.specs.declared.Deed.the-variants.{Refuse, RefuseSize, WrongKey, Connect, Disconnect, Status, Synch, NoSeed, GiveSeed, Unlock, SetMta, Upload, Checksum, Download, ClearList, SetPointer, ClearEntry, WriteEntry, SetMode, Stop, Start, KeepRunning, Select, StopAll, StartSelected, StopSelected, ProcessorInfo, ResolutionInfo, FreeLists, AllocLists, AllocOdts, AllocEntries}
 use Rattle.model.proofs.Fits.{runs-same}
 use Rattle.views.proofs.Parts.{this-or-other}
-use Rattle.views.proofs.Listed.{Listed, before-same, unused-rests, runs-listed}
+use Rattle.views.proofs.Listed.{Listed, before-same, unstarted-rests, all-unstarted, runs-listed}
 use Rattle.views.proofs.Waits.{waits-alike, rests, none-waits, odts-kept, others-wait, own-waits, freed-waits, listed-waits, odts-wait, entries-wait}
 use Rattle.demands.specs.Heard.{stops}
 use Rattle.demands.proofs.Judged.{Found}
 
-off : (o b f : Bool) → b ≡ false → cond o (cond b f false) false ≡ false
-off true b f e = rw e
-off false b f e = refl
-
 -- ---- of one list, whose first ODT has a number: nothing waits if it was not started, or was just switched; its selection is no matter
 module _ (o : Bool) (first : ℕ) (x : DaqList) where
   unstarted : x .started ≡ false → waiting o first x ≡ []
-  unfolding runs
-  unstarted e = rests o first x (off o (x .started) (fits x) e)
+  unstarted e = rests o first x (unstarted-rests o x e)
 
   switched : (on : Bool) → waiting o first (switch on x) ≡ []
   switched on = none-waits o first (switch on x) (λ i h. refl)
 
   selected : (on : Bool) → waiting o first (select on x) ≡ waiting o first x
-  selected on = waits-alike first (select on x) x o o (runs-same (select on x) x (λ i h. refl) (λ i h. refl) o refl refl refl) refl (λ i h. refl)
+  selected on = waits-alike first (select on x) x o o (runs-same (select on x) x o refl refl) refl (λ i h. refl)
 
 -- what is deselected after a change waits as after the change alone
 deselected : (o : Bool) (first : ℕ) (x : DaqList) (w : List (List ℕ)) → waiting o first x ≡ w → waiting o first (select false x) ≡ w
@@ -116,7 +111,7 @@ step-waiting (ClearEntry j o i) p c l has found e = resting c j l (setEntry o i 
 step-waiting (WriteEntry j o i m x a) p c l has found e = resting c j l (setEntry o i (record { size = m; extension = x; address = a })) refl (found .still) refl
 step-waiting (SetMode j event) p c l has found e = resting c j l (setMode event) refl found refl
 step-waiting (Stop j) p c l has found e = other c j l (switch false) refl e
-step-waiting (Start j) p c l has found e = kept c j l (switch true) refl (switched (c .opened) (firstOf c j) (c .list j) true ∙ sym (rests (c .opened) (firstOf c j) (c .list j) found))
+step-waiting (Start j) p c l has found e = kept c j l (switch true) refl (switched (c .opened) (firstOf c j) (c .list j) true ∙ sym (rests (c .opened) (firstOf c j) (c .list j) (found .still)))
 step-waiting (KeepRunning j) p c l has found e = refl
 step-waiting (Select j) p c l has found e = kept c j l (select true) refl (selected (c .opened) (firstOf c j) (c .list j) true)
 step-waiting StopAll p c l has found e = absurd (false-true (sym e))
@@ -127,7 +122,7 @@ step-waiting ResolutionInfo p c l has found e = refl
 step-waiting FreeLists p c l has found e = absurd (false-true (sym e))
 step-waiting (AllocLists n) p c l has found e = listed-waits c l has n found
 step-waiting (AllocOdts j n) p c l has found e = odts-wait c l has found j n
-step-waiting (AllocEntries j o n) p c l has found e = entries-wait c l j o n (found .none) (found .still)
+step-waiting (AllocEntries j o n) p c l has found e = entries-wait c l j o n (found .still)
 
 -- ---- a deed that does
 pub step-stops : (d : Deed) (c : Session) (l : ℕ) → stops l d c ≡ true → waitingIn (stepIn d c) l ≡ []
@@ -180,7 +175,7 @@ lists-stay = (record { lists = refl; odts = λ l. refl }, refl)
 lists-at : (c : Session) (j : ℕ) (f : DaqList → DaqList) → f (c .list j) .odts ≡ c .list j .odts → SameLists c (at j f c)
 lists-at c j f many = (record { lists = refl; odts = odts-kept c j f many }, refl)
 
--- where a list runs, lists are there, and have entries
+-- where a list runs, lists are there, and one was started
 pub step-lists : (d : Deed) (p : List ℕ) (c : Session) (l : ℕ) → Listed c → Found d p c → stops l d c ≡ false → runsIn c l ≡ true → SameLists c (stepIn d c)
 unfolding stepIn
 step-lists (Refuse r) p c l has found e run = lists-stay
@@ -213,5 +208,5 @@ step-lists ProcessorInfo p c l has found e run = lists-stay
 step-lists ResolutionInfo p c l has found e run = lists-stay
 step-lists FreeLists p c l has found e run = absurd (false-true (sym e))
 step-lists (AllocLists n) p c l has found e run = absurd (omega (arith, found, runs-listed c has l run))
-step-lists (AllocOdts j n) p c l has found e run = absurd (false-true (sym (unused-rests c has found l) ∙ run))
+step-lists (AllocOdts j n) p c l has found e run = absurd (false-true (sym (unstarted-rests (c .opened) (c .list l) (all-unstarted c has found l)) ∙ run))
 step-lists (AllocEntries j o n) p c l has found e run = lists-at c j (allocEntries o n) refl

@@ -10,17 +10,14 @@ use Rattle.state.specs.Layout.{size, allOdts, sampleAt, phaseAt, modeAt}
 use Rattle.state.specs.Pool.{listCount, odtsIn, firstOdt, odtCount, odtTotal}
 use Rattle.state.proofs.Ranges.{start-zero, start-mono}
 use Rattle.state.proofs.Allocated.{lists-most, odt-next, odt-most}
-use Rattle.model.specs.View.{sessionOf}
 use Rattle.lists.specs.Event.{samplingOf, contentsOf, stored, capturedOdts, captured, sampledState, tally}
 use Rattle.model.specs.declared.Sampling.{Sampling}
 use Rattle.model.specs.declared.Sampling.the-variants.{Idle, Sampled, Missed}
 use Rattle.lists.proofs.Entries.{contents-alike}
-use Rattle.lists.proofs.Fitting.{runs-fit}
 use Rattle.fields.proofs.Frames.{Only, only-none, only-then, only-wider}
 use Rattle.fields.proofs.Readers.{Same, before, behind, same-then, same-part, listCount-reads, firstOdt-reads, odtCount-reads}
 use Rattle.fields.proofs.Captures.{only-tally}
 use Rattle.views.proofs.Calls.{captured-only}
-use Rattle.views.proofs.Waits.{sampled-free}
 use Rattle.views.proofs.Happening.{event-turn}
 use Rattle.demands.proofs.Unchanged.{same-sets}
 
@@ -35,7 +32,7 @@ unfolding sampledState
 sampled-only s l event clock cal meas long h = go (samplingOf s l event) refl where
   go : (c : Sampling) → samplingOf s l event ≡ c → Only (sampleAt (firstOdt s l)) (sampleAt (firstOdt s l + odtCount s l)) s (sampledState c s l clock cal meas)
   go Idle e = only-none
-  go Sampled e = captured-only s l clock cal meas long h (runs-fit s l (sampled-free (sessionOf s) l event e .0))
+  go Sampled e = captured-only s l clock cal meas long h
   go Missed e = only-none
 
 unsampled : (c : Sampling) (s : List ℕ) (l clock : ℕ) (cal meas : List ℕ) → c ≢ Sampled → sampledState c s l clock cal meas ≡ s

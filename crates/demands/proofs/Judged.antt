@@ -6,8 +6,8 @@ use mathlib.Core.Bool.{true, false}
 use mathlib.Core.List.{List}
 use borrow.Author.Tests.{le-ltb}
 use lib.ListN.{length}
-use Rattle.model.specs.Judge.{pointedIn, seenIn, judgeIn, extensionFrom}
-use Rattle.model.specs.Model.{byte, Session, entriesTaken, runsIn}
+use Rattle.model.specs.Judge.{pointedIn, allStartable, seenIn, judgeIn, extensionFrom}
+use Rattle.model.specs.Model.{byte, Session, fits, runsIn, someStarted}
 use Rattle.state.specs.Layout.{entryMost, addressable}
 use Rattle.state.specs.Bytes.{u16At, u32At}
 use Rattle.state.specs.Memory.{pick}
@@ -44,8 +44,13 @@ pub record Filling (l o : ℕ) (c : Session) : Type 0 where
   pub still : runsIn c l ≡ false
   pub none : c .list l .odt o .entries ≡ 0
 
--- what was found of packet p and session c; calibration is unlocked where it is written, and the lists that are changed do not run; lists are allocated where
--- there are none, ODTs where none has entries
+-- START_STOP_DAQ_LIST of a list that does not run and can be started
+pub record Starting (l : ℕ) (c : Session) : Type 0 where
+  pub still : runsIn c l ≡ false
+  pub fit : fits (c .list l) ≡ true
+
+-- what was found of packet p and session c; calibration is unlocked where it is written, and the lists that are changed do not run; lists are started that
+-- can be; lists are allocated where there are none, ODTs where none was started
 abbrev pub Found : Deed → List ℕ → Session → Type 0
 Found (Refuse r) p c = Unit
 Found RefuseSize p c = Unit
@@ -67,17 +72,17 @@ Found (ClearEntry l o e) p c = runsIn c l ≡ false
 Found (WriteEntry l o e n x a) p c = Entering l n a c
 Found (SetMode l event) p c = runsIn c l ≡ false
 Found (Stop l) p c = Unit
-Found (Start l) p c = runsIn c l ≡ false
+Found (Start l) p c = Starting l c
 Found (KeepRunning l) p c = Unit
 Found (Select l) p c = Unit
 Found StopAll p c = Unit
-Found StartSelected p c = Unit
+Found StartSelected p c = allStartable c (c .lists) ≡ true
 Found StopSelected p c = Unit
 Found ProcessorInfo p c = Unit
 Found ResolutionInfo p c = Unit
 Found FreeLists p c = Unit
 Found (AllocLists n) p c = c .lists ≡ 0
-Found (AllocOdts l n) p c = entriesTaken c ≡ 0
+Found (AllocOdts l n) p c = someStarted c (c .lists) ≡ false
 Found (AllocEntries l o n) p c = Filling l o c
 
 -- ---- what the verdict of a packet of bytes found
@@ -122,17 +127,17 @@ module _ (p : List ℕ) (c : Session) (nc nm : ℕ) where
       record { still = still-found l o e w; few = inside .0; low = entry-low (u32At p 4) (byte p 2) (pick (extensionFrom (byte p 3)) nc nm) some (inside .1) }
   by-verdict _ _ code (modes free list event still) = still
   by-verdict _ _ code (stops free list) = tt
-  by-verdict _ _ code (starts free list mode still) = still
+  by-verdict _ _ code (starts free list mode still fit) = record { still = still; fit = fit }
   by-verdict _ _ code (goes-on free list) = tt
   by-verdict _ _ code (selects free list) = tt
   by-verdict _ _ code (stops-all free) = tt
-  by-verdict _ _ code (starts-all free mode) = tt
+  by-verdict _ _ code (starts-all free mode ready) = ready
   by-verdict _ _ code (stops-some free) = tt
   by-verdict _ _ code processor = tt
   by-verdict _ _ code resolution = tt
   by-verdict _ _ code (frees free) = tt
   by-verdict _ _ code (allocs-lists free freed none some few) = none
-  by-verdict _ _ code (allocs-odts free list none unused some room) = unused
+  by-verdict _ _ code (allocs-odts free list none unused still some room) = still
   by-verdict _ _ code (allocs-entries free odt none still some room) = record { still = still; none = none }
 
 pub judged : (p : List ℕ) (c : Session) (nc nm : ℕ) → Found (judgeIn p c nc nm) p c

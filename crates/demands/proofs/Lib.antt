@@ -35,6 +35,8 @@ pub mod Checked
 pub mod ListsLocked
 pub mod StaysShut
 pub mod Pool
+-- Every list that was started fits.
+pub mod Fit
 -- The first two leave no choice.
 pub mod NoChoice
 -- The third demand, and that nothing is lost.

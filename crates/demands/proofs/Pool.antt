@@ -2,7 +2,7 @@
 use Prim.Native.Nat.{ℕ, zero, suc, _+_, _≤_, _<_}
 use mathlib.Core.Path.{_≡_, refl, sym, ap, ap₂, subst, _∙_}
 use mathlib.Core.Logic.{_≢_, _⊎_, inl, inr, ⊎-elim}
-use mathlib.Core.Bool.{Bool, true, false}
+use mathlib.Core.Bool.{true, false}
 use mathlib.Core.List.{List, [], _∷_, _++_, map}
 use native.Mathlib.Omega.{arith}
 use borrow.Author.Tests.{le-ltb}
@@ -13,7 +13,7 @@ use Rattle.words.specs.declared.Command.the-variants as command
 use Rattle.words.specs.declared.Resource.the-variants.{Lists}
 use Rattle.model.specs.declared.Deed.{Deed}
 use Rattle.model.specs.Judge.{judgeThe, judgeBy}
-use Rattle.model.specs.Model.{byte, Bytes, Odt, DaqList, Session, odtsTaken, entriesOf, entriesBefore, entriesTaken, runs}
+use Rattle.model.specs.Model.{byte, Bytes, Odt, DaqList, Session, odtsTaken, entriesOf, entriesBefore, entriesTaken}
 use Rattle.model.specs.Answers.{Done, replyIn}
 use Rattle.model.specs.View.{sessionOf, shown}
 use Rattle.session.specs.Receive.{receiveOf}
@@ -22,6 +22,7 @@ use Rattle.views.proofs.BytesKept.{receive-bytes}
 use Rattle.views.specs.Words.{total}
 use Rattle.views.specs.Commands.{two, Way, TheLocks, HowManyLists, TheLists, FREE-DAQ, ALLOC-DAQ, ALLOC-ODT, ALLOC-ODT-ENTRY}
 use Rattle.views.proofs.FaultWords.{odts-sum, entries-sum}
+use Rattle.views.proofs.Listed.{unstarted-rests}
 use Rattle.views.proofs.Parts.{this-or-other}
 use Rattle.views.proofs.Taken.{by-code}
 use Rattle.views.proofs.Obeys.{AsModel, obeys}
@@ -87,12 +88,6 @@ module _ {p cal meas : List ℕ} {c : Session} {o : Done} (law : ALLOC-ODT-ENTRY
       this-or-other (x .list) (two p 2)
       (λ e. rw e (ap (λ (y : Odt). y .entries) (law .otherOdts (x .odt) (λ f. ne (λ t. record { list = e t; odt = f t })))))
       (λ nl. ap (λ (y : DaqList). y .odt (x .odt) .entries) (law .others (x .list) nl))
-
--- a list that was not started does not run
-unstarted-rests : (opened : Bool) (x : DaqList) → x .started ≡ false → runs opened x ≡ false
-unfolding runs
-unstarted-rests true x e = rw e
-unstarted-rests false x e = refl
 
 -- a packet with a code has a byte
 not-empty : (p : List ℕ) → byte p 0 ≡ 0xD6 → 1 ≤ length p
@@ -195,6 +190,7 @@ module _ (w : Plan) where
           noEntries = no-entries (c .list) (s .empty) (c .lists);
           there = omega (arith, has .0, s .out .lists);
           none = s .due l (inl refl);
+          still = λ j. s .out .still j;
           some = omega (arith, has .1, count);
           room = omega (arith, count, odt-room l ls c (has .0) s);
         }

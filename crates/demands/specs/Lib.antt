@@ -14,6 +14,7 @@ pub mod Shows
 pub mod Obeyed
 pub mod Checked
 pub mod ListsLocked
+pub mod Fit
 pub mod StaysShut
 pub mod Numbers
 pub mod CallNumbers

@@ -202,15 +202,15 @@ module _ (c : Session) (p : Packet) (v : Seen) (s : Sees c p v) (nc nm : ℕ) wh
   abbrev Allowed : Deed → Type 0
   Allowed d = Doable d c (p .n) nc nm
 
-  alloc-odts-doable : (m : ℕ) → Allowed (allocOdtsDeed (v .present) (v .odts) (v .odtsTaken) (v .entriesTaken) (v .runs) (p .w2) m)
+  alloc-odts-doable : (m : ℕ) → Allowed (allocOdtsDeed (v .present) (v .odts) (v .odtsTaken) (v .entriesTaken) (v .started) (p .w2) m)
   unfolding allocOdtsDeed
   alloc-odts-doable m =
       cond-ind Allowed (eqb (v .present) 0) (λ _. tt) (λ _.
       cond-ind Allowed (ltb 0 (v .entriesTaken)) (λ _. tt) (λ empty.
       cond-ind Allowed (ltb 0 (v .odts)) (λ _. tt) (λ none.
+      cond-ind Allowed (v .started) (λ _. tt) (λ _.
       cond-ind Allowed (leb (v .present) (p .w2)) (λ _. tt) (λ list.
       cond-ind Allowed (eqb m 0) (λ _. tt) (λ _.
-      cond-ind Allowed (v .runs) (λ _. tt) (λ _.
       cond-ind Allowed (ltb allOdts (v .odtsTaken + m)) (λ _. tt) (λ few.
       (omega (arith, s .present, leb-false (v .present) (p .w2) list), omega (arith, s .odts, ltb-false 0 (v .odts) none), omega (arith, s .entriesTaken, ltb-false 0 (v .entriesTaken) empty), omega (arith, s .odtsTaken, ltb-false allOdts (v .odtsTaken + m) few)))))))))
 

@@ -101,6 +101,7 @@ pub record Seeing (v w : Seen) : Type 0 where
   pub entriesTaken : v .entriesTaken ≡ w .entriesTaken
   pub pointed : v .pointed ≡ w .pointed
   pub ready : v .ready ≡ w .ready
+  pub started : v .started ≡ w .started
 
 -- of the list
 pub record Naming (v w : Seen) : Type 0 where
@@ -149,7 +150,7 @@ module _ (p : Packet) (v w : Seen) (s : Seeing v w) (nc nm : ℕ) where
   the-looked GetDaqResolutionInfo h o = refl
   the-looked FreeDaq h o = refl
   the-looked AllocDaq h o = rw (s .freed, s .present)
-  the-looked AllocOdt h o = rw (s .present, h (omega arith) .odts, s .odtsTaken, s .entriesTaken, h (omega arith) .runs)
+  the-looked AllocOdt h o = rw (s .present, h (omega arith) .odts, s .odtsTaken, s .entriesTaken, s .started)
   the-looked AllocOdtEntry h o = rw (h (omega arith) .odts, o (omega arith), s .odtsTaken, s .entriesTaken, h (omega arith) .runs)
 
   locked-seen : (n : Needs) → lockedBy n v ≡ lockedBy n w

@@ -390,17 +390,17 @@ pub fn alloc_lists(freed: bool, present: u8, n: u16) -> Deed
     Deed::AllocLists(n as u8)
 }
 
-// First ALLOC_DAQ, no ALLOC_ODT_ENTRY yet, and once for a list.
+// First ALLOC_DAQ, no ALLOC_ODT_ENTRY yet, no list started, and once for a list.
 pub fn alloc_odts(
     present: u8,
     odts: u16,
     taken: u16,
     entries: u16,
-    runs: bool,
+    started: bool,
     l: u16,
     n: u8,
 ) -> Deed
-    ensures { λ r. ⌜ r ≡ allocOdtsDeed present odts taken entries runs l n ⌝ }
+    ensures { λ r. ⌜ r ≡ allocOdtsDeed present odts taken entries started l n ⌝ }
 {
     if present == 0 {
         return Deed::Refuse(Reason::Sequence);
@@ -411,14 +411,14 @@ pub fn alloc_odts(
     if 0 < odts {
         return Deed::Refuse(Reason::Sequence);
     }
+    if started {
+        return Deed::Refuse(Reason::Sequence);
+    }
     if present as u16 <= l {
         return Deed::Refuse(Reason::OutOfRange);
     }
     if n == 0 {
         return Deed::Refuse(Reason::OutOfRange);
-    }
-    if runs {
-        return Deed::Refuse(Reason::ListRuns);
     }
     if (layout::ALL_ODTS as u32) < taken as u32 + n as u32 {
         return Deed::Refuse(Reason::PoolFull);

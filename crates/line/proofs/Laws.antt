@@ -6,11 +6,12 @@ use Prim.Native.Nat.{ℕ, suc, _+_, _≤_, _<_}
 use native.Mathlib.Nat.{add-zero, add-suc, suc-add, zero-add}
 use native.Mathlib.Numerals.{add-one}
 use native.Mathlib.Omega.{arith}
+use borrow.Author.Tests.{ne-eqb}
 use lib.Dec.{eqb}
 use lib.ListN.{length, take, getD, set, length-append}
 use lib.Seq.{sets, take-suc}
 use Rattle.line.specs.Stuffing.{SYNC, ESC, stuffByte, stuff}
-use Rattle.line.specs.Message.{headIn, byteForm, sum, frame}
+use Rattle.line.specs.Message.{headIn, byteForm, most, sum, frame}
 use Rattle.line.specs.Writer.{atFront, Stored}
 
 -- two truth values are not one
@@ -92,14 +93,15 @@ sum-append (x ∷ a) b = omega (arith, sum-append a b)
 pub sum-next : (l : List ℕ) (i : ℕ) → i < length l → sum (take (i + 1) l) ≡ sum (take i l) + getD l i 0
 sum-next l i h = rw (add-one, take-suc l i 0 h) (omega (arith, sum-append (take i l) (getD l i 0 ∷ [])))
 
--- ---- a frame, as the writer puts it together
-frame-is : (p : List ℕ) (ctr s : ℕ) → s ≡ byteForm .checksum (headIn byteForm ctr p) → ((((SYNC ∷ []) ++ stuffByte (length p)) ++ stuffByte ctr) ++ stuff p) ++ stuffByte s ≡ frame ctr p
-frame-is p ctr s e = rw (← e) (simp (append-assoc, stuff-append p (s ∷ []), stuff-one))
+-- ---- a frame, as the writer puts it together: LEN stands there as it is
+frame-is : (p : List ℕ) (ctr s : ℕ) → length p ≤ most → s ≡ byteForm .checksum (headIn byteForm ctr p) → (((SYNC ∷ length p ∷ []) ++ stuffByte ctr) ++ stuff p) ++ stuffByte s ≡ frame ctr p
+frame-is p ctr s few e =
+    rw (← e) (simp (append-assoc, stuff-append p (s ∷ []), stuff-one, ne-eqb (length p) SYNC (λ z. omega arith), ne-eqb (length p) ESC (λ z. omega arith)))
 
-pub written : (p out : List ℕ) (ctr s : ℕ) {l₁ l₂ l₃ l₄ : List ℕ} {a b c d : ℕ} → s ≡ byteForm .checksum (headIn byteForm ctr p)
-    → Stored (set out 0 SYNC) 1 (stuffByte (length p)) l₁ a → Stored l₁ a (stuffByte ctr) l₂ b → Stored l₂ b (stuff p) l₃ c → Stored l₃ c (stuffByte s) l₄ d
-    → (d ≡ length (frame ctr p)) × (l₄ ≡ atFront (frame ctr p) out)
-written p out ctr s {l₁} {l₂} {l₃} {l₄} {a} {b} {c} {d} e e₁ e₂ e₃ e₄ =
-    let first : Stored out 0 (SYNC ∷ []) (set out 0 SYNC) 1 = record { next = refl; bytes = refl } in
-    let whole : Stored out 0 (frame ctr p) l₄ d = rw (frame-is p ctr s e) at (more (more (more (more first e₁) e₂) e₃) e₄) in
+pub written : (p out : List ℕ) (ctr s : ℕ) {l₁ l₂ l₃ : List ℕ} {a b c : ℕ} → length p ≤ most → s ≡ byteForm .checksum (headIn byteForm ctr p)
+    → Stored (set (set out 0 SYNC) 1 (length p)) 2 (stuffByte ctr) l₁ a → Stored l₁ a (stuff p) l₂ b → Stored l₂ b (stuffByte s) l₃ c
+    → (c ≡ length (frame ctr p)) × (l₃ ≡ atFront (frame ctr p) out)
+written p out ctr s {l₁} {l₂} {l₃} {a} {b} {c} few e e₁ e₂ e₃ =
+    let first : Stored out 0 (SYNC ∷ length p ∷ []) (set (set out 0 SYNC) 1 (length p)) 2 = record { next = refl; bytes = refl } in
+    let whole : Stored out 0 (frame ctr p) l₃ c = rw (frame-is p ctr s few e) at (more (more (more first e₁) e₂) e₃) in
     (whole .next ∙ zero-add _, whole .bytes ∙ sets-front (frame ctr p) out)

@@ -1,51 +1,60 @@
 // The writer: a packet's frame.
 ghost use mathlib.Core.Path.{_≡_};
-ghost use Prim.Native.Nat.{_+_, _≤_};
+ghost use Prim.Native.Nat.{_+_, _%_, _≤_};
 ghost use lib.ListN.{length};
 ghost use Rattle.line.specs.Stuffing.{stuffByte, stuff};
-ghost use Rattle.line.specs.Message.{nextCtr};
+ghost use Rattle.line.specs.Message.{sum, room, nextCtr};
 ghost use Rattle.line.specs.Writer.{Stored, Writes, writeOf};
 use crate::Written;
 use crate::limits::ESC;
 use crate::limits::MOST;
 use crate::limits::ROOM;
 use crate::limits::SYNC;
-use crate::sum::sum_of;
 
-// A byte as it stands on the wire, from a place of out on. Answers the place after it.
-fn stuff_byte(byte: u8, out: &mut [u8], at: usize) -> usize
-    requires { ⌜ at + 2 ≤ length (now out) ⌝ }
+// Where the packet's bytes end on the wire, and their sum.
+struct Summed {
+    at: u32,
+    sum: u8,
+}
+
+// A byte as it stands on the wire, from a place of out on. Answers the place after it. Places are counted in 32 bits: a small processor has no others.
+fn stuff_byte(byte: u8, out: &mut [u8], at: u32) -> u32
+    requires { ⌜ (at + 2 ≤ room) × (room ≤ length (now out)) ⌝ }
     ensures { λ r. ⌜ Stored (now (out .entry)) at (stuffByte byte) (now (out .exit)) r ⌝ }
 {
+    let i = at as usize;
     if byte == SYNC {
-        out[at] = ESC;
-        out[at + 1] = 1;
+        out[i] = ESC;
+        out[i + 1] = 1;
         return at + 2;
     }
     if byte == ESC {
-        out[at] = ESC;
-        out[at + 1] = 0;
+        out[i] = ESC;
+        out[i + 1] = 0;
         return at + 2;
     }
-    out[at] = byte;
+    out[i] = byte;
     at + 1
 }
 
-// Bytes as they stand on the wire, likewise.
-fn stuff_bytes(bytes: &[u8], out: &mut [u8], from: usize) -> usize
-    requires { ⌜ from + (length (now bytes) + length (now bytes)) ≤ length (now out) ⌝ }
-    ensures { λ r. ⌜ Stored (now (out .entry)) from (stuff (now (bytes .entry))) (now (out .exit)) r ⌝ }
+// A packet of n bytes as it stands on the wire, likewise, and its sum behind what was summed before.
+fn stuff_packet(packet: &[u8], n: u8, before: u8, out: &mut [u8], from: u32) -> Summed
+    requires { ⌜ (n ≡ length (now packet)) × (from + (length (now packet) + length (now packet)) ≤ room) × (room ≤ length (now out)) ⌝ }
+    ensures { λ r. ⌜ Stored (now (out .entry)) from (stuff (now (packet .entry))) (now (out .exit)) (r .at) × (r .sum ≡ (before + sum (now (packet .entry))) % 256) ⌝ }
 {
     let mut at = from;
-    let mut i = 0;
-    while i < bytes.len() {
-        at = stuff_byte(bytes[i], out, at);
+    let mut total = before;
+    let mut i: u32 = 0;
+    while i < n as u32 {
+        let byte = packet[i as usize];
+        total = std::num::wrapping_add_u8(total, byte);
+        at = stuff_byte(byte, out, at);
         i += 1;
     }
-    at
+    Summed { at, sum: total }
 }
 
-// The frame of a packet at the front of out.
+// The frame of a packet at the front of out. LEN is at most 64, and stands there as it is.
 pub fn write(packet: &[u8], ctr: u8, out: &mut [u8]) -> Written
     ensures { λ r. ⌜ Writes (writeOf (now (packet .entry)) ctr (now (out .entry))) r (now (out .exit)) ⌝ }
 {
@@ -61,11 +70,11 @@ pub fn write(packet: &[u8], ctr: u8, out: &mut [u8]) -> Written
     }
     let len = n as u8;
     out[0] = SYNC;
-    let a = stuff_byte(len, out, 1);
-    let b = stuff_byte(ctr, out, a);
-    let c = stuff_bytes(packet, out, b);
-    let sum = sum_of(std::num::wrapping_add_u8(len, ctr), packet);
-    let size = stuff_byte(sum, out, c);
+    out[1] = len;
+    let from = stuff_byte(ctr, out, 2);
+    let before = std::num::wrapping_add_u8(len, ctr);
+    let end = stuff_packet(packet, len, before, out, from);
+    let size = stuff_byte(end.sum, out, end.at) as usize;
     Written::Frame { size }
 }
 

@@ -4,7 +4,7 @@ use mathlib.Core.Bool.{Bool, true, false, cond}
 use Prim.Native.Nat.{ℕ, zero, suc, _+_, _-_, _≤_}
 use native.Mathlib.Nat.{add-zero, add-suc}
 use native.Mathlib.Omega.{arith}
-use Rattle.model.specs.Model.{DaqList, Session, eachFits, someRuns, somePacket}
+use Rattle.model.specs.Model.{DaqList, Session, eachFits, someRuns, someStarted, somePacket}
 use Rattle.model.specs.Judge.{allStartable}
 
 stays : (f : ℕ → Bool) (b : Bool) → ((n : ℕ) → f n ≡ b → f (suc n) ≡ b) → (l n : ℕ) → l ≤ n → f l ≡ b → f n ≡ b
@@ -22,6 +22,13 @@ any-next c k e = rw e
 
 pub any-stays : (c : Session) (l n : ℕ) → l ≤ n → someRuns c l ≡ true → someRuns c n ≡ true
 any-stays c = stays (someRuns c) true (any-next c)
+
+started-next : (c : Session) (k : ℕ) → someStarted c k ≡ true → someStarted c (suc k) ≡ true
+unfolding someStarted
+started-next c k e = rw e
+
+pub started-stays : (c : Session) (l n : ℕ) → l ≤ n → someStarted c l ≡ true → someStarted c n ≡ true
+started-stays c = stays (someStarted c) true (started-next c)
 
 all-next : (c : Session) (k : ℕ) → allStartable c k ≡ false → allStartable c (suc k) ≡ false
 unfolding allStartable

@@ -1,23 +1,21 @@
 -- An entry reads the same while samples are stored past all entries. Assumes nothing.
-use mathlib.Core.Path.{_≡_, refl, ap, ap₂, subst, _∙_}
+use mathlib.Core.Path.{_≡_, refl, ap, ap₂, _∙_}
 use mathlib.Core.List.{List, [], _∷_, _++_}
-use Prim.Native.Nat.{ℕ, zero, suc, _+_, _-_, _≤_, _<_}
-use native.Mathlib.Nat.{add-zero, add-suc}
+use Prim.Native.Nat.{ℕ, zero, suc, _+_, _≤_, _<_}
 use native.Mathlib.Omega.{arith}
 use lib.Dec.{lit<}
 use lib.ListN.{getD, set}
 use lib.Seq.{sets, getD-set-other}
-use Rattle.state.specs.Layout.{lists, allOdts, phaseAt, entrySize, sampleAt}
+use Rattle.state.specs.Layout.{lists, allOdts, odtMost, phaseAt, entrySize, sampleAt}
 use Rattle.state.specs.Pool.{listCount, firstOdt, odtCount, firstEntry, entryCount, entryAt}
 use Rattle.state.proofs.Allocated.{entry-most, lists-same, firstOdt-same, odtCount-same, firstEntry-same, entryCount-same}
 use Rattle.state.specs.Lists.{sizeOf, extensionOf, addressOf}
 use Rattle.model.specs.Model.{Entry, noEntry, Odt, sizesOf}
-use Rattle.model.specs.Calls.{blockIn, blocksIn, leadOf, contentsIn}
+use Rattle.model.specs.Calls.{blockIn, blocksIn, leadOf, taken, contentsIn}
 use Rattle.model.specs.View.{entryOf, odtOf}
 use Rattle.model.proofs.Bounded.{upTo-same}
-use Rattle.model.proofs.Fits.{bytes-same}
-use Rattle.model.proofs.Shown.{sizes-next}
-use Rattle.lists.specs.Lists.{odtBytes}
+use Rattle.model.proofs.Fits.{sizes-same}
+use Rattle.model.proofs.Room.{taken-same}
 use Rattle.lists.specs.Event.{contentsOf}
 
 -- every byte below the samples is the same
@@ -71,22 +69,15 @@ module _ (t s : List ℕ) (same : Alike t s) (k : ℕ) (odt : k < allOdts) where
   pub blocks-alike : (cal meas : List ℕ) (n : ℕ) → blocksIn (odtOf t k) cal meas n ≡ blocksIn (odtOf s k) cal meas n
   blocks-alike cal meas n = blocks-same cal meas (odtOf t k) (odtOf s k) entries-alike n
 
-  pub bytes-alike : odtBytes t k ≡ odtBytes s k
-  bytes-alike = bytes-same (odtOf t k) (odtOf s k) (counts-alike t s same k odt) entries-alike
+  pub sizes-alike : (n : ℕ) → sizesOf (odtOf t k) n ≡ sizesOf (odtOf s k) n
+  sizes-alike = sizes-same (odtOf t k) (odtOf s k) entries-alike
+
+  -- so many of its entries go into so many bytes
+  pub taken-alike : (room : ℕ) → taken room (odtOf t k) (entryCount t k) ≡ taken room (odtOf s k) (entryCount s k)
+  taken-alike room = ap (taken room (odtOf t k)) (counts-alike t s same k odt) ∙ taken-same room (odtOf t k) (odtOf s k) entries-alike (entryCount s k)
 
 pub contents-alike : (t s : List ℕ) → Alike t s → (k o clock : ℕ) (cal meas : List ℕ) → k + o < allOdts → contentsOf t k o clock cal meas ≡ contentsOf s k o clock cal meas
 unfolding contentsIn
 contents-alike t s same k o clock cal meas odt =
-    ap (λ (n : ℕ). leadOf o clock ++ blocksIn (odtOf t (k + o)) cal meas n) (counts-alike t s same (k + o) odt)
-    ∙ ap (λ (bs : List ℕ). leadOf o clock ++ bs) (blocks-alike t s same (k + o) odt cal meas (entryCount s (k + o)))
-
-grows : (y : Odt) (i d : ℕ) → sizesOf y i ≤ sizesOf y (i + d)
-unfolding sizesOf
-grows y i zero = rw add-zero (omega arith)
-grows y i (suc d) = rw add-suc (omega (arith, grows y i d))
-
--- what entries before the last take is not more than all
-pub first-most : (s : List ℕ) (k e : ℕ) → e < entryCount s k → sizesOf (odtOf s k) e + sizeOf s k e ≤ odtBytes s k
-first-most s k e h =
-    let rest : suc e + (entryCount s k - suc e) ≡ entryCount s k = omega arith in
-    subst (λ (n : ℕ). sizesOf (odtOf s k) e + sizeOf s k e ≤ sizesOf (odtOf s k) n) rest (rw (← sizes-next s k e h) (grows (odtOf s k) (suc e) (entryCount s k - suc e)))
+    ap (λ (n : ℕ). leadOf o clock ++ blocksIn (odtOf t (k + o)) cal meas n) (taken-alike t s same (k + o) odt (odtMost o))
+    ∙ ap (λ (bs : List ℕ). leadOf o clock ++ bs) (blocks-alike t s same (k + o) odt cal meas (taken (odtMost o) (odtOf s (k + o)) (entryCount s (k + o))))

@@ -8,20 +8,21 @@ use native.Mathlib.Numerals.{add-one}
 use native.Mathlib.Omega.{arith}
 use lib.Dec.{lit<}
 use lib.ListN.{length, getD, set, length-append}
-use lib.Seq.{sets, set-comm}
+use lib.Seq.{sets}
 use Rattle.line.proofs.Laws.{sets-append}
 use Rattle.state.specs.Layout.{isFirst, odtMost, entrySize, sampleAt, allOdts, clockSize, storedMost}
 use Rattle.state.specs.Memory.{byteOf, bytesOf}
 use Rattle.state.specs.Pool.{entryCount, entryAt}
 use Rattle.state.specs.Lists.{sizeAt, extensionAt, addressIn, sizeOf, extensionOf, addressOf}
-use Rattle.lists.specs.Lists.{odtBytes}
 use Rattle.lists.specs.Event.{contentsOf, stored, capturedOdts}
 use Rattle.model.specs.Model.{sizesOf}
-use Rattle.model.specs.Calls.{blockIn, blocksIn, leadOf, contentsIn}
+use Rattle.model.specs.Calls.{blockIn, blocksIn, leadOf, taken, contentsIn}
 use Rattle.model.specs.View.{entryOf, odtOf}
 use Rattle.model.proofs.Shown.{sizes-next, blocks-next}
+use Rattle.model.proofs.Room.{taken-most, taken-fits}
+use Rattle.state.proofs.Copies.{under}
 use Rattle.state.proofs.Allocated.{entry-most}
-use Rattle.lists.proofs.Entries.{Alike, sets-alike, blocks-alike, bytes-alike}
+use Rattle.lists.proofs.Entries.{Alike, sets-alike, blocks-alike, sizes-alike, taken-alike}
 
 pub bytes-next : (mem : List ℕ) (a n : ℕ) → bytesOf mem a (suc n) ≡ bytesOf mem a n ++ byteOf mem (a + n) ∷ []
 unfolding bytesOf
@@ -36,11 +37,6 @@ bytes-length mem a (suc n) = ap suc (bytes-length mem (suc a) n)
 -- a clock
 pub pair-sets : (s : List ℕ) (i a b : ℕ) → set (set s i a) (i + 1) b ≡ sets s i (a ∷ b ∷ [])
 pair-sets s i a b = simp add-one
-
--- a byte stored before others
-pub under : (xs l : List ℕ) (i j a : ℕ) → j < i → set (sets l i xs) j a ≡ sets (set l j a) i xs
-under [] l i j a h = refl
-under (x ∷ xs) l i j a h = under xs (set l i x) (suc i) j a (omega arith) ∙ ap (λ (m : List ℕ). sets m (suc i) xs) (set-comm l i j x a (λ e. omega arith))
 
 module _ (s : List ℕ) (k : ℕ) (cal meas : List ℕ) where
   abbrev gathered : ℕ → List ℕ
@@ -58,9 +54,6 @@ module _ (s : List ℕ) (k : ℕ) (cal meas : List ℕ) where
   pub gathered-first : (n : ℕ) → n ≤ entryCount s k → length (gathered n) ≡ sizesOf (odtOf s k) n
   gathered-first zero h = gathered-none
   gathered-first (suc n) h = gathered-length n (omega arith) ∙ ap (λ (m : ℕ). m + sizeOf s k n) (gathered-first n (omega arith)) ∙ sym (sizes-next s k n (omega arith))
-
-  pub gathered-odt : length (gathered (entryCount s k)) ≡ odtBytes s k
-  gathered-odt = gathered-first (entryCount s k) (omega arith)
 
   -- entries are read as they were, with bytes stored past them already
   module _ (odt : k < allOdts) (at : ℕ) (past : sampleAt 0 ≤ at) where
@@ -88,33 +81,54 @@ module _ (s : List ℕ) (k : ℕ) (cal meas : List ℕ) where
           ap (sets so-far (at + length (gathered n))) block-there ∙ sets-append (gathered n) (blockIn (entryOf s k n) cal meas) s at
           ∙ ap (λ (bs : List ℕ). sets s at bs) (sym (blocks-next s k cal meas n h))
 
-    pub gathered-after : (xs : List ℕ) → sets (sets s at xs) (at + length xs) (blocksIn (odtOf (sets s at xs) k) cal meas (entryCount s k)) ≡ sets s at (xs ++ gathered (entryCount s k))
-    gathered-after xs =
-        ap (λ (bs : List ℕ). sets (sets s at xs) (at + length xs) bs) (blocks-alike (sets s at xs) s (sets-alike xs s at past) k odt cal meas (entryCount s k))
-        ∙ sets-append xs (gathered (entryCount s k)) s at
+    pub gathered-after : (xs : List ℕ) (n : ℕ) → sets (sets s at xs) (at + length xs) (blocksIn (odtOf (sets s at xs) k) cal meas n) ≡ sets s at (xs ++ gathered n)
+    gathered-after xs n =
+        ap (λ (bs : List ℕ). sets (sets s at xs) (at + length xs) bs) (blocks-alike (sets s at xs) s (sets-alike xs s at past) k odt cal meas n)
+        ∙ sets-append xs (gathered n) s at
 
--- an ODT's packet: its bytes, and then its length before them
+-- an ODT's packet is no longer than its store: the clock's bytes, and those of the entries that are taken
 pub lead-most : (o clock : ℕ) → length (leadOf o clock) + odtMost o ≤ storedMost
 lead-most o clock = by (isFirst o) where
   by : (first : Bool) → length (cond first (clock % 256 ∷ clock / 256 % 256 ∷ []) []) + cond first (storedMost - clockSize) storedMost ≤ storedMost
   by true = omega arith
   by false = omega arith
 
-module _ (s : List ℕ) (k o clock : ℕ) (cal meas : List ℕ) (odt : k + o < allOdts) (at : ℕ) (place : at ≡ sampleAt (k + o)) where
-  -- which changes no entry
-  pub lead-bytes : (t : List ℕ) → t ≡ sets s (at + 1) (leadOf o clock) → odtBytes t (k + o) ≡ odtBytes s (k + o)
-  lead-bytes t e = rw e (bytes-alike (sets s (at + 1) (leadOf o clock)) s (sets-alike (leadOf o clock) s (at + 1) (omega arith)) (k + o) odt)
+module _ (s : List ℕ) (k o clock : ℕ) (cal meas : List ℕ) where
+  abbrev its : ℕ
+  its = taken (odtMost o) (odtOf s (k + o)) (entryCount s (k + o))
 
-  pub stored-whole : (n : ℕ) → n ≡ length (leadOf o clock) + odtBytes s (k + o)
-      → set (sets (sets s (at + 1) (leadOf o clock)) (at + 1 + length (leadOf o clock)) (blocksIn (odtOf (sets s (at + 1) (leadOf o clock)) (k + o)) cal meas (entryCount s (k + o)))) at n
-      ≡ stored s (k + o) (contentsOf s k o clock cal meas)
-  unfolding stored contentsIn
-  stored-whole n e =
-      let bs : List ℕ = leadOf o clock ++ blocksIn (odtOf s (k + o)) cal meas (entryCount s (k + o)) in
-      let m : length bs ≡ n = length-append (leadOf o clock) (blocksIn (odtOf s (k + o)) cal meas (entryCount s (k + o))) ∙ ap (λ (j : ℕ). length (leadOf o clock) + j) (gathered-odt s (k + o) cal meas) ∙ sym e in
-      ap (λ (t : List ℕ). set t at n) (gathered-after s (k + o) cal meas odt (at + 1) (omega arith) (leadOf o clock))
-      ∙ under bs s (at + 1) at n (omega arith)
-      ∙ rw (add-one, m, place)
+  pub contents-long : length (contentsOf s k o clock cal meas) ≡ length (leadOf o clock) + sizesOf (odtOf s (k + o)) its
+  unfolding contentsIn
+  contents-long =
+      length-append (leadOf o clock) (blocksIn (odtOf s (k + o)) cal meas its)
+      ∙ ap (λ (j : ℕ). length (leadOf o clock) + j) (gathered-first s (k + o) cal meas its (taken-most (odtMost o) (odtOf s (k + o)) (entryCount s (k + o))))
+
+  pub contents-most : length (contentsOf s k o clock cal meas) ≤ storedMost
+  contents-most = omega (arith, contents-long, lead-most o clock, taken-fits (odtMost o) (odtOf s (k + o)) (entryCount s (k + o)))
+
+  -- its bytes, and then its length before them
+  module _ (odt : k + o < allOdts) (at : ℕ) (place : at ≡ sampleAt (k + o)) where
+    abbrev led : List ℕ
+    led = sets s (at + 1) (leadOf o clock)
+
+    -- the clock changes no entry
+    led-taken : taken (odtMost o) (odtOf led (k + o)) (entryCount led (k + o)) ≡ its
+    led-taken = taken-alike led s (sets-alike (leadOf o clock) s (at + 1) (omega arith)) (k + o) odt (odtMost o)
+
+    led-sizes : (n : ℕ) → sizesOf (odtOf led (k + o)) n ≡ sizesOf (odtOf s (k + o)) n
+    led-sizes n = sizes-alike led s (sets-alike (leadOf o clock) s (at + 1) (omega arith)) (k + o) odt n
+
+    pub stored-whole : (m n : ℕ) → m ≡ taken (odtMost o) (odtOf led (k + o)) (entryCount led (k + o)) → n ≡ length (leadOf o clock) + sizesOf (odtOf led (k + o)) m
+        → set (sets led (at + 1 + length (leadOf o clock)) (blocksIn (odtOf led (k + o)) cal meas m)) at n ≡ stored s (k + o) (contentsOf s k o clock cal meas)
+    unfolding stored contentsIn
+    stored-whole m n f e =
+        let same : m ≡ its = f ∙ led-taken in
+        let bs : List ℕ = leadOf o clock ++ blocksIn (odtOf s (k + o)) cal meas its in
+        let long : length bs ≡ n = contents-long ∙ ap (λ (j : ℕ). length (leadOf o clock) + j) (sym (led-sizes its)) ∙ ap (λ (j : ℕ). length (leadOf o clock) + sizesOf (odtOf led (k + o)) j) (sym same) ∙ sym e in
+        ap (λ (t : List ℕ). set t at n) (gathered-after s (k + o) cal meas odt (at + 1) (omega arith) (leadOf o clock) m)
+        ∙ ap (λ (j : ℕ). set (sets s (at + 1) (leadOf o clock ++ blocksIn (odtOf s (k + o)) cal meas j)) at n) same
+        ∙ under bs s (at + 1) at n (omega arith)
+        ∙ rw (add-one, long, place)
 
 -- packets in store change no entry
 pub captured-alike : (s : List ℕ) (k clock : ℕ) (cal meas : List ℕ) (n : ℕ) → Alike (capturedOdts s k clock cal meas n) s
@@ -123,17 +137,6 @@ captured-alike s k clock cal meas zero j b = refl
 captured-alike s k clock cal meas (suc n) j b =
     sets-alike (length (contentsOf s k n clock cal meas) ∷ contentsOf s k n clock cal meas) (capturedOdts s k clock cal meas n) (sampleAt (k + n)) (omega arith) j b
     ∙ captured-alike s k clock cal meas n j b
-
--- a packet's bytes are no more than one holds, if its ODT has not too many
-contents-by : (first : Bool) (clock n : ℕ) (bs : List ℕ) → length bs ≡ n → n ≤ cond first (storedMost - clockSize) storedMost
-    → length (cond first (clock % 256 ∷ clock / 256 % 256 ∷ []) [] ++ bs) ≤ storedMost
-contents-by true clock n bs e h = omega (arith, e, h)
-contents-by false clock n bs e h = omega (arith, e, h)
-
-pub contents-most : (s : List ℕ) (k o clock : ℕ) (cal meas : List ℕ) → odtBytes s (k + o) ≤ odtMost o → length (contentsOf s k o clock cal meas) ≤ storedMost
-unfolding contentsIn
-contents-most s k o clock cal meas h =
-    contents-by (isFirst o) clock (odtBytes s (k + o)) (blocksIn (odtOf s (k + o)) cal meas (entryCount s (k + o))) (gathered-odt s (k + o) cal meas) h
 
 -- an ODT's most is no more than a packet holds
 pub most-stored : (o : ℕ) → odtMost o ≤ storedMost

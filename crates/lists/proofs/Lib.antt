@@ -1,11 +1,11 @@
 -- Laws that the functions' proofs cite.
 pub mod Named
 pub mod Counting
-pub mod Fitting
+pub mod Sampled
 pub mod Entries
 pub mod Gathered
 pub mod Tallied
-pub mod Moving
+pub mod Words
 pub mod Steady
 pub mod Round
 pub mod Sending

@@ -1,15 +1,15 @@
 -- The round, list by list, over any number of lists and whatever each has. Assumes nothing.
-use mathlib.Core.Path.{_≡_, refl, sym, ap, _∙_}
+use mathlib.Core.Path.{_≡_, refl, sym, ap, ap₂, _∙_}
 use mathlib.Core.Bool.{Bool, true, false, not, cond}
 use mathlib.Core.List.{List}
 use Prim.Native.Nat.{ℕ, zero, suc, _+_, _-_, _%_, _<_}
 use native.Mathlib.Nat.{mod-lt, add-mod-left}
 use native.Mathlib.Numerals.{add-one}
 use native.Mathlib.Omega.{arith}
-use borrow.Author.Tests.{ltb-true, ltb-false, ne-eqb}
+use borrow.Author.Tests.{ltb-true, ltb-false, lt-ltb, ne-eqb}
 use lib.Dec.{eqb, ltb}
 use Rattle.line.proofs.Laws.{cond-ind}
-use Rattle.model.specs.Model.{DaqList, Session, Slave, fits, runs, runsIn, hasAnswer, hasPacket}
+use Rattle.model.specs.Model.{DaqList, Session, Slave, runs, runsIn, hasAnswer, hasPacket}
 use Rattle.model.specs.Calls.{firstPacket, packetIn, orElse, roundFrom, roundIn, listAfter, turnIn}
 use Rattle.model.specs.View.{sessionOf}
 use Rattle.state.specs.Layout.{allOdts}
@@ -94,18 +94,30 @@ first-step l x o zero h = absurd (none h)
     none p = omega arith
 first-step l x o (suc n) h = let e : suc n - 1 ≡ n = omega arith in rw e
 
--- a list of which nothing waits has no next packet, whether it runs or not
-pub nobody-in : (c : Session) (l : ℕ) → firstPacket l (c .list l) 0 (c .list l .odts) ≡ Nobody → packetIn c l ≡ Nobody
-unfolding packetIn
-nobody-in c l e = rw e (cond-ind (λ (t : Turn). t ≡ Nobody) (runsIn c l) (λ _. refl) (λ _. refl))
-
--- nor has one that was not started
+-- a list that was not started has no next packet; one that was started has its first one, if it has one
 pub never-started : (c : Session) (l : ℕ) → c .list l .started ≡ false → packetIn c l ≡ Nobody
 unfolding packetIn runs
 never-started c l e =
     let first : Turn = firstPacket l (c .list l) 0 (c .list l .odts) in
-    ap (λ (b : Bool). cond (cond (c .opened) (cond b (fits (c .list l)) false) false) first Nobody) e
+    ap (λ (b : Bool). cond (cond (c .opened) (cond b (ltb 0 (c .list l .odts)) false) false) first Nobody) e
     ∙ cond-ind (λ (r : Bool). cond r first Nobody ≡ Nobody) (c .opened) (λ _. refl) (λ _. refl)
+
+pub was-started : (c : Session) (l : ℕ) → c .opened ≡ true → c .list l .started ≡ true → packetIn c l ≡ firstPacket l (c .list l) 0 (c .list l .odts)
+unfolding packetIn runs firstPacket
+was-started c l o e =
+    let first : Turn = firstPacket l (c .list l) 0 (c .list l .odts) in
+    ap₂ (λ (a b : Bool). cond (cond a (cond b (ltb 0 (c .list l .odts)) false) false) first Nobody) o e ∙ by (c .list l .odts) where
+      by : (n : ℕ) → cond (ltb 0 n) (firstPacket l (c .list l) 0 n) Nobody ≡ firstPacket l (c .list l) 0 n
+      by zero = refl
+      by (suc n) = rw (lt-ltb 0 (suc n) (omega arith))
+
+-- without an open session no list has one
+closed-packet : (c : Session) (l : ℕ) → c .opened ≡ false → packetIn c l ≡ Nobody
+unfolding packetIn runs
+closed-packet c l e = rw e
+
+pub closed-round : (c : Session) → c .opened ≡ false → roundIn c ≡ Nobody
+closed-round c e = lists-hold (λ (t : Turn). t ≡ Nobody) c refl (λ l h. closed-packet c l e)
 
 -- whose turn it is, with the round once: an answer goes before it or behind it
 or-nobody : (t : Turn) → orElse t Nobody ≡ t

@@ -12,7 +12,7 @@ use Rattle.state.specs.State.{dropped}
 use Rattle.state.specs.Lists.{selectedOf}
 use Rattle.words.specs.declared.Extension.{Extension}
 use Rattle.words.specs.declared.Extension.the-variants.{Calibration, Measured}
-use Rattle.model.specs.Model.{bytesIn, fits, runsIn, someRuns}
+use Rattle.model.specs.Model.{bytesIn, fits, runsIn, someRuns, someStarted}
 use Rattle.model.specs.Judge.{allStartable}
 use Rattle.model.specs.View.{odtOf, sessionOf}
 
@@ -43,6 +43,9 @@ fitsNamed s l = cond (isState s) (fitOf s l) false
 
 abbrev pub anyRuns : List ℕ → Bool
 anyRuns s = cond (isState s) (someRuns (sessionOf s) (listCount s)) false
+
+abbrev pub anyStarted : List ℕ → Bool
+anyStarted s = cond (isState s) (someStarted (sessionOf s) (listCount s)) false
 
 abbrev pub ready : List ℕ → Bool
 ready s = cond (isState s) (allStartable (sessionOf s) (listCount s)) false

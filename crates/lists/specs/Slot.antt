@@ -23,6 +23,12 @@ use Rattle.words.specs.declared.Slotted.the-variants.{Idle, Sent as Slotted·Se
 abbrev pub turnOf : List ℕ → Turn
 turnOf s = turnIn (viewOf s)
 
+-- the same with the ODT's number in the place of its number in its list
+abbrev pub numberedIn : List ℕ → Turn → Turn
+numberedIn s Nobody = Nobody
+numberedIn s Answer = Answer
+numberedIn s (Packet l o) = Packet l (firstOdt s l + o)
+
 -- the packet of list l's ODT o: its number, and what was captured
 abbrev pub packetOf : List ℕ → ℕ → ℕ → List ℕ
 packetOf s l o = packetFrom (sessionOf s) l o

@@ -14,16 +14,45 @@ use state::fields;
 use state::layout;
 use state::pool;
 
-// The n bytes from `at`, d places further on, the last first: they may lie one upon the other.
-fn shift(s: &mut [u8], at: usize, d: usize, n: usize)
+// Four bytes from `at`, d places further on: all are read before one is written.
+fn shift_four(s: &mut [u8], at: usize, d: usize)
+    requires { ⌜ (at + d + 4 ≤ length (now s)) × (length (now s) ≡ size) ⌝ }
+    ensures { λ _. ⌜ now (s .exit) ≡ copied (now (s .entry)) (at + d) (now (s .entry)) at 4 ⌝ }
+{
+    let to = at + d;
+    let a = s[at];
+    let b = s[at + 1];
+    let c = s[at + 2];
+    let e = s[at + 3];
+    s[to] = a;
+    s[to + 1] = b;
+    s[to + 2] = c;
+    s[to + 3] = e;
+}
+
+// The first n of the bytes from `at`, one by one, the last first.
+fn shift_few(s: &mut [u8], at: usize, d: usize, n: u32)
     requires { ⌜ (at + d + n ≤ length (now s)) × (length (now s) ≡ size) ⌝ }
     ensures { λ _. ⌜ now (s .exit) ≡ copied (now (s .entry)) (at + d) (now (s .entry)) at n ⌝ }
 {
     let mut j = n;
     while 0 < j {
         j -= 1;
-        s[at + d + j] = s[at + j];
+        s[at + d + j as usize] = s[at + j as usize];
     }
+}
+
+// The n bytes from `at`, d places further on, the last first: they may lie one upon the other.
+fn shift(s: &mut [u8], at: usize, d: usize, n: usize)
+    requires { ⌜ (at + d + n ≤ length (now s)) × (length (now s) ≡ size) ⌝ }
+    ensures { λ _. ⌜ now (s .exit) ≡ copied (now (s .entry)) (at + d) (now (s .entry)) at n ⌝ }
+{
+    let mut j = n as u32;
+    while 4 <= j {
+        j -= 4;
+        shift_four(s, at + j as usize, d);
+    }
+    shift_few(s, at, d, j);
 }
 
 // Without lists nothing else is read.

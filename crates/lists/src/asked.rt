@@ -3,7 +3,7 @@ ghost use mathlib.Core.Path.{_≡_};
 ghost use Prim.Native.Nat.{_≤_};
 ghost use Rattle.state.specs.Layout.{allOdts, allEntries};
 ghost use Rattle.model.specs.View.{sessionOf};
-ghost use Rattle.lists.specs.Lists.{isList, runsNamed, fitsNamed, anyRuns, ready};
+ghost use Rattle.lists.specs.Lists.{isList, runsNamed, fitsNamed, anyRuns, anyStarted, ready};
 use crate::list;
 use crate::spans;
 use state::layout;
@@ -41,6 +41,15 @@ pub fn any_runs(s: &[u8]) -> bool
 {
     if s.len() == layout::STATE {
         return list::any_runs(s);
+    }
+    false
+}
+
+pub fn any_started(s: &[u8]) -> bool
+    ensures { λ r. ⌜ r ≡ anyStarted (now (s .entry)) ⌝ }
+{
+    if s.len() == layout::STATE {
+        return list::any_started(s);
     }
     false
 }

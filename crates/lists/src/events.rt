@@ -4,17 +4,19 @@ ghost use mathlib.Core.Bool.{true};
 ghost use Prim.Native.Nat.{_+_, _≤_, _<_};
 ghost use lib.ListN.{length};
 ghost use lib.Seq.{sets};
-ghost use Rattle.state.specs.Layout.{lists, allOdts, allEntries, events, odtMost, entryMost, clockSize, size, sampleAt};
+ghost use Rattle.state.specs.Layout.{lists, allOdts, allEntries, events, entryMost, clockSize, addressable, size, sampleAt};
 ghost use Rattle.state.specs.Pool.{listCount, firstOdt, odtCount, firstEntry, entryCount};
 ghost use Rattle.state.specs.Memory.{reach, byteOf, bytesOf};
 ghost use Rattle.state.specs.Lists.{extensionAt, addressIn};
-ghost use Rattle.lists.specs.Lists.{odtBytes, fitOf, Spans};
+ghost use Rattle.lists.specs.Lists.{Spans};
 ghost use Rattle.lists.specs.Event.{samplingOf, contentsOf, stored, captured, sampledState, sampledBy, missedBy, Counts, tally, Happens, eventOf};
-ghost use Rattle.model.specs.Calls.{blockIn, blocksIn, leadOf};
+ghost use Rattle.model.specs.Model.{sizesOf};
+ghost use Rattle.model.specs.Calls.{blockIn, blocksIn, taken, leadOf};
 ghost use Rattle.model.specs.View.{odtOf};
 use crate::Counted;
 use crate::list;
 use crate::spans;
+use crate::word;
 use model::Sampling;
 use state::Span;
 use state::fields;
@@ -22,32 +24,10 @@ use state::layout;
 use state::memory::reach;
 use state::pool;
 use words::Evented;
-use words::Extension;
 
-// A byte of a memory of which so many can be addressed, 0 where it is not inside.
-fn byte_below(mem: &[u8], at: u32, end: u32) -> u8
-    requires { ⌜ end ≡ reach (length (now mem)) ⌝ }
-    ensures { λ r. ⌜ r ≡ byteOf (now (mem .entry)) at ⌝ }
-{
-    if at < end { mem[at as usize] } else { 0 }
-}
-
-// The n bytes of a memory from address on into the state. How many it has is asked once, and in 32 bits: a small processor has no others.
-fn take_block(s: &mut [u8], to: usize, mem: &[u8], address: u16, n: u8)
-    requires { ⌜ (to + n ≤ length (now s)) × (length (now s) ≡ size) × (n ≤ entryMost) ⌝ }
-    ensures { λ _. ⌜ now (s .exit) ≡ sets (now (s .entry)) to (bytesOf (now (mem .entry)) address n) ⌝ }
-{
-    let end = reach(mem.len()) as u32;
-    let mut i: u8 = 0;
-    while i < n {
-        s[to + i as usize] = byte_below(mem, address as u32 + i as u32, end);
-        i += 1;
-    }
-}
-
-// The n bytes of the entry that lies there.
-fn take_entry(s: &mut [u8], to: usize, cal: &[u8], meas: &[u8], at: usize, n: u8)
-    requires { ⌜ (length (now s) ≡ size) × (at + 1 < length (now s)) × (n ≤ entryMost) × (to + n ≤ length (now s)) ⌝ }
+// The n bytes of the entry that lies there. How much of each memory can be addressed is reckoned once an event.
+fn take_entry(s: &mut [u8], to: usize, cal: &[u8], meas: &[u8], nc: u32, nm: u32, at: usize, n: u8)
+    requires { ⌜ (length (now s) ≡ size) × (at + 1 < length (now s)) × (n ≤ entryMost) × (to + n ≤ length (now s)) × (nc ≡ reach (length (now cal))) × (nm ≡ reach (length (now meas))) ⌝ }
     ensures { λ _. ⌜ now (s .exit) ≡ sets (now (s .entry)) to (blockIn (record { size = n; extension = extensionAt (now (s .entry)) at; address = addressIn (now (s .entry)) at }) (now (cal .entry)) (now (meas .entry))) ⌝ }
 {
     if n == 0 {
@@ -55,41 +35,54 @@ fn take_entry(s: &mut [u8], to: usize, cal: &[u8], meas: &[u8], at: usize, n: u8
     }
     let address = list::entry_address(s, at);
     let extension = list::entry_extension(s, at);
-    match extension {
-        Extension::Calibration => take_block(s, to, cal, address, n),
-        Extension::Measured => take_block(s, to, meas, address, n),
-    }
+    let w = word::fetch(extension, cal, meas, nc, nm, address, n);
+    word::put(s, to, w, n);
 }
 
-// The bytes of an ODT's entries, in entry order; says where they end. They go past all entries.
-fn gather(s: &mut [u8], from: usize, cal: &[u8], meas: &[u8], k: u16, first: u16, n: u16) -> usize
-    requires { ⌜ (length (now s) ≡ size) × (k < allOdts) × (first ≡ firstEntry (now s) k) × (n ≡ entryCount (now s) k) × (first + n ≤ allEntries) × (sampleAt 0 ≤ from) × (from + odtBytes (now s) k ≤ size) ⌝ }
-    ensures { λ r. ⌜ (now (s .exit) ≡ sets (now (s .entry)) from (blocksIn (odtOf (now (s .entry)) k) (now (cal .entry)) (now (meas .entry)) n)) × (r ≡ from + odtBytes (now (s .entry)) k) ⌝ }
+// The bytes of an ODT's entries, in entry order, up to the first for which there is no room; says how many they are. They go past all entries.
+fn gather(
+    s: &mut [u8],
+    from: usize,
+    room: u32,
+    cal: &[u8],
+    meas: &[u8],
+    nc: u32,
+    nm: u32,
+    k: u16,
+    first: u16,
+    n: u16,
+) -> u32
+    requires { ⌜ (length (now s) ≡ size) × (k < allOdts) × (first ≡ firstEntry (now s) k) × (n ≡ entryCount (now s) k) × (first + n ≤ allEntries) × (sampleAt 0 ≤ from) × (from + room ≤ size) × (nc ≡ reach (length (now cal))) × (nm ≡ reach (length (now meas))) ⌝ }
+    ensures { λ r. ⌜ (now (s .exit) ≡ sets (now (s .entry)) from (blocksIn (odtOf (now (s .entry)) k) (now (cal .entry)) (now (meas .entry)) (taken room (odtOf (now (s .entry)) k) n))) × (r ≡ sizesOf (odtOf (now (s .entry)) k) (taken room (odtOf (now (s .entry)) k) n)) ⌝ }
 {
     let mut at = layout::entries_at(first);
-    let mut to = from;
+    let mut sum: u32 = 0;
     let mut e: u16 = 0;
     while e < n {
         let m = list::entry_size(s, at);
-        take_entry(s, to, cal, meas, at, m);
-        to += m as usize;
+        let next = sum + m as u32;
+        if room < next {
+            return sum;
+        }
+        take_entry(s, from + sum as usize, cal, meas, nc, nm, at, m);
+        sum = next;
         at += layout::ENTRY_SIZE;
         e += 1;
     }
-    to
+    sum
 }
 
-// In a list's first ODT the clock; says where the bytes begin.
-fn lead(s: &mut [u8], at: usize, odt: u16, clock: u16) -> usize
+// In a list's first ODT the clock; says how many bytes it takes.
+fn lead(s: &mut [u8], at: usize, odt: u16, clock: u16) -> u32
     requires { ⌜ (length (now s) ≡ size) × (at + clockSize ≤ size) ⌝ }
-    ensures { λ r. ⌜ (now (s .exit) ≡ sets (now (s .entry)) at (leadOf odt clock)) × (r ≡ at + length (leadOf odt clock)) ⌝ }
+    ensures { λ r. ⌜ (now (s .exit) ≡ sets (now (s .entry)) at (leadOf odt clock)) × (r ≡ length (leadOf odt clock)) ⌝ }
 {
     if layout::is_first(odt) {
         s[at] = (clock % 256) as u8;
         s[at + 1] = (clock / 256 % 256) as u8;
-        return at + layout::CLOCK_SIZE as usize;
+        return layout::CLOCK_SIZE as u32;
     }
-    at
+    0
 }
 
 // One ODT of the list whose first is k: its length, in the first ODT the clock, then its n bytes from entry `first` on.
@@ -97,31 +90,45 @@ fn capture_odt(
     s: &mut [u8],
     cal: &[u8],
     meas: &[u8],
+    nc: u32,
+    nm: u32,
     k: u16,
     odt: u16,
     first: u16,
     n: u16,
     clock: u16,
 )
-    requires { ⌜ (length (now s) ≡ size) × (k + odt < allOdts) × (first ≡ firstEntry (now s) (k + odt)) × (n ≡ entryCount (now s) (k + odt)) × (first + n ≤ allEntries) × (odtBytes (now s) (k + odt) ≤ odtMost odt) ⌝ }
+    requires { ⌜ (length (now s) ≡ size) × (k + odt < allOdts) × (first ≡ firstEntry (now s) (k + odt)) × (n ≡ entryCount (now s) (k + odt)) × (first + n ≤ allEntries) × (nc ≡ reach (length (now cal))) × (nm ≡ reach (length (now meas))) ⌝ }
     ensures { λ _. ⌜ now (s .exit) ≡ stored (now (s .entry)) (k + odt) (contentsOf (now (s .entry)) k odt clock (now (cal .entry)) (now (meas .entry))) ⌝ }
 {
     let at = layout::sample_at(k + odt);
-    let from = lead(s, at + 1, odt, clock);
-    let end = gather(s, from, cal, meas, k + odt, first, n);
-    s[at] = (end - at - 1) as u8;
+    let before = lead(s, at + 1, odt, clock);
+    let room = layout::odt_most(odt) as u32;
+    let bytes = gather(
+        s,
+        at + 1 + before as usize,
+        room,
+        cal,
+        meas,
+        nc,
+        nm,
+        k + odt,
+        first,
+        n,
+    );
+    s[at] = (before + bytes) as u8;
 }
 
 // All ODTs at once: nothing is read when they are sent.
-fn capture(s: &mut [u8], cal: &[u8], meas: &[u8], l: u8, span: Span, clock: u16)
-    requires { ⌜ (length (now s) ≡ size) × (l < listCount (now s)) × (fitOf (now s) l ≡ true) × Spans (now s) l (span .odt) (span .odts) (span .entry) ⌝ }
+fn capture(s: &mut [u8], cal: &[u8], meas: &[u8], nc: u32, nm: u32, l: u8, span: Span, clock: u16)
+    requires { ⌜ (length (now s) ≡ size) × (l < listCount (now s)) × (nc ≡ reach (length (now cal))) × (nm ≡ reach (length (now meas))) × Spans (now s) l (span .odt) (span .odts) (span .entry) ⌝ }
     ensures { λ _. ⌜ now (s .exit) ≡ captured (now (s .entry)) l clock (now (cal .entry)) (now (meas .entry)) ⌝ }
 {
     let mut first = span.entry;
     let mut o: u16 = 0;
     while o < span.odts {
         let n = spans::entries_in(s, span.odt + o, first);
-        capture_odt(s, cal, meas, span.odt, o, first, n, clock);
+        capture_odt(s, cal, meas, nc, nm, span.odt, o, first, n, clock);
         first += n;
         o += 1;
     }
@@ -132,29 +139,27 @@ fn sample(
     s: &mut [u8],
     cal: &[u8],
     meas: &[u8],
+    nc: u32,
+    nm: u32,
     l: u8,
     k: u16,
     n: u16,
     event: u8,
     clock: u16,
 ) -> Sampling
-    requires { ⌜ (length (now s) ≡ size) × (l < listCount (now s)) × (event < events) × (k ≡ firstOdt (now s) l) × (n ≡ odtCount (now s) l) × (k + n ≤ allOdts) ⌝ }
+    requires { ⌜ (length (now s) ≡ size) × (l < listCount (now s)) × (event < events) × (k ≡ firstOdt (now s) l) × (n ≡ odtCount (now s) l) × (k + n ≤ allOdts) × (nc ≡ reach (length (now cal))) × (nm ≡ reach (length (now meas))) ⌝ }
     ensures { λ r. ⌜ (r ≡ samplingOf (now (s .entry)) l event) × (now (s .exit) ≡ sampledState r (now (s .entry)) l clock (now (cal .entry)) (now (meas .entry))) ⌝ }
 {
     if list::mode(s, l) != event + 1 {
         return Sampling::Idle;
     }
-    if !list::started(s, l) {
+    if !list::runs_with(s, l, n) {
         return Sampling::Idle;
     }
-    let span = spans::span_from(s, l, k, n);
-    if !list::fit(s, l, span) {
-        return Sampling::Idle;
-    }
-    if list::is_unsent(s, l, span) {
+    if list::is_unsent(s, l, k, n) {
         return Sampling::Missed;
     }
-    capture(s, cal, meas, l, span, clock);
+    capture(s, cal, meas, nc, nm, l, spans::span_from(s, l, k, n), clock);
     Sampling::Sampled
 }
 
@@ -186,11 +191,13 @@ fn happen(s: &mut [u8], cal: &[u8], meas: &[u8], event: u8, clock: u16) -> Count
     let mut sampled: u8 = 0;
     let mut missed: u8 = 0;
     let count = pool::list_count(s);
+    let nc = reach(cal.len()) as u32;
+    let nm = reach(meas.len()) as u32;
     let mut k: u16 = 0;
     let mut l: u8 = 0;
     while l < count {
         let n = spans::odts_in(s, l, k);
-        let c = sample(s, cal, meas, l, k, n, event, clock);
+        let c = sample(s, cal, meas, nc, nm, l, k, n, event, clock);
         k += n;
         sampled += sampled_by(c);
         missed += missed_by(c);

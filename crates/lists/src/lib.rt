@@ -7,6 +7,7 @@ mod events;
 mod list;
 mod slots;
 mod spans;
+mod word;
 
 pub use events::event;
 pub use slots::slot;

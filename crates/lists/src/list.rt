@@ -8,7 +8,7 @@ ghost use Rattle.state.specs.Layout.{lists, allOdts, allEntries, events, stored
 ghost use Rattle.state.specs.Pool.{listCount, firstOdt, odtCount, firstEntry, entryCount};
 ghost use Rattle.state.specs.State.{flagOf, openOf};
 ghost use Rattle.state.specs.Lists.{sizeAt, extensionAt, addressIn, modeOf, selectedOf, storedLength};
-ghost use Rattle.model.specs.Model.{allBytes, eachFits, unsent, someRuns};
+ghost use Rattle.model.specs.Model.{allBytes, eachFits, unsent, someRuns, someStarted};
 ghost use Rattle.model.specs.Judge.{startable, allStartable};
 ghost use Rattle.model.specs.View.{sessionOf};
 ghost use Rattle.lists.specs.Lists.{odtBytes, fitOf, runsOf, Spans};
@@ -143,6 +143,17 @@ pub fn started(s: &[u8], l: u8) -> bool
     false
 }
 
+// Whether a list runs that has so many ODTs.
+pub fn runs_with(s: &[u8], l: u8, odts: u16) -> bool
+    requires { ⌜ (length (now s) ≡ size) × (l < listCount (now s)) × (odts ≡ odtCount (now s) l) ⌝ }
+    ensures { λ r. ⌜ r ≡ runsOf (now (s .entry)) l ⌝ }
+{
+    if odts == 0 {
+        return false;
+    }
+    started(s, l)
+}
+
 pub fn runs(s: &[u8], l: u8) -> bool
     requires { ⌜ (length (now s) ≡ size) × (l < listCount (now s)) ⌝ }
     ensures { λ r. ⌜ r ≡ runsOf (now (s .entry)) l ⌝ }
@@ -150,18 +161,8 @@ pub fn runs(s: &[u8], l: u8) -> bool
     if !started(s, l) {
         return false;
     }
-    fit(s, l, spans::span(s, l))
-}
-
-// The same where the list's ODTs are known.
-pub fn runs_from(s: &[u8], l: u8, odt: u16, odts: u16) -> bool
-    requires { ⌜ (length (now s) ≡ size) × (l < listCount (now s)) × (odt ≡ firstOdt (now s) l) × (odts ≡ odtCount (now s) l) × (odt + odts ≤ allOdts) ⌝ }
-    ensures { λ r. ⌜ r ≡ runsOf (now (s .entry)) l ⌝ }
-{
-    if !started(s, l) {
-        return false;
-    }
-    fit(s, l, spans::span_from(s, l, odt, odts))
+    let first = spans::first_odt(s, l);
+    0 < spans::odts_in(s, l, first)
 }
 
 pub fn any_runs(s: &[u8]) -> bool
@@ -179,18 +180,37 @@ pub fn any_runs(s: &[u8]) -> bool
     false
 }
 
-// Whether a list that is selected can be started.
+// Whether some list was started.
+pub fn any_started(s: &[u8]) -> bool
+    requires { ⌜ length (now s) ≡ size ⌝ }
+    ensures { λ r. ⌜ r ≡ someStarted (sessionOf (now (s .entry))) (listCount (now (s .entry))) ⌝ }
+{
+    let n = pool::list_count(s);
+    let mut l = 0;
+    while l < n {
+        if on(s, layout::running_at(l as u16)) {
+            return true;
+        }
+        l += 1;
+    }
+    false
+}
+
+// Whether a list that is selected runs or can be started.
 fn may_start(s: &[u8], l: u8) -> bool
     requires { ⌜ (length (now s) ≡ size) × (l < listCount (now s)) ⌝ }
     ensures { λ r. ⌜ r ≡ startable (sessionOf (now (s .entry))) l ⌝ }
 {
-    if selected(s, l) {
-        return fit(s, l, spans::span(s, l));
+    if !selected(s, l) {
+        return true;
     }
-    true
+    if runs(s, l) {
+        return true;
+    }
+    fit(s, l, spans::span(s, l))
 }
 
-// Whether every selected list can be started.
+// Whether every selected list runs or can be started.
 pub fn all_fit(s: &[u8]) -> bool
     requires { ⌜ length (now s) ≡ size ⌝ }
     ensures { λ r. ⌜ r ≡ allStartable (sessionOf (now (s .entry))) (listCount (now (s .entry))) ⌝ }
@@ -220,14 +240,14 @@ pub fn stored_length(s: &[u8], k: u16) -> u8
     n
 }
 
-// Whether a list still has an unsent packet.
-pub fn is_unsent(s: &[u8], l: u8, span: Span) -> bool
-    requires { ⌜ (length (now s) ≡ size) × (l < listCount (now s)) × Spans (now s) l (span .odt) (span .odts) (span .entry) ⌝ }
+// Whether a list with n ODTs, of which k is the first, still has an unsent packet.
+pub fn is_unsent(s: &[u8], l: u8, k: u16, n: u16) -> bool
+    requires { ⌜ (length (now s) ≡ size) × (l < listCount (now s)) × (k ≡ firstOdt (now s) l) × (n ≡ odtCount (now s) l) × (k + n ≤ allOdts) ⌝ }
     ensures { λ r. ⌜ r ≡ unsent (sessionOf (now (s .entry)) .list l) ⌝ }
 {
     let mut o: u16 = 0;
-    while o < span.odts {
-        if 0 < stored_length(s, span.odt + o) {
+    while o < n {
+        if 0 < stored_length(s, k + o) {
             return true;
         }
         o += 1;

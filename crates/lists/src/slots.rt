@@ -1,15 +1,15 @@
 // A sending slot: whose turn it is, and one frame.
 ghost use mathlib.Core.Path.{_≡_};
-ghost use mathlib.Core.Bool.{cond, not, false};
-ghost use Prim.Native.Nat.{_+_, _≤_, _<_};
+ghost use mathlib.Core.Bool.{cond, not, true, false};
+ghost use Prim.Native.Nat.{_+_, _-_, _≤_, _<_};
 ghost use lib.Dec.{eqb};
 ghost use lib.ListN.{length};
 ghost use Rattle.state.specs.Layout.{lists, allOdts, lastAt, size};
 ghost use Rattle.state.specs.Pool.{listCount, firstOdt, odtCount};
-ghost use Rattle.state.specs.State.{waits, flagOf};
+ghost use Rattle.state.specs.State.{openOf, waits, flagOf};
 ghost use Rattle.model.specs.Calls.{firstPacket, packetIn, orElse, roundIn, listAfter};
 ghost use Rattle.model.specs.View.{sessionOf};
-ghost use Rattle.lists.specs.Slot.{turnOf, slottedAs, sentBy, Sends, slotOf};
+ghost use Rattle.lists.specs.Slot.{turnOf, numberedIn, slottedAs, sentBy, Sends, slotOf};
 use crate::list;
 use crate::spans;
 use line::Written;
@@ -19,37 +19,30 @@ use state::layout;
 use state::pool;
 use words::Slotted;
 
-// The first packet in store of a list with n ODTs, of which k is the first.
+// The first packet in store of a list with n ODTs, of which k is the first. It is named by its ODT's number.
 fn first_stored(s: &[u8], l: u8, k: u16, n: u16) -> Turn
     requires { ⌜ (length (now s) ≡ size) × (l < listCount (now s)) × (k ≡ firstOdt (now s) l) × (n ≡ odtCount (now s) l) × (k + n ≤ allOdts) ⌝ }
-    ensures { λ r. ⌜ r ≡ firstPacket l (sessionOf (now (s .entry)) .list l) 0 (odtCount (now (s .entry)) l) ⌝ }
+    ensures { λ r. ⌜ r ≡ numberedIn (now (s .entry)) (firstPacket l (sessionOf (now (s .entry)) .list l) 0 (odtCount (now (s .entry)) l)) ⌝ }
 {
-    let mut o: u16 = 0;
+    let mut at = k;
     let mut left = n;
     while 0 < left {
-        if 0 < list::stored_length(s, k + o) {
-            return Turn::Packet(l, o as u8);
+        if 0 < list::stored_length(s, at) {
+            return Turn::Packet(l, at as u8);
         }
-        o += 1;
+        at += 1;
         left -= 1;
     }
     Turn::Nobody
 }
 
-// A list's next packet. Whether the list runs is asked in full only where it has one: that goes through its entries.
+// A list's next packet, in a session that is open: one without ODTs has none, whether it was started or not.
 fn packet_in(s: &[u8], l: u8, k: u16, n: u16) -> Turn
-    requires { ⌜ (length (now s) ≡ size) × (l < listCount (now s)) × (k ≡ firstOdt (now s) l) × (n ≡ odtCount (now s) l) × (k + n ≤ allOdts) ⌝ }
-    ensures { λ r. ⌜ r ≡ packetIn (sessionOf (now (s .entry))) l ⌝ }
+    requires { ⌜ (length (now s) ≡ size) × (openOf (now s) ≡ true) × (l < listCount (now s)) × (k ≡ firstOdt (now s) l) × (n ≡ odtCount (now s) l) × (k + n ≤ allOdts) ⌝ }
+    ensures { λ r. ⌜ r ≡ numberedIn (now (s .entry)) (packetIn (sessionOf (now (s .entry))) l) ⌝ }
 {
-    if !list::on(s, layout::running_at(l as u16)) {
-        return Turn::Nobody;
-    }
-    let turn = first_stored(s, l, k, n);
-    if let Turn::Nobody = turn {
-        return Turn::Nobody;
-    }
-    if list::runs_from(s, l, k, n) {
-        return turn;
+    if list::on(s, layout::running_at(l as u16)) {
+        return first_stored(s, l, k, n);
     }
     Turn::Nobody
 }
@@ -75,10 +68,10 @@ fn first_after(l: u8, k: u16) -> u16
     k
 }
 
-// The next list that has a packet, from the one with which the round begins. Its first ODT is kept on the way.
+// The next list that has a packet, from the one with which the round begins, in a session that is open. Its first ODT is kept on the way.
 fn round(s: &[u8]) -> Turn
-    requires { ⌜ length (now s) ≡ size ⌝ }
-    ensures { λ r. ⌜ r ≡ roundIn (sessionOf (now (s .entry))) ⌝ }
+    requires { ⌜ (length (now s) ≡ size) × (openOf (now s) ≡ true) ⌝ }
+    ensures { λ r. ⌜ r ≡ numberedIn (now (s .entry)) (roundIn (sessionOf (now (s .entry)))) ⌝ }
 {
     let count = pool::list_count(s);
     let mut l = pool::round(s);
@@ -130,15 +123,25 @@ fn answer_behind(s: &[u8]) -> Turn
     Turn::Nobody
 }
 
-// The round has one caller, so that it stands in its place when compiled.
+// The lists' turn: without an open session no list runs. The round has one caller, so that it stands in its place when compiled.
+fn lists_turn(s: &[u8]) -> Turn
+    requires { ⌜ length (now s) ≡ size ⌝ }
+    ensures { λ r. ⌜ r ≡ numberedIn (now (s .entry)) (roundIn (sessionOf (now (s .entry)))) ⌝ }
+{
+    if list::on(s, layout::OPEN) {
+        return round(s);
+    }
+    Turn::Nobody
+}
+
 fn turn(s: &[u8]) -> Turn
     requires { ⌜ length (now s) ≡ size ⌝ }
-    ensures { λ r. ⌜ r ≡ turnOf (now (s .entry)) ⌝ }
+    ensures { λ r. ⌜ r ≡ numberedIn (now (s .entry)) (turnOf (now (s .entry))) ⌝ }
 {
     if answer_first(s) {
         return Turn::Answer;
     }
-    or_else(round(s), answer_behind(s))
+    or_else(lists_turn(s), answer_behind(s))
 }
 
 fn slotted(written: Written) -> Slotted
@@ -167,16 +170,15 @@ fn send_answer(s: &mut [u8], out: &mut [u8]) -> Slotted
     slotted(written)
 }
 
-// A packet's frame. The ODT's number goes where its length stood, before the bytes.
-fn send_packet(s: &mut [u8], out: &mut [u8], l: u8, odt: u8) -> Slotted
-    requires { ⌜ (length (now s) ≡ size) × (l < listCount (now s)) × (odt < odtCount (now s) l) ⌝ }
-    ensures { λ r. ⌜ Sends (sentBy (Turn.Packet l odt) (now (s .entry)) (now (out .entry))) r (now (s .exit)) (now (out .exit)) ⌝ }
+// The frame of the packet of ODT k, which is list l's. The number goes where the packet's length stood, before the bytes.
+fn send_packet(s: &mut [u8], out: &mut [u8], l: u8, k: u8) -> Slotted
+    requires { ⌜ (length (now s) ≡ size) × (l < listCount (now s)) × (firstOdt (now s) l ≤ k) × (k < firstOdt (now s) l + odtCount (now s) l) ⌝ }
+    ensures { λ r. ⌜ Sends (sentBy (Turn.Packet l (k - firstOdt (now (s .entry)) l)) (now (s .entry)) (now (out .entry))) r (now (s .exit)) (now (out .exit)) ⌝ }
 {
-    let k = spans::first_odt(s, l) + odt as u16;
-    let at = layout::sample_at(k);
-    let n = list::stored_length(s, k) as usize;
+    let at = layout::sample_at(k as u16);
+    let n = list::stored_length(s, k as u16) as usize;
     let ctr = s[layout::CTR];
-    s[at] = k as u8;
+    s[at] = k;
     let end = at + 1 + n;
     let written = line::write(&s[at..end], ctr, out);
     s[at] = 0;
@@ -194,7 +196,7 @@ fn send(s: &mut [u8], out: &mut [u8]) -> Slotted
     match t {
         Turn::Nobody => Slotted::Idle,
         Turn::Answer => send_answer(s, out),
-        Turn::Packet(l, odt) => send_packet(s, out, l, odt),
+        Turn::Packet(l, k) => send_packet(s, out, l, k),
     }
 }
 

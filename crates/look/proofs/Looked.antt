@@ -69,6 +69,7 @@ seeing-all l o s whole = record {
   entriesTaken = sym (entries-taken s);
   pointed = pointer-named s (pointerOf s) whole;
   ready = rw (eq-eqb (length s) size whole);
+  started = rw (eq-eqb (length s) size whole);
 }
 
 -- of the list, and of its ODT

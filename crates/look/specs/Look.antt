@@ -7,7 +7,7 @@ use Rattle.state.specs.Layout.{packetAt}
 use Rattle.state.specs.Bytes.{u16At, u32At}
 use Rattle.state.specs.Pool.{freedOf, listCount, odtTotal, entryTotal}
 use Rattle.state.specs.State.{generatorOf, wrongKeysOf, unlockedOf, seedOf, mtaOf, pointerOf}
-use Rattle.lists.specs.Lists.{runsNamed, fitsNamed, ready}
+use Rattle.lists.specs.Lists.{runsNamed, fitsNamed, anyStarted, ready}
 use Rattle.words.specs.declared.Resource.the-variants.{Calibration, Lists}
 use Rattle.words.specs.declared.Pointer.{Pointer}
 use Rattle.words.specs.declared.Pointer.the-variants.{Unset as NoEntry, At as Entry}
@@ -59,6 +59,7 @@ lookedAt s = record {
   fits = fitsNamed s (u16At s (packetAt + 2));
   pointed = pointedNamed (pointerOf s) s;
   ready = ready s;
+  started = anyStarted s;
 }
 
 -- what the command in packet p leads to, by what the state shows

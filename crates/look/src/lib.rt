@@ -3,7 +3,7 @@
 ghost use mathlib.Core.Path.{_≡_};
 ghost use Rattle.state.specs.Pool.{freedOf, listCount, odtTotal, entryTotal};
 ghost use Rattle.state.specs.State.{generatorOf, seedOf, pointerOf};
-ghost use Rattle.lists.specs.Lists.{runsNamed, fitsNamed, ready};
+ghost use Rattle.lists.specs.Lists.{runsNamed, fitsNamed, anyStarted, ready};
 ghost use Rattle.model.specs.Judge.{unlockBy, clearDeed, pointerDeed, modeDeed, startStopDeed, synchDeed, writeDeed, allocListsDeed, allocOdtsDeed, allocEntriesDeed, judgeThe, lockedBy, judgeBy, judge};
 ghost use Rattle.model.specs.View.{sessionOf};
 ghost use Rattle.look.specs.Look.{numbersAt, pointedNamed, lookedAt};
@@ -120,14 +120,14 @@ fn alloc_lists(s: &[u8], n: u16) -> Deed
 }
 
 fn alloc_odts(s: &[u8], l: u16, n: u8) -> Deed
-    ensures { λ r. ⌜ r ≡ allocOdtsDeed (listCount (now (s .entry))) (sessionOf (now (s .entry)) .list l .odts) (odtTotal (now (s .entry))) (entryTotal (now (s .entry))) (runsNamed (now (s .entry)) l) l n ⌝ }
+    ensures { λ r. ⌜ r ≡ allocOdtsDeed (listCount (now (s .entry))) (sessionOf (now (s .entry)) .list l .odts) (odtTotal (now (s .entry))) (entryTotal (now (s .entry))) (anyStarted (now (s .entry))) l n ⌝ }
 {
     checks::alloc_odts(
         pool::list_count(s),
         asked::odts(s, l),
         pool::odt_total(s),
         pool::entry_total(s),
-        asked::runs(s, l),
+        asked::any_started(s),
         l,
         n,
     )

@@ -1,9 +1,12 @@
--- Whether a list can be started and runs depends on its mode, its entries and whether it was started, not on what waits of it. Assumes nothing.
+-- Whether a list can be started depends on its mode and its entries, and whether it runs on that it was started and has an ODT; neither on what waits
+-- of it. One that can be started has an ODT. Assumes nothing.
 use Prim.Native.Nat.{ℕ, zero, suc, _+_, _≤_, _<_}
-use mathlib.Core.Path.{_≡_, refl, ap, ap₂, _∙_}
-use mathlib.Core.Bool.{Bool, false, cond}
+use mathlib.Core.Path.{_≡_, refl, sym, ap, ap₂, _∙_}
+use mathlib.Core.Bool.{Bool, true, false, cond}
 use native.Mathlib.Omega.{arith}
-use lib.Dec.{eqb, leb}
+use borrow.Author.Tests.{lt-ltb}
+use lib.Dec.{eqb, ltb, leb}
+use Rattle.line.proofs.Laws.{false-true, cond-ind}
 use Rattle.state.specs.Layout.{odtMost}
 use Rattle.model.specs.Model.{Entry, Odt, DaqList, sizesOf, bytesIn, allBytes, eachFits, fits, runs}
 
@@ -33,10 +36,6 @@ module _ (x z : DaqList) (bytes : (o : ℕ) → o < z .odts → bytesIn (x .odt 
       ap₂ (λ (m : ℕ) (b : Bool). cond (eqb m 0) false b) e
       (ap₂ (λ (m : ℕ) (b : Bool). cond (eqb m 0) false b) (ap (allBytes x) m ∙ all-alike (z .odts) (omega arith)) (ap (eachFits x) m ∙ each-alike (z .odts) (omega arith)))
 
-  pub runs-alike : (opened : Bool) → x .mode ≡ z .mode → x .odts ≡ z .odts → x .started ≡ z .started → runs opened x ≡ runs opened z
-  unfolding runs
-  runs-alike opened e m f = ap₂ (λ (a b : Bool). cond opened (cond a b false) false) f (fits-alike e m)
-
 -- by their entries
 module _ (x z : DaqList) (counts : (o : ℕ) → o < z .odts → x .odt o .entries ≡ z .odt o .entries) (same : (o : ℕ) → o < z .odts → x .odt o .entry ≡ z .odt o .entry) where
   bytes-alike : (o : ℕ) → o < z .odts → bytesIn (x .odt o) ≡ bytesIn (z .odt o)
@@ -45,5 +44,19 @@ module _ (x z : DaqList) (counts : (o : ℕ) → o < z .odts → x .odt o .entri
   pub fits-same : x .mode ≡ z .mode → x .odts ≡ z .odts → fits x ≡ fits z
   fits-same = fits-alike x z bytes-alike
 
-  pub runs-same : (opened : Bool) → x .mode ≡ z .mode → x .odts ≡ z .odts → x .started ≡ z .started → runs opened x ≡ runs opened z
-  runs-same = runs-alike x z bytes-alike
+pub runs-same : (x z : DaqList) (opened : Bool) → x .odts ≡ z .odts → x .started ≡ z .started → runs opened x ≡ runs opened z
+unfolding runs
+runs-same x z opened n f = ap₂ (λ (a : Bool) (m : ℕ). cond opened (cond a (ltb 0 m) false) false) f n
+
+-- no ODT has no byte
+pub fits-has : (x : DaqList) → fits x ≡ true → ltb 0 (x .odts) ≡ true
+unfolding fits allBytes
+fits-has x e = by (x .odts) e where
+  by : (n : ℕ) → cond (eqb (x .mode) 0) false (cond (eqb (allBytes x n) 0) false (eachFits x n)) ≡ true → ltb 0 n ≡ true
+  by zero f = absurd (false-true (sym (cond-ind (λ (b : Bool). b ≡ false) (eqb (x .mode) 0) (λ _. refl) (λ _. refl)) ∙ f))
+  by (suc n) f = lt-ltb 0 (suc n) (omega arith)
+
+-- one that fits and was started runs in an open session
+pub fit-runs : (x : DaqList) (opened : Bool) → opened ≡ true → x .started ≡ true → fits x ≡ true → runs opened x ≡ true
+unfolding runs
+fit-runs x opened o s f = rw (o, s) (fits-has x f)

@@ -2,3 +2,4 @@
 pub mod Bounded
 pub mod Shown
 pub mod Fits
+pub mod Room

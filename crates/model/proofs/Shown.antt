@@ -62,8 +62,12 @@ module _ (s : List ℕ) where
   unlisted-fits l h = rw (no-list l h)
 
   pub unlisted-runs : (l : ℕ) → listCount s ≤ l → runsIn (sessionOf s) l ≡ false
-  unfolding runs fits
+  unfolding runs
   unlisted-runs l h = rw (no-list l h) (cond-ind (λ (b : Bool). b ≡ false) (sessionOf s .opened) (λ _. refl) (λ _. refl))
+
+pub open-at : (s : List ℕ) → sessionOf s .opened ≡ openOf s
+unfolding sessionOf
+open-at s = refl
 
 -- a list that there is
 module _ (s : List ℕ) (l : ℕ) (there : l < listCount s) where
@@ -90,12 +94,12 @@ module _ (s : List ℕ) (l : ℕ) (there : l < listCount s) where
   unfolding fits
   fits-at = rw (mode-at, odts-at)
 
-  pub runs-at : runsIn (sessionOf s) l ≡ cond (openOf s) (cond (flagOf s (runningAt l)) (fits (sessionOf s .list l)) false) false
+  pub runs-at : runsIn (sessionOf s) l ≡ cond (openOf s) (cond (flagOf s (runningAt l)) (ltb 0 (odtCount s l)) false) false
   unfolding runs sessionOf
-  runs-at = ap (λ (b : Bool). cond (openOf s) (cond b (fits (listsOf s l)) false) false) started-at
+  runs-at = ap₂ (λ (b : Bool) (n : ℕ). cond (openOf s) (cond b (ltb 0 n) false) false) started-at odts-at
 
-  pub startable-at : startable (sessionOf s) l ≡ cond (selectedOf s l) (fits (sessionOf s .list l)) true
-  startable-at = ap (λ (b : Bool). cond b (fits (sessionOf s .list l)) true) selected-at
+  pub startable-at : startable (sessionOf s) l ≡ cond (selectedOf s l) (cond (runsIn (sessionOf s) l) true (fits (sessionOf s .list l))) true
+  startable-at = ap (λ (b : Bool). cond b (cond (runsIn (sessionOf s) l) true (fits (sessionOf s .list l))) true) selected-at
 
   pub sampling-at : (event : ℕ) → samplingIn (sessionOf s) l event ≡ cond (eqb (modeOf s l) (event + 1)) (cond (runsIn (sessionOf s) l) (cond (unsent (sessionOf s .list l)) Missed Sampled) Idle) Idle
   unfolding samplingIn

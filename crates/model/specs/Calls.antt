@@ -2,19 +2,19 @@
 use Prim.Native.Nat.{ℕ, zero, suc, _+_, _%_, _/_}
 use mathlib.Core.Bool.{true, false, cond}
 use mathlib.Core.List.{List, [], _∷_, _++_}
-use lib.Dec.{eqb, ltb}
+use lib.Dec.{eqb, ltb, leb}
 use lib.ListN.{replicate}
 use Rattle.line.specs.Message.{longest}
 use Rattle.line.specs.declared.Place.{Place}
 use Rattle.line.specs.declared.Place.the-variants.{Outside}
-use Rattle.state.specs.Layout.{isFirst}
+use Rattle.state.specs.Layout.{isFirst, odtMost}
 use Rattle.state.specs.Generator.{startOf}
 use Rattle.state.specs.Memory.{pick, bytesOf}
 use Rattle.model.specs.declared.Sampling.{Sampling}
 use Rattle.model.specs.declared.Sampling.the-variants.{Idle, Sampled, Missed}
 use Rattle.model.specs.declared.Turn.{Turn}
 use Rattle.model.specs.declared.Turn.the-variants.{Nobody, Answer, Packet}
-use Rattle.model.specs.Model.{put, Entry, Odt, DaqList, Session, Slave, blank, firstOf, runsIn, hasAnswer, hasPacket, unsent}
+use Rattle.model.specs.Model.{put, Entry, Odt, DaqList, Session, Slave, blank, firstOf, sizesOf, runsIn, hasAnswer, hasPacket, unsent}
 use Rattle.model.specs.Step.{emptied, at}
 
 abbrev pub withAnswer : Slave → List ℕ → Slave
@@ -105,12 +105,20 @@ unfoldable pub blocksIn : Odt → List ℕ → List ℕ → ℕ → List ℕ
 blocksIn y cal meas zero = []
 blocksIn y cal meas (suc n) = blocksIn y cal meas n ++ blockIn (y .entry n) cal meas
 
+-- how many of an ODT's first n entries go into so many bytes: in order, up to the first for which there is no room
+unfoldable pub taken : ℕ → Odt → ℕ → ℕ
+taken room y zero = 0
+taken room y (suc n) = cond (leb (sizesOf y (suc n)) room) (suc n) (taken room y n)
+
+abbrev pub takenIn : ℕ → Odt → ℕ
+takenIn o y = taken (odtMost o) y (y .entries)
+
 -- the packet of a list's ODT o, without its number: in the first one the clock, then the bytes
 abbrev pub leadOf : ℕ → ℕ → List ℕ
 leadOf o clock = cond (isFirst o) (clock % 256 ∷ clock / 256 % 256 ∷ []) []
 
 unfoldable pub contentsIn : ℕ → ℕ → List ℕ → List ℕ → Odt → List ℕ
-contentsIn o clock cal meas y = leadOf o clock ++ blocksIn y cal meas (y .entries)
+contentsIn o clock cal meas y = leadOf o clock ++ blocksIn y cal meas (takenIn o y)
 
 abbrev pub withPacket : List ℕ → Odt → Odt
 withPacket bs y = record { entries = y .entries; entry = y .entry; store = bs }

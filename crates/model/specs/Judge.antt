@@ -10,7 +10,7 @@ use Rattle.state.specs.Bytes.{u16At}
 use Rattle.state.specs.Generator.{keyOf, staysShut}
 use Rattle.state.specs.Memory.{pick, insideOf}
 use Rattle.words.specs.Command.{commandOf, fewest, needsOf}
-use Rattle.model.specs.Model.{Session, odtsTaken, entriesTaken, fits, runsIn}
+use Rattle.model.specs.Model.{Session, odtsTaken, entriesTaken, fits, runsIn, someStarted}
 use Rattle.model.specs.Seen.{Packet, numbersOf, Seen}
 use Rattle.words.specs.declared.Needs.{Needs}
 use Rattle.words.specs.declared.Needs.the-variants as needs
@@ -160,7 +160,7 @@ modeDeed present runs mode l event prescaler priority =
     (deed.Refuse OutOfRange))))
     (deed.Refuse OutOfRange)
 
--- START_STOP_DAQ_LIST; a list that runs could be started
+-- START_STOP_DAQ_LIST; of a list that runs no more is asked
 unfoldable pub startDeed : Bool → Bool → ℕ → Deed
 startDeed runs fit l =
     cond runs (deed.KeepRunning l)
@@ -193,15 +193,15 @@ allocListsDeed freed present n =
     (deed.AllocLists n))))
     (deed.Refuse Sequence)
 
--- ALLOC_ODT: first ALLOC_DAQ, no ALLOC_ODT_ENTRY yet, and once for a list. A list that runs has entries, so that it is refused before that is asked
+-- ALLOC_ODT: first ALLOC_DAQ, no ALLOC_ODT_ENTRY yet, no list started, and once for a list. A list without ODTs does not run, so that it is not asked
 unfoldable pub allocOdtsDeed : ℕ → ℕ → ℕ → ℕ → Bool → ℕ → ℕ → Deed
-allocOdtsDeed present odts taken entries runs l n =
+allocOdtsDeed present odts taken entries started l n =
     cond (eqb present 0) (deed.Refuse Sequence)
     (cond (ltb 0 entries) (deed.Refuse Sequence)
     (cond (ltb 0 odts) (deed.Refuse Sequence)
+    (cond started (deed.Refuse Sequence)
     (cond (leb present l) (deed.Refuse OutOfRange)
     (cond (eqb n 0) (deed.Refuse OutOfRange)
-    (cond runs (deed.Refuse ListRuns)
     (cond (ltb allOdts (taken + n)) (deed.Refuse PoolFull)
     (deed.AllocOdts l n)))))))
 
@@ -241,7 +241,7 @@ judgeThe GetDaqProcessorInfo p v nc nm = deed.ProcessorInfo
 judgeThe GetDaqResolutionInfo p v nc nm = deed.ResolutionInfo
 judgeThe FreeDaq p v nc nm = deed.FreeLists
 judgeThe AllocDaq p v nc nm = allocListsDeed (v .freed) (v .present) (p .w2)
-judgeThe AllocOdt p v nc nm = allocOdtsDeed (v .present) (v .odts) (v .odtsTaken) (v .entriesTaken) (v .runs) (p .w2) (p .b4)
+judgeThe AllocOdt p v nc nm = allocOdtsDeed (v .present) (v .odts) (v .odtsTaken) (v .entriesTaken) (v .started) (p .w2) (p .b4)
 judgeThe AllocOdtEntry p v nc nm = allocEntriesDeed (v .odts) (v .entries) (v .odtsTaken) (v .entriesTaken) (v .runs) (p .w2) (p .b4) (p .b5)
 
 -- the lock that a command needs is shut
@@ -266,9 +266,9 @@ abbrev pub pointedIn : Pointer → Session → Bool
 pointedIn NoEntry c = false
 pointedIn (Entry l o e) c = runsIn c l
 
--- every selected one of the first n lists can be started
+-- every selected one of the first n lists runs or can be started
 abbrev pub startable : Session → ℕ → Bool
-startable c l = cond (c .list l .selected) (fits (c .list l)) true
+startable c l = cond (c .list l .selected) (cond (runsIn c l) true (fits (c .list l))) true
 
 unfoldable pub allStartable : Session → ℕ → Bool
 allStartable c zero = true
@@ -294,6 +294,7 @@ seenIn l o c = record {
   fits = fits (c .list l);
   pointed = pointedIn (c .pointer) c;
   ready = allStartable c (c .lists);
+  started = someStarted c (c .lists);
 }
 
 -- what the command in packet p leads to

@@ -116,7 +116,7 @@ entriesBefore f (suc n) = entriesBefore f n + entriesOf (f n) (f n .odts)
 abbrev pub entriesTaken : Session → ℕ
 entriesTaken c = entriesBefore (c .list) (c .lists)
 
--- ---- whether a list can be started, and whether it runs
+-- ---- whether a list can be started, which a start asks, and whether it runs
 -- the bytes of an ODT's first n entries, and of an ODT
 unfoldable pub sizesOf : Odt → ℕ → ℕ
 sizesOf y zero = 0
@@ -141,9 +141,9 @@ fits x =
     (cond (eqb (allBytes x (x .odts)) 0) false
     (eachFits x (x .odts)))
 
--- a session is open, the list was started and could be started
+-- a session is open, the list was started, and it has an ODT
 unfoldable pub runs : Bool → DaqList → Bool
-runs opened x = cond opened (cond (x .started) (fits x) false) false
+runs opened x = cond opened (cond (x .started) (ltb 0 (x .odts)) false) false
 
 abbrev pub runsIn : Session → ℕ → Bool
 runsIn c l = runs (c .opened) (c .list l)
@@ -152,6 +152,11 @@ runsIn c l = runs (c .opened) (c .list l)
 unfoldable pub someRuns : Session → ℕ → Bool
 someRuns c zero = false
 someRuns c (suc n) = cond (someRuns c n) true (runsIn c n)
+
+-- some of the first n lists was started
+unfoldable pub someStarted : Session → ℕ → Bool
+someStarted c zero = false
+someStarted c (suc n) = cond (someStarted c n) true (c .list n .started)
 
 -- ---- an answer waits
 abbrev pub hasAnswer : Slave → Bool

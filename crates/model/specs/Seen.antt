@@ -44,7 +44,7 @@ numbersOf p = record {
 
 -- wrong keys since power-up; calibration and lists are unlocked; the lists were freed, how many there are, and what of the pool is taken; how many ODTs the list
 -- that w2 names has, and how many entries its ODT that b4 names; that list runs, and it could be started; the pointer's list runs; every selected list
--- could be started
+-- runs or could be started; some list was started
 pub record Seen : Type 0 where
   pub wrongKeys : ℕ
   pub calibration : Bool
@@ -63,3 +63,4 @@ pub record Seen : Type 0 where
   pub fits : Bool
   pub pointed : Bool
   pub ready : Bool
+  pub started : Bool

@@ -90,7 +90,7 @@ pub fn bytes(s: &mut [u8], mem: &[u8], at: usize, n: u8)
 {
     s[layout::ANSWER] = n + 1;
     s[layout::ANSWER_BYTES] = 0xFF;
-    copy(s, layout::ANSWER_1, mem, at, n as usize);
+    copy(s, layout::ANSWER_1, mem, at, n);
 }
 
 // FE and the reason's code.

@@ -1,5 +1,6 @@
 -- Laws that the functions' proofs cite.
 pub mod Sets
+pub mod Copies
 pub mod Rotated
 pub mod Xorshift
 pub mod Inside

@@ -41,18 +41,17 @@ use Rattle.model.specs.declared.Sampling.{Sampling}
 use Rattle.model.specs.declared.Sampling.the-variants.{Idle, Sampled, Missed}
 use Rattle.model.specs.declared.Turn.{Turn}
 use Rattle.model.specs.declared.Turn.the-variants.{Nobody, Answer, Packet}
-use Rattle.model.specs.Model.{Bytes, Odt, firstOf, someRuns, eachFits}
+use Rattle.model.specs.Model.{Bytes, Odt, firstOf, someRuns}
 use Rattle.model.specs.Heed.{Heeding, goodConnect, heedingIn}
 use Rattle.model.specs.Step.{unlock, nextEntry}
 use Rattle.model.specs.Answers.{replyIn, Write, writes, memoryAfter}
-use Rattle.model.specs.Calls.{blockIn, blocksIn, leadOf, contentsIn, packetFrom}
+use Rattle.model.specs.Calls.{blockIn, blocksIn, leadOf, takenIn, contentsIn, packetFrom}
 use Rattle.model.specs.View.{odtOf, sessionOf}
 use Rattle.model.proofs.Shown.{first-of, packet-by}
 use Rattle.judge.specs.Doable.{Entered, Doable}
 use Rattle.lists.specs.Lists.{entrySet}
 use Rattle.lists.specs.Event.{samplingOf, contentsOf, stored, capturedOdts, sampledState, tally, Happened, eventOf}
 use Rattle.lists.specs.Slot.{turnOf, Slot, ctrNext, answerSent, roundAfter, packetSent, sentBy, slotOf}
-use Rattle.lists.proofs.Fitting.{Fitting, sampling-fits, fit-each}
 use Rattle.lists.proofs.Gathered.{contents-most}
 use Rattle.lists.proofs.Sending.{Within, turn-within}
 use Rattle.look.specs.Look.{judgeOf}
@@ -60,8 +59,6 @@ use Rattle.session.specs.Perform.{entryWritten, effect, reply}
 use Rattle.session.specs.PowerUp.{powered, powerUpOf}
 use Rattle.session.specs.Receive.{Step, obeyed, heededBy, heeded, meant, readOn, fedOf, receiveOf}
 use Rattle.look.proofs.Looked.{judged-doable}
-use Rattle.fields.proofs.Readers.{apart, listCount-reads}
-use Rattle.fields.proofs.Captures.{only-tally}
 use Rattle.fields.proofs.Effects.{list-there, odt-there, entry-there, answering}
 use Rattle.views.proofs.Bytes.{bytes-cons, bytes-four, bytes-set, bytes-block, fed-bytes}
 use Rattle.views.proofs.Effect.{next-pointed}
@@ -284,31 +281,30 @@ module _ (cal meas : List ℕ) (wc : Bytes cal) (wm : Bytes meas) where
   bytes-contents : (o clock : ℕ) (y : Odt) → Bytes (contentsIn o clock cal meas y)
   unfolding contentsIn
   bytes-contents o clock y =
-      bytes-append (leadOf o clock) (blocksIn y cal meas (y .entries))
+      bytes-append (leadOf o clock) (blocksIn y cal meas (takenIn o y))
       (cond-ind Bytes (isFirst o) (λ _. bytes-cons (clock % 256) (clock / 256 % 256 ∷ []) (mod-lt clock (lit< tt)) (one-byte (clock / 256 % 256) (mod-lt (clock / 256) (lit< tt)))) (λ _. no-bytes))
-      (bytes-blocks y (y .entries))
+      (bytes-blocks y (takenIn o y))
 
-  bytes-captured : (s : List ℕ) (l clock n : ℕ) → l < listCount s → eachFits (sessionOf s .list l) (sessionOf s .list l .odts) ≡ true → n ≤ odtCount s l → Bytes s → Bytes (capturedOdts s (firstOdt s l) clock cal meas n)
+  bytes-captured : (s : List ℕ) (l clock n : ℕ) → Bytes s → Bytes (capturedOdts s (firstOdt s l) clock cal meas n)
   unfolding capturedOdts
-  bytes-captured s l clock zero there fit h w = w
-  bytes-captured s l clock (suc n) there fit h w =
+  bytes-captured s l clock zero w = w
+  bytes-captured s l clock (suc n) w =
       let k : ℕ = firstOdt s l in
       bytes-stored (capturedOdts s k clock cal meas n) (k + n) (contentsOf s k n clock cal meas)
-      (contents-most s k n clock cal meas (fit-each s l n there fit (omega arith))) (bytes-contents n clock _) (bytes-captured s l clock n there fit (omega arith) w)
+      (contents-most s k n clock cal meas) (bytes-contents n clock _) (bytes-captured s l clock n w)
 
-  bytes-sampled : (c : Sampling) (s : List ℕ) (l clock : ℕ) → l < listCount s → Fitting s l c → Bytes s → Bytes (sampledState c s l clock cal meas)
+  bytes-sampled : (c : Sampling) (s : List ℕ) (l clock : ℕ) → Bytes s → Bytes (sampledState c s l clock cal meas)
   unfolding sampledState
-  bytes-sampled Idle s l clock there fit w = w
-  bytes-sampled Sampled s l clock there fit w = bytes-captured s l clock (odtCount s l) there fit (omega arith) w
-  bytes-sampled Missed s l clock there fit w = w
+  bytes-sampled Idle s l clock w = w
+  bytes-sampled Sampled s l clock w = bytes-captured s l clock (odtCount s l) w
+  bytes-sampled Missed s l clock w = w
 
   bytes-tally : (s : List ℕ) (event clock n : ℕ) → n ≤ listCount s → Bytes s → Bytes (tally s event clock cal meas n .state)
   unfolding tally
   bytes-tally s event clock zero h w = w
   bytes-tally s event clock (suc n) h w =
       let t : List ℕ = tally s event clock cal meas n .state in
-      let there : n < listCount t = rw (listCount-reads (apart tt (only-tally s event clock cal meas n (omega arith)))) h in
-      bytes-sampled (samplingOf t n event) t n clock there (sampling-fits t n event) (bytes-tally s event clock n (omega arith) w)
+      bytes-sampled (samplingOf t n event) t n clock (bytes-tally s event clock n (omega arith) w)
 
 pub event-bytes : (s cal meas : List ℕ) (event clock : ℕ) → Bytes s → Bytes cal → Bytes meas → Bytes (eventOf s cal meas event clock .state)
 unfolding eventOf

@@ -24,7 +24,6 @@ use Rattle.state.specs.Lists.{storedLength}
 use Rattle.state.proofs.Allocated.{lists-most, odt-most, odt-next, entry-most}
 use Rattle.lists.specs.Event.{contentsOf, stored, capturedOdts, captured}
 use Rattle.lists.specs.Slot.{ctrNext, answerSent, roundAfter, packetSent}
-use Rattle.lists.proofs.Fitting.{fit-each}
 use Rattle.lists.proofs.Gathered.{contents-most}
 use Rattle.session.specs.Receive.{readOn}
 use Rattle.session.specs.PowerUp.{powered}
@@ -34,7 +33,7 @@ use Rattle.fields.proofs.Stores.{block-sets, sets-in}
 use Rattle.fields.proofs.Frames.{Only, out-above, only-none, only-then, only-wider, only-set, only-sets, only-put32, only-generator, only-readOn, only-message, only-place, only-answered}
 use Rattle.fields.proofs.Readers.{Same, apart, same-part, flag-reads, generator-reads, wrongKeys-reads, open-reads, seed-reads, mta-reads, listCount-reads, odtCount-reads, entryCount-reads, round-reads, pointer-reads, place-reads, message-reads, answer-reads, entries-own, store-own}
 use Rattle.fields.proofs.Served.{answerSent-front, answerSent-round, answerSent-session, answerSent-reader}
-use Rattle.model.specs.Model.{noOdt, blank, eachFits}
+use Rattle.model.specs.Model.{noOdt, blank}
 use Rattle.model.specs.Step.{withSession, withLists, at, emptied}
 use Rattle.model.specs.Calls.{withAnswer, withReader, answerGone, withoutPacket, withRound, packetGone, contentsIn, withPacket, sampled, poweredUp}
 use Rattle.model.specs.View.{odtOf, daqOf, sessionOf, viewOf}
@@ -202,7 +201,7 @@ module _ (s : List ℕ) (k : ℕ) (bs : List ℕ) (h : length s ≡ size) (k8 : 
   stored-is = rw (stored-byte, le-ltb storedMost (length bs) few) stored-block
 
 -- list l's first n ODTs
-module _ (s : List ℕ) (l clock : ℕ) (cal meas : List ℕ) (long : length s ≡ size) (list : l < listCount s) (fit : eachFits (sessionOf s .list l) (sessionOf s .list l .odts) ≡ true) where
+module _ (s : List ℕ) (l clock : ℕ) (cal meas : List ℕ) (long : length s ≡ size) (list : l < listCount s) where
   abbrev k : ℕ
   k = firstOdt s l
 
@@ -216,7 +215,7 @@ module _ (s : List ℕ) (l clock : ℕ) (cal meas : List ℕ) (long : length s �
   odt-few n h = omega (arith, odt-most s l)
 
   short : (n : ℕ) → n < m → length (contentsOf s k n clock cal meas) ≤ storedMost
-  short n h = contents-most s k n clock cal meas (fit-each s l n list fit h)
+  short n h = contents-most s k n clock cal meas
 
   first-only : (n : ℕ) → n ≤ m → Only (sampleAt k) (sampleAt (k + n)) s (first n)
   unfolding capturedOdts

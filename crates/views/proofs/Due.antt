@@ -1,7 +1,7 @@
 -- An allocation to which no check of the table applies is done, and answered FF alone. Assumes nothing.
-use Prim.Native.Nat.{ℕ, _+_, _≤_, _<_}
-use mathlib.Core.Path.{_≡_, sym, ap, subst, _∙_}
-use mathlib.Core.Bool.{true, false}
+use Prim.Native.Nat.{ℕ, zero, suc, _+_, _≤_, _<_}
+use mathlib.Core.Path.{_≡_, refl, sym, ap₂, subst, _∙_}
+use mathlib.Core.Bool.{Bool, true, false, _&&_, _||_}
 use mathlib.Core.Option.{none}
 use mathlib.Core.List.{List, [], _∷_}
 use native.Mathlib.Omega.{arith}
@@ -11,9 +11,9 @@ use Rattle.words.specs.declared.Resource.the-variants.{Lists}
 use Rattle.model.specs.Model.{byte, Session, odtsTaken, entriesTaken, runsIn}
 use Rattle.model.specs.Answers.{Done}
 use Rattle.views.specs.Commands.{two, Way}
-use Rattle.views.specs.Words.{running, odtsInAll, entriesInAll}
-use Rattle.views.specs.Faults.{table, firstFault, AnswersFirst}
-use Rattle.views.proofs.Listed.{before-next, empty-rests}
+use Rattle.views.specs.Words.{any, running, odtsInAll, entriesInAll}
+use Rattle.views.specs.Faults.{table, firstFault}
+use Rattle.views.proofs.Listed.{before-next}
 use Rattle.views.proofs.FaultWords.{odts-total, entries-total, running-is}
 use Rattle.views.proofs.Faults.{answers-first}
 use Rattle.views.proofs.Obeys.{AsModel, obeys}
@@ -34,6 +34,7 @@ pub record OdtsDue (p : List ℕ) (c : Session) : Type 0 where
   pub noEntries : entriesTaken c ≡ 0
   pub there : two p 2 < c .lists
   pub none : c .list (two p 2) .odts ≡ 0
+  pub still : (l : ℕ) → c .list l .started ≡ false
   pub some : 1 ≤ byte p 4
   pub room : odtsTaken c + byte p 4 ≤ 16
 
@@ -53,11 +54,20 @@ module _ (p : List ℕ) (c : Session) (nc nm : ℕ) where
   unfolding firstFault table
   lists-none code d = simp (code, le-ltb (length p) 4 (d .long), d .unlocked, d .freed, d .none, ne-eqb (two p 2) 0 (omega (arith, d .some)), le-ltb 8 (two p 2) (d .room))
 
+  -- without ODTs a list does not run
+  nothing : (a b : Bool) → (a && (b && false)) ≡ false
+  nothing true true = refl
+  nothing true false = refl
+  nothing false b = refl
+
+  none-started : ((l : ℕ) → c .list l .started ≡ false) → (n : ℕ) → any n (λ l. c .list l .started) ≡ false
+  none-started f zero = refl
+  none-started f (suc n) = ap₂ _||_ (none-started f n) (f n)
+
   odts-none : byte p 0 ≡ 0xD4 → OdtsDue p c → firstFault p c nc nm ≡ none
   unfolding firstFault table
   odts-none code d =
       let entries : entriesInAll c ≡ 0 = sym (entries-total c) ∙ d .noEntries in
-      let rests : running c (two p 2) ≡ false = sym (running-is c (two p 2)) ∙ empty-rests (c .opened) (c .list (two p 2)) (λ o h. absurd (omega (arith, d .none, h))) in
       let room : odtsInAll c + byte p 4 ≤ 16 = subst (λ (n : ℕ). n + byte p 4 ≤ 16) (odts-total c) (d .room) in
       simp (
         code,
@@ -66,9 +76,10 @@ module _ (p : List ℕ) (c : Session) (nc nm : ℕ) where
         ne-eqb (c .lists) 0 (omega (arith, d .there)),
         le-ltb 0 (entriesInAll c) (omega (arith, entries)),
         le-ltb 0 (c .list (two p 2) .odts) (omega (arith, d .none)),
+        none-started (d .still) (c .lists),
         lt-leb (c .lists) (two p 2) (d .there),
         ne-eqb (byte p 4) 0 (omega (arith, d .some)),
-        rests,
+        nothing (c .opened) (c .list (two p 2) .started),
         le-ltb 16 (odtsInAll c + byte p 4) room,
       )
 

@@ -13,7 +13,7 @@ use Rattle.state.specs.Layout.{odtMost}
 use Rattle.state.specs.Memory.{insideOf}
 use Rattle.words.specs.declared.Resource.{Resource}
 use Rattle.words.specs.declared.Resource.the-variants.{Calibration, Lists}
-use Rattle.model.specs.Model.{Odt, DaqList, Session, odtsBefore, odtsTaken, entriesOf, entriesBefore, entriesTaken, sizesOf, bytesIn, allBytes, eachFits, fits, runs, runsIn}
+use Rattle.model.specs.Model.{Odt, DaqList, Session, odtsBefore, odtsTaken, entriesOf, entriesBefore, entriesTaken, sizesOf, bytesIn, allBytes, eachFits, fits, runs, runsIn, someStarted}
 use Rattle.model.specs.Judge.{allStartable}
 use Rattle.model.proofs.Bounded.{either}
 use Rattle.views.specs.Words.{any, total, outside, nextSeed, keyNumber, rotated, keyFor, bytesOfOdt, tooLong, unfit, running, odtsInAll, entriesInAll}
@@ -120,21 +120,19 @@ module _ (x : DaqList) where
 -- ---- what runs
 pub running-is : (c : Session) (l : ℕ) → runsIn c l ≡ running c l
 unfolding runs
-running-is c l = ap (λ (f : Bool). cond (c .opened) (cond (c .list l .started) f false) false) (fit-is (c .list l)) ∙ both (c .opened) (c .list l .started) (not (unfit (c .list l)))
-  where
-    both : (a b d : Bool) → cond a (cond b d false) false ≡ (a && (b && d))
-    both true true d = refl
-    both true false d = refl
-    both false b d = refl
+running-is c l = both (c .opened) (c .list l .started) (ltb 0 (c .list l .odts)) where
+  both : (a b d : Bool) → cond a (cond b d false) false ≡ (a && (b && d))
+  both true true d = refl
+  both true false d = refl
+  both false b d = refl
 
--- what cannot be started does not run
-pub unfit-still : (c : Session) (l : ℕ) → (not (running c l) && unfit (c .list l)) ≡ unfit (c .list l)
-unfit-still c l = go (c .opened) (c .list l .started) (unfit (c .list l)) where
-  go : (a b u : Bool) → (not (a && (b && not u)) && u) ≡ u
-  go true true true = refl
-  go true true false = refl
-  go true false u = refl
-  go false b u = refl
+pub started-is : (c : Session) (n : ℕ) → someStarted c n ≡ any n (λ l. c .list l .started)
+unfolding someStarted
+started-is c zero = refl
+started-is c (suc n) = ap (λ (a : Bool). cond a true (c .list n .started)) (started-is c n) ∙ or-is (any n (λ l. c .list l .started)) (c .list n .started) where
+  or-is : (a b : Bool) → cond a true b ≡ (a || b)
+  or-is true b = refl
+  or-is false b = refl
 
 pub ready-is : (c : Session) (n : ℕ) → allStartable c n ≡ not (any n (λ l. c .list l .selected && (not (running c l) && unfit (c .list l))))
 unfolding allStartable
@@ -143,12 +141,13 @@ ready-is c (suc n) =
     ap₂ (λ (a b : Bool). cond a b false) (ready-is c n) (one n)
     ∙ neither (any n (λ l. c .list l .selected && (not (running c l) && unfit (c .list l)))) (c .list n .selected && (not (running c n) && unfit (c .list n)))
   where
-    one : (l : ℕ) → cond (c .list l .selected) (fits (c .list l)) true ≡ not (c .list l .selected && (not (running c l) && unfit (c .list l)))
-    one l = ap (λ (b : Bool). cond (c .list l .selected) b true) (fit-is (c .list l) ∙ ap not (sym (unfit-still c l))) ∙ go (c .list l .selected) (not (running c l) && unfit (c .list l))
+    one : (l : ℕ) → cond (c .list l .selected) (cond (runsIn c l) true (fits (c .list l))) true ≡ not (c .list l .selected && (not (running c l) && unfit (c .list l)))
+    one l = ap₂ (λ (a b : Bool). cond (c .list l .selected) (cond a true b) true) (running-is c l) (fit-is (c .list l)) ∙ go (c .list l .selected) (running c l) (unfit (c .list l))
       where
-        go : (a b : Bool) → cond a (not b) true ≡ not (a && b)
-        go true b = refl
-        go false b = refl
+        go : (a r u : Bool) → cond a (cond r true (not u)) true ≡ not (a && (not r && u))
+        go true true u = refl
+        go true false u = refl
+        go false r u = refl
 
     neither : (a b : Bool) → cond (not a) (not b) false ≡ not (a || b)
     neither true b = refl

@@ -29,7 +29,7 @@ use Rattle.words.specs.declared.Reason.{Reason}
 use Rattle.words.specs.declared.Reason.the-variants.{Unknown as UnknownCode, TooShort, Locked, Sequence, OutOfRange, DataMissing, ListRuns, ReadOnly, NotInside, CannotStart, PoolFull}
 use Rattle.model.specs.declared.Deed.{Deed}
 use Rattle.model.specs.declared.Deed.the-variants as deed
-use Rattle.model.specs.Model.{byte, DaqList, Session, odtsTaken, entriesTaken, fits, runsIn}
+use Rattle.model.specs.Model.{byte, DaqList, Session, odtsTaken, entriesTaken, fits, runsIn, someStarted}
 use Rattle.model.specs.Seen.{numbersOf}
 use Rattle.model.specs.Judge.{extensionFrom, connectDeed, getSeedDeed, unlockBy, setMtaDeed, uploadDeed, shortUploadDeed, checksumDeed, downloadTo, downloadDeed, shortDownloadDeed, clearDeed, pointerDeed, writeBlock, writeDeed, modeDeed, startDeed, startStopDeed, synchDeed, allocListsDeed, allocOdtsDeed, allocEntriesDeed, judgeThe, judgeBy, judge, pointedIn, allStartable, seenIn, judgeIn}
 use Rattle.model.specs.Answers.{replyIn, commandIn}
@@ -40,7 +40,7 @@ use Rattle.model.proofs.Bounded.{either}
 use Rattle.views.proofs.Verdict.{at-least}
 use Rattle.views.proofs.Listed.{Listed}
 use Rattle.views.proofs.Taken.{four-is}
-use Rattle.views.proofs.FaultWords.{odts-total, entries-total, fit-is, running-is, ready-is, outside-is, key-is}
+use Rattle.views.proofs.FaultWords.{odts-total, entries-total, fit-is, running-is, started-is, ready-is, outside-is, key-is}
 
 -- a deed whose answer begins FF
 abbrev pub Done : Deed → Type 0
@@ -63,6 +63,14 @@ module _ {n : ℕ} (r : Reason) (plain : (eqb (codeOf r) 0x22 && eqb n 0xF3) ≡
   provided : (t : Bool) {t′ : Bool} → t′ ≡ not t → Meets n rest d → Meets n (cond t′ (some (codeOf r)) rest) (cond t d (deed.Refuse r))
   provided true e f = subst (λ (x : Bool). Meets n (cond x (some (codeOf r)) rest) d) (sym e) f
   provided false e f = subst (λ (x : Bool). Meets n (cond x (some (codeOf r)) rest) (deed.Refuse r)) (sym e) (refuses r plain)
+
+  unless-then : (t : Bool) → (t ≡ false → Meets n rest d) → Meets n (cond t (some (codeOf r)) rest) (cond t (deed.Refuse r) d)
+  unless-then true f = refuses r plain
+  unless-then false f = f refl
+
+-- a check that the judge need not make
+never-applies : {n : ℕ} (code : ℕ) {t : Bool} {rest : Option ℕ} {d : Deed} → t ≡ false → Meets n rest d → Meets n (cond t (some code) rest) d
+never-applies {n} code {rest = rest} {d = d} e f = subst (λ (x : Bool). Meets n (cond x (some code) rest) d) (sym e) f
 
 -- too short, then locked
 begins : {n : ℕ} (short shut : Bool) {rest : Option ℕ} {d : Deed} → Meets n rest d
@@ -305,17 +313,26 @@ module _ (p : List ℕ) (c : Session) (nc nm : ℕ) where
       (unless PoolFull refl (ltb 8 (two p 2)) refl
       (done _ (λ c cal meas. refl)))))
 
+  -- a list without ODTs does not run
+  rests : (l : ℕ) → ltb 0 (c .list l .odts) ≡ false → running c l ≡ false
+  rests l e = ap (λ (x : Bool). c .opened && (c .list l .started && x)) e ∙ go (c .opened) (c .list l .started) where
+    go : (a b : Bool) → (a && (b && false)) ≡ false
+    go true true = refl
+    go true false = refl
+    go false b = refl
+
   of-alloc-odt : Meets 0xD4 (firstOfThese (ofAllocOdt p c)) (The command.AllocOdt)
   unfolding judgeThe allocOdtsDeed u16At replyIn
   of-alloc-odt =
       unless Sequence refl (eqb (c .lists) 0) refl
       (unless Sequence refl (ltb 0 (entriesTaken c)) (ap (ltb 0) (sym (entries-total c)))
-      (unless Sequence refl (ltb 0 (c .list (two p 2) .odts)) refl
+      (unless-then Sequence refl (ltb 0 (c .list (two p 2) .odts)) (λ empty.
+      unless Sequence refl (someStarted c (c .lists)) (sym (started-is c (c .lists)))
       (unless OutOfRange refl (leb (c .lists) (two p 2)) refl
       (unless OutOfRange refl (eqb (byte p 4) 0) refl
-      (unless ListRuns refl (runsIn c (two p 2)) (runs-as (two p 2))
+      (never-applies 0x11 (rests (two p 2) empty)
       (unless PoolFull refl (ltb 16 (odtsTaken c + byte p 4)) (ap (λ (k : ℕ). ltb 16 (k + byte p 4)) (sym (odts-total c)))
-      (done _ (λ c cal meas. refl))))))))
+      (done _ (λ c cal meas. refl)))))))))
 
   of-alloc-odt-entry : Listed c → Meets 0xD3 (firstOfThese (ofAllocOdtEntry p c)) (The command.AllocOdtEntry)
   unfolding judgeThe allocEntriesDeed u16At replyIn

@@ -103,17 +103,17 @@ module _ (p : Packet) (v : Seen) (nc nm : ℕ) (low : p .d4 < 2 ^ 32) (few : v .
   by-verdict _ _ (writes l o e free w some inside) = (inside .0, entry-low (p .d4) (p .b2) (pick (extensionFrom (p .b3)) nc nm) some (inside .1))
   by-verdict _ _ (modes free list event still) = tt
   by-verdict _ _ (stops free list) = tt
-  by-verdict _ _ (starts free list mode still) = tt
+  by-verdict _ _ (starts free list mode still fit) = tt
   by-verdict _ _ (goes-on free list) = tt
   by-verdict _ _ (selects free list) = tt
   by-verdict _ _ (stops-all free) = tt
-  by-verdict _ _ (starts-all free mode) = tt
+  by-verdict _ _ (starts-all free mode ready) = tt
   by-verdict _ _ (stops-some free) = tt
   by-verdict _ _ processor = tt
   by-verdict _ _ resolution = tt
   by-verdict _ _ (frees free) = tt
   by-verdict _ _ (allocs-lists free freed none some few) = tt
-  by-verdict _ _ (allocs-odts free list none unused some room) = tt
+  by-verdict _ _ (allocs-odts free list none unused still some room) = tt
   by-verdict _ _ (allocs-entries free odt none still some room) = tt
 
   judge-fits : Fit (judge p v nc nm) (v .generator) (v .wrongKeys)

@@ -15,7 +15,6 @@ use Rattle.state.specs.State.{consistent}
 use Rattle.state.proofs.Consistent.{consistent-size}
 use Rattle.words.specs.declared.Evented.the-variants.{Done}
 use Rattle.lists.specs.Event.{samplingOf, sampledState, tally, Happened, eventOf}
-use Rattle.lists.proofs.Fitting.{Fitting, sampling-fits}
 use Rattle.fields.proofs.Frames.{Only}
 use Rattle.fields.proofs.Readers.{apart, listCount-reads}
 use Rattle.fields.proofs.Captures.{only-tally}
@@ -71,11 +70,11 @@ module _ (s : List ℕ) (l clock : ℕ) (cal meas : List ℕ) (h : length s ≡ 
   unfolding viewOf
   unchanged = ap (λ (g : ℕ → DaqList). withSession (viewOf s) (withLists (sessionOf s) g)) (sym (put-same l (sessionOf s .list l) (sessionOf s .list) refl))
 
-  view-turn : (x : Sampling) → Fitting s l x → viewOf (sampledState x s l clock cal meas) ≡ withSession (viewOf s) (at l (sampledAs x clock cal meas) (sessionOf s))
+  view-turn : (x : Sampling) → viewOf (sampledState x s l clock cal meas) ≡ withSession (viewOf s) (at l (sampledAs x clock cal meas) (sessionOf s))
   unfolding sampledState sampledAs
-  view-turn Idle f = unchanged
-  view-turn Sampled f = view-captured s l clock cal meas h there f
-  view-turn Missed f = unchanged
+  view-turn Idle = unchanged
+  view-turn Sampled = view-captured s l clock cal meas h there
+  view-turn Missed = unchanged
 
 -- ---- one after the other
 module _ (s : List ℕ) (event clock : ℕ) (cal meas : List ℕ) (h : length s ≡ size) where
@@ -107,7 +106,7 @@ module _ (s : List ℕ) (event clock : ℕ) (cal meas : List ℕ) (h : length s 
       let e : SoFar n = so-far n (omega arith) in
       let x : Sampling = samplingOf (state n) n event in
       let w : Only (sampleAt 0) size s (state n) = only-tally s event clock cal meas n (omega arith) in
-      view-turn (state n) n clock cal meas (w .long ∙ h) (rw (listCount-reads (apart tt w)) p) x (sampling-fits (state n) n event)
+      view-turn (state n) n clock cal meas (w .long ∙ h) (rw (listCount-reads (apart tt w)) p) x
       ∙ ap (λ (v : Slave). withSession v (at n (sampledAs x clock cal meas) (v .session))) e
       ∙ ap₂ (λ (x : Sampling) (y : DaqList). withSession (viewOf s) (withLists now (put n (sampledAs x clock cal meas y) (first turned (now .list) n)))) (turn-by n e) (first-at turned (now .list) n)
       ∙ ap (λ (g : ℕ → DaqList). withSession (viewOf s) (withLists now g)) (first-next turned (now .list) n)

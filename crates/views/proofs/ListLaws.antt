@@ -24,14 +24,14 @@ use Rattle.model.specs.declared.Deed.{Deed}
 use Rattle.model.specs.declared.Deed.the-variants.{ClearEntry, WriteEntry, Stop, Start, KeepRunning, Select, StopAll, StartSelected, StopSelected}
 use Rattle.model.specs.Step.{nextEntry, entriesThere, withPointer, withLists, withEntry, setEntry, clear, setMode, switch, select, stopIt, startIfSelected, stopIfSelected, withOdts, withEntries, allocEntries, withNewLists, stepIn}
 use Rattle.model.specs.Answers.{written, replyIn, doneBy, writes}
-use Rattle.model.specs.Model.{byte, put, Entry, noEntry, Odt, DaqList, Session, odtsTaken, entriesTaken, fits, runs, runsIn}
+use Rattle.model.specs.Model.{byte, put, Entry, noEntry, Odt, DaqList, Session, odtsTaken, entriesTaken, fits, runs, runsIn, someStarted}
 use Rattle.model.proofs.Bounded.{either}
-use Rattle.model.proofs.Fits.{fits-same, runs-same}
+use Rattle.model.proofs.Fits.{fits-same, runs-same, fit-runs}
 use Rattle.lists.proofs.Counting.{all-stays}
 use Rattle.views.specs.Commands.{two, four, extensionNumber, TheGenerator, TheWrongKeys, Whether-open, TheLocks, TheSeed, TheMta, ThePointer, Whether-freed, HowManyLists, TheRound, TheLists, AllBut, AllButBoth, CLEAR-DAQ-LIST, SET-DAQ-PTR, WRITE-DAQ, SET-DAQ-LIST-MODE, Switched, Unswitched, START-STOP-DAQ-LIST, START-STOP-SYNCH, FREE-DAQ, ALLOC-DAQ, ALLOC-ODT, ALLOC-ODT-ENTRY}
 use Rattle.views.proofs.Parts.{put-by, put-here, put-there}
 use Rattle.views.proofs.Verdict.{no-more, at-least}
-use Rattle.views.proofs.Listed.{Listed, odts-listed}
+use Rattle.views.proofs.Listed.{Listed, odts-listed, not-started}
 use Rattle.views.proofs.Taken.{four-is, named-by, fe-ff, Taken, unless, provided, branch, judged, Leads}
 
 -- ---- what is left
@@ -259,28 +259,26 @@ module _ (p : List ℕ) (c : Session) (cal meas : List ℕ) where
 
 -- ---- whether a list then runs
 runs-on : (x y : DaqList) (opened : Bool) → Switched true x y → opened ≡ true → fits x ≡ true → runs opened y ≡ true
-unfolding runs
-runs-on x y opened w o f =
-    ap₂ (λ (a b : Bool). cond a (cond b (fits y) false) false) o (w .started) ∙ fits-same y x (λ k h. w .entryCounts k) (λ k h. fun-ext (w .entries k)) (w .mode) (w .has) ∙ f
+runs-on x y opened w o f = fit-runs y opened o (w .started) (fits-same y x (λ k h. w .entryCounts k) (λ k h. fun-ext (w .entries k)) (w .mode) (w .has) ∙ f)
 
 runs-still : (x y : DaqList) (opened : Bool) → Unswitched x y → runs opened x ≡ true → runs opened y ≡ true
 runs-still x y opened w r =
-    runs-same y x (λ k h. ap (λ (z : Odt). z .entries) (w .odts k)) (λ k h. ap (λ (z : Odt). z .entry) (w .odts k)) opened (w .mode) (w .has) (w .started) ∙ r
+    runs-same y x opened (w .has) (w .started) ∙ r
 
 runs-off : (x y : DaqList) (opened : Bool) → Switched false x y → runs opened y ≡ false
 unfolding runs
 runs-off x y opened w =
-    ap (λ (b : Bool). cond opened (cond b (fits y) false) false) (w .started) ∙ cond-ind (λ (b : Bool). b ≡ false) opened (λ _. refl) (λ _. refl)
+    ap (λ (b : Bool). cond opened (cond b (ltb 0 (y .odts)) false) false) (w .started) ∙ cond-ind (λ (b : Bool). b ≡ false) opened (λ _. refl) (λ _. refl)
 
--- of lists that can all be started, each that is selected can
+-- of lists that all run or can be started, each that is selected and does not run can
 one-not : (c : Session) (l : ℕ) → startable c l ≡ false → allStartable c (suc l) ≡ false
 unfolding allStartable
 one-not c l e = rw e (cond-ind (λ (b : Bool). b ≡ false) (allStartable c l) (λ _. refl) (λ _. refl))
 
-each-fits : (c : Session) (l : ℕ) → allStartable c (c .lists) ≡ true → l < c .lists → c .list l .selected ≡ true → fits (c .list l) ≡ true
-each-fits c l all there s =
+pub each-fits : (c : Session) (l : ℕ) → allStartable c (c .lists) ≡ true → l < c .lists → c .list l .selected ≡ true → runsIn c l ≡ false → fits (c .list l) ≡ true
+each-fits c l all there s r =
     either (fits (c .list l)) (λ f. f)
-    (λ f. absurd (false-true (sym (all-stays c (suc l) (c .lists) (omega arith) (one-not c l (ap₂ (λ (a b : Bool). cond a b true) s f))) ∙ all)))
+    (λ f. absurd (false-true (sym (all-stays c (suc l) (c .lists) (omega arith) (one-not c l (ap₂ (λ (a b : Bool). cond a b true) s (ap₂ (λ (a b : Bool). cond a true b) r f)))) ∙ all)))
 
 -- ---- DE START_STOP_DAQ_LIST
 switched : (on : Bool) (l : ℕ) (d : ℕ → DaqList) → Switched on (d l) (put l (switch on (d l)) d l)
@@ -432,13 +430,13 @@ module _ (p : List ℕ) (c : Session) (cal meas : List ℕ) where
     answer = refl;
   }
 
-  -- a list that was selected and could be started runs, whether it ran before or is started now
-  started-runs : (l : ℕ) → c .opened ≡ true → c .list l .selected ≡ true → fits (c .list l) ≡ true → runs (c .opened) (startIfSelected (c .opened) (c .list l)) ≡ true
+  -- a list that was selected runs, whether it ran before or could be started and is started now
+  started-runs : (l : ℕ) → c .opened ≡ true → c .list l .selected ≡ true → (runsIn c l ≡ false → fits (c .list l) ≡ true) → runs (c .opened) (startIfSelected (c .opened) (c .list l)) ≡ true
   started-runs l open′ s f =
       let x : DaqList = c .list l in
       either (runsIn c l)
       (λ r. runs-still x (startIfSelected (c .opened) x) (c .opened) (kept-if x (x .selected) (runsIn c l) s r) r)
-      (λ r. runs-on x (startIfSelected (c .opened) x) (c .opened) (started-if x (x .selected) (runsIn c l) s r) open′ f)
+      (λ r. runs-on x (startIfSelected (c .opened) x) (c .opened) (started-if x (x .selected) (runsIn c l) s r) open′ (f r))
 
   selected-start : byte p 1 ≡ 1 → allStartable c (c .lists) ≡ true → Synchs StartSelected
   unfolding stepIn writes replyIn
@@ -551,14 +549,15 @@ module _ (p : List ℕ) (c : Session) (cal meas : List ℕ) where
       (unless p c cal meas P (eqb (c .lists) 0) Sequence (λ _.
       unless p c cal meas P (ltb 0 (entriesTaken c)) Sequence (λ unused.
       unless p c cal meas P (ltb 0 (c .list l .odts)) Sequence (λ none.
+      unless p c cal meas P (someStarted c (c .lists)) Sequence (λ still.
       unless p c cal meas P (leb (c .lists) l) OutOfRange (λ list.
       unless p c cal meas P (eqb n 0) OutOfRange (λ some.
-      unless p c cal meas P (runsIn c l) ListRuns (λ _.
       unless p c cal meas P (ltb allOdts (odtsTaken c + n)) PoolFull (λ room _.
       record {
         there = leb-false (c .lists) l list;
         none = no-more (c .list l .odts) none;
         noEntries = no-more (entriesTaken c) unused;
+        still = not-started c (c .lists) still;
         some = at-least n (eqb-false n 0 some);
         most = ltb-false allOdts (odtsTaken c + n) room;
         count = ap (λ (b : Bool). cond b n (c .list l .odts)) (eq-eqb l l refl);

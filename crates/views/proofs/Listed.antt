@@ -1,14 +1,13 @@
--- What a session has of the pool: nothing beyond its lists, where bytes show it; without entries no list runs. Assumes nothing.
+-- What a session has of the pool: nothing beyond its lists, where bytes show it; which lists were started. Assumes nothing.
 use Prim.Native.Nat.{ℕ, zero, suc, _+_, _≤_, _<_}
 use mathlib.Core.Path.{_≡_, refl, sym, ap, ap₂, subst, _∙_}
 use mathlib.Core.Bool.{Bool, true, false, cond}
 use mathlib.Core.List.{List}
 use native.Mathlib.Omega.{arith}
 use borrow.Author.Tests.{ltb-true, ltb-false}
-use lib.Dec.{eqb, ltb}
-use Rattle.line.proofs.Laws.{false-true}
-use Rattle.lists.proofs.Counting.{both-no}
-use Rattle.model.specs.Model.{Odt, DaqList, noList, Session, odtsBefore, entriesOf, entriesBefore, entriesTaken, sizesOf, bytesIn, allBytes, fits, runs, runsIn}
+use lib.Dec.{ltb}
+use Rattle.line.proofs.Laws.{false-true, cond-ind}
+use Rattle.model.specs.Model.{DaqList, noList, Session, odtsBefore, runs, runsIn, someStarted}
 use Rattle.model.specs.View.{sessionOf}
 use Rattle.model.proofs.Bounded.{either}
 use Rattle.model.proofs.Shown.{no-list}
@@ -42,48 +41,33 @@ unfolding odtsBefore
 before-next f l zero h = absurd (omega arith)
 before-next f l (suc n) h = this-or-other l n (λ e. rw e (omega arith)) (λ e. let p : odtsBefore f l + f l .odts ≤ odtsBefore f n = before-next f l n (omega arith) in omega arith)
 
--- ---- no entries, no bytes, and so nothing to start
-entries-none : (x : DaqList) (n : ℕ) → entriesOf x n ≡ 0 → (o : ℕ) → o < n → x .odt o .entries ≡ 0
-unfolding entriesOf
-entries-none x zero e o h = absurd (omega arith)
-entries-none x (suc n) e o h = this-or-other o n (λ same. rw same (omega arith)) (λ other. entries-none x n (omega arith) o (omega arith))
+-- ---- of the first n lists none was started: one by one
+pub not-started : (c : Session) (n : ℕ) → someStarted c n ≡ false → (l : ℕ) → l < n → c .list l .started ≡ false
+unfolding someStarted
+not-started c zero e l h = absurd (omega arith)
+not-started c (suc n) e l h =
+    let none = neither (someStarted c n) (c .list n .started) e in
+    this-or-other l n (λ same. ap (λ (i : ℕ). c .list i .started) same ∙ none .1) (λ other. not-started c n (none .0) l (omega arith)) where
+      neither : (a b : Bool) → cond a true b ≡ false → (a ≡ false) × (b ≡ false)
+      neither true b f = absurd (false-true (sym f))
+      neither false b f = (refl, f)
 
-lists-none : (f : ℕ → DaqList) (n : ℕ) → entriesBefore f n ≡ 0 → (l : ℕ) → l < n → entriesOf (f l) (f l .odts) ≡ 0
-unfolding entriesBefore
-lists-none f zero e l h = absurd (omega arith)
-lists-none f (suc n) e l h = this-or-other l n (λ same. rw same (omega arith)) (λ other. lists-none f n (omega arith) l (omega arith))
+pub none-started : (c : Session) (n : ℕ) → ((l : ℕ) → l < n → c .list l .started ≡ false) → someStarted c n ≡ false
+unfolding someStarted
+none-started c zero f = refl
+none-started c (suc n) f = ap₂ (λ (a b : Bool). cond a true b) (none-started c n (λ l h. f l (omega arith))) (f n (omega arith))
 
-pub no-bytes : (y : Odt) → y .entries ≡ 0 → bytesIn y ≡ 0
-unfolding sizesOf
-no-bytes y e = rw e
+-- ---- a list that was not started does not run, nor does one that there is not
+pub unstarted-rests : (opened : Bool) (x : DaqList) → x .started ≡ false → runs opened x ≡ false
+unfolding runs
+unstarted-rests opened x e = ap (λ (b : Bool). cond opened (cond b (ltb 0 (x .odts)) false) false) e ∙ cond-ind (λ (b : Bool). b ≡ false) opened (λ _. refl) (λ _. refl)
 
-no-bytes-in : (x : DaqList) → ((o : ℕ) → o < x .odts → x .odt o .entries ≡ 0) → (n : ℕ) → n ≤ x .odts → allBytes x n ≡ 0
-unfolding allBytes
-no-bytes-in x f zero h = refl
-no-bytes-in x f (suc n) h = ap₂ _+_ (no-bytes-in x f n (omega arith)) (no-bytes (x .odt n) (f n (omega arith)))
-
-module _ (opened : Bool) (x : DaqList) where
-  -- a list that can not be started does not run
-  unfit-rests : fits x ≡ false → runs opened x ≡ false
-  unfolding runs
-  unfit-rests e = rw e (go opened (x .started)) where
-    go : (a b : Bool) → cond a (cond b false false) false ≡ false
-    go true true = refl
-    go true false = refl
-    go false b = refl
-
-  pub empty-rests : ((o : ℕ) → o < x .odts → x .odt o .entries ≡ 0) → runs opened x ≡ false
-  unfolding fits
-  empty-rests f = unfit-rests (both-no (eqb (x .mode) 0) _ (rw (no-bytes-in x f (x .odts) (omega arith)) refl))
-
-pub unused-rests : (c : Session) → Listed c → entriesTaken c ≡ 0 → (l : ℕ) → runsIn c l ≡ false
-unused-rests c has e l =
-    either (ltb l (c .lists))
-    (λ b. empty-rests (c .opened) (c .list l) (entries-none (c .list l) (c .list l .odts) (lists-none (c .list) (c .lists) e l (ltb-true l (c .lists) b))))
-    (λ b. ap (runs (c .opened)) (has l (ltb-false l (c .lists) b)) ∙ empty-rests (c .opened) noList (λ o h. refl))
+-- where none of those that there are was started, none was
+pub all-unstarted : (c : Session) → Listed c → someStarted c (c .lists) ≡ false → (l : ℕ) → c .list l .started ≡ false
+all-unstarted c has e l = either (ltb l (c .lists)) (λ b. not-started c (c .lists) e l (ltb-true l (c .lists) b)) (λ b. ap (λ (x : DaqList). x .started) (has l (ltb-false l (c .lists) b)))
 
 -- a list that runs is there
 pub runs-listed : (c : Session) → Listed c → (l : ℕ) → runsIn c l ≡ true → l < c .lists
 runs-listed c has l run =
     either (ltb l (c .lists)) (λ b. ltb-true l (c .lists) b)
-    (λ b. absurd (false-true (sym (ap (runs (c .opened)) (has l (ltb-false l (c .lists) b)) ∙ empty-rests (c .opened) noList (λ o h. refl)) ∙ run)))
+    (λ b. absurd (false-true (sym (unstarted-rests (c .opened) (c .list l) (ap (λ (x : DaqList). x .started) (has l (ltb-false l (c .lists) b)))) ∙ run)))

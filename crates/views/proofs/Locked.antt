@@ -81,17 +81,17 @@ module _ (p : List ℕ) (c : Session) (cal meas : List ℕ) where
     by-verdict _ _ o (writes l i e free w some inside) = shut free
     by-verdict _ _ o (modes free list event still) = shut free
     by-verdict _ _ o (stops free list) = shut free
-    by-verdict _ _ o (starts free list mode still) = shut free
+    by-verdict _ _ o (starts free list mode still fit) = shut free
     by-verdict _ _ o (goes-on free list) = as-was
     by-verdict _ _ o (selects free list) = shut free
     by-verdict _ _ o (stops-all free) = shut free
-    by-verdict _ _ o (starts-all free mode) = shut free
+    by-verdict _ _ o (starts-all free mode ready) = shut free
     by-verdict _ _ o (stops-some free) = shut free
     by-verdict _ _ o processor = as-was
     by-verdict _ _ o resolution = as-was
     by-verdict _ _ o (frees free) = shut free
     by-verdict _ _ o (allocs-lists free freed none some few) = shut free
-    by-verdict _ _ o (allocs-odts free list none unused some room) = shut free
+    by-verdict _ _ o (allocs-odts free list none unused still some room) = shut free
     by-verdict _ _ o (allocs-entries free odt none still some room) = shut free
 
     judged-keeps : Keeps (judgeIn p c nc nm)

@@ -2,6 +2,7 @@
 use Prim.Native.Nat.{ℕ, zero, suc, _+_, _%_, _/_, _≤_, _<_}
 use mathlib.Core.Path.{_≡_, refl, sym, ap, subst, _∙_}
 use mathlib.Core.Logic.{_≢_}
+use mathlib.Core.Bool.{Bool, cond}
 use mathlib.Core.List.{List, [], _∷_, _++_}
 use native.Mathlib.Nat.{add-zero, min-le-left, min-le-right}
 use native.Mathlib.Omega.{arith}
@@ -9,12 +10,13 @@ use borrow.Author.Tests.{eqb-true, eqb-false, eq-eqb, ne-eqb, lt-ltb, le-ltb}
 use lib.Dec.{eqb}
 use lib.ListN.{length, length-append, List·getD-append}
 use lib.Seq.{getD-append-add}
-use Rattle.state.specs.Layout.{addressable}
+use Rattle.state.specs.Layout.{addressable, odtMost}
 use Rattle.state.specs.Memory.{pick, reach, byteOf, bytesOf}
 use Rattle.lists.proofs.Gathered.{bytes-length}
-use Rattle.model.specs.Model.{byte, Entry, Odt, DaqList}
-use Rattle.model.specs.Calls.{blockIn, blocksIn, leadOf, contentsIn, sampled}
+use Rattle.model.specs.Model.{byte, Entry, Odt, DaqList, sizesOf}
+use Rattle.model.specs.Calls.{blockIn, blocksIn, leadOf, takenIn, contentsIn, sampled}
 use Rattle.model.proofs.Bounded.{either}
+use Rattle.model.proofs.Room.{taken-most, taken-fits, taken-all, taken-next}
 use Rattle.views.specs.Commands.{memoryOf}
 use Rattle.views.specs.Samples.{leadSize, sizesBefore, ReadAs, Captured, CapturedList}
 use Rattle.views.proofs.MemoryLaws.{memory-is}
@@ -95,17 +97,33 @@ module _ (clock : ℕ) where
 behind-lead : (xs ys : List ℕ) (m t j : ℕ) → length xs ≡ m → byte (xs ++ ys) (m + t + j) ≡ byte ys (t + j)
 behind-lead xs ys m t j e = let place : m + t + j ≡ length xs + (t + j) = omega arith in ap (byte (xs ++ ys)) place ∙ getD-append-add xs ys (t + j) 0
 
+-- how many entries go into a packet
+pub sizes-are : (y : Odt) (n : ℕ) → sizesOf y n ≡ sizesBefore y n
+unfolding sizesOf
+sizes-are y zero = refl
+sizes-are y (suc n) = ap (λ (m : ℕ). m + y .entry n .size) (sizes-are y n)
+
+room-is : (o : ℕ) → leadSize o + odtMost o ≡ 63
+room-is zero = refl
+room-is (suc o) = ap (λ (b : Bool). 0 + cond b 61 63) (ne-eqb (suc o) 0 (omega arith))
+
 contents-from : (o clock : ℕ) (cal meas : List ℕ) (y : Odt) → Captured o clock cal meas y (contentsIn o clock cal meas y)
 unfolding contentsIn
 contents-from o clock cal meas y =
     let lead : List ℕ = leadOf o clock in
-    let rest : List ℕ = blocksIn y cal meas (y .entries) in
+    let n : ℕ = takenIn o y in
+    let rest : List ℕ = blocksIn y cal meas n in
     record {
-      long = omega (arith, length-append lead rest, lead-long clock o, blocks-long y cal meas (y .entries));
+      taken = n;
+      some = taken-most (odtMost o) y (y .entries);
+      all = λ few. taken-all (odtMost o) y (y .entries) (omega (arith, few, room-is o, sizes-are y (y .entries)));
+      next = λ less. omega (arith, taken-next (odtMost o) y (y .entries) less, room-is o, sizes-are y (suc n));
+      most = omega (arith, length-append lead rest, lead-long clock o, blocks-long y cal meas n, taken-fits (odtMost o) y (y .entries), room-is o, sizes-are y n);
+      long = omega (arith, length-append lead rest, lead-long clock o, blocks-long y cal meas n);
       low = λ z. ap (λ (xs : List ℕ). byte (xs ++ rest) 0) (first-lead clock o z);
       high = λ z. ap (λ (xs : List ℕ). byte (xs ++ rest) 1) (first-lead clock o z);
-      bytes = λ e j there n. subst (ReadAs (memoryOf (y .entry e .extension) cal meas) (y .entry e .address + j))
-          (sym (behind-lead lead rest (leadSize o) (sizesBefore y e) j (lead-long clock o))) (blocks-byte y cal meas (y .entries) e j there n);
+      bytes = λ e j there m. subst (ReadAs (memoryOf (y .entry e .extension) cal meas) (y .entry e .address + j))
+          (sym (behind-lead lead rest (leadSize o) (sizesBefore y e) j (lead-long clock o))) (blocks-byte y cal meas n e j there m);
     }
 
 -- ---- a list sampled

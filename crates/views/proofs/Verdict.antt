@@ -69,17 +69,17 @@ pub data Verdict (p : Packet) (v : Seen) (nc nm : ℕ) : Command → Deed → Ty
       → Verdict p v nc nm WriteDaq (deed.WriteEntry l o e (p .b2) (extensionFrom (p .b3)) (p .d4))
   modes : v .lists ≡ true → p .w2 < v .present → p .w4 < events → v .runs ≡ false → Verdict p v nc nm SetDaqListMode (deed.SetMode (p .w2) (p .w4))
   stops : v .lists ≡ true → p .w2 < v .present → Verdict p v nc nm StartStopDaqList (deed.Stop (p .w2))
-  starts : v .lists ≡ true → p .w2 < v .present → p .b1 ≡ 1 → v .runs ≡ false → Verdict p v nc nm StartStopDaqList (deed.Start (p .w2))
+  starts : v .lists ≡ true → p .w2 < v .present → p .b1 ≡ 1 → v .runs ≡ false → v .fits ≡ true → Verdict p v nc nm StartStopDaqList (deed.Start (p .w2))
   goes-on : v .lists ≡ true → p .w2 < v .present → Verdict p v nc nm StartStopDaqList (deed.KeepRunning (p .w2))
   selects : v .lists ≡ true → p .w2 < v .present → Verdict p v nc nm StartStopDaqList (deed.Select (p .w2))
   stops-all : v .lists ≡ true → Verdict p v nc nm StartStopSynch deed.StopAll
-  starts-all : v .lists ≡ true → p .b1 ≡ 1 → Verdict p v nc nm StartStopSynch deed.StartSelected
+  starts-all : v .lists ≡ true → p .b1 ≡ 1 → v .ready ≡ true → Verdict p v nc nm StartStopSynch deed.StartSelected
   stops-some : v .lists ≡ true → Verdict p v nc nm StartStopSynch deed.StopSelected
   processor : Verdict p v nc nm GetDaqProcessorInfo deed.ProcessorInfo
   resolution : Verdict p v nc nm GetDaqResolutionInfo deed.ResolutionInfo
   frees : v .lists ≡ true → Verdict p v nc nm FreeDaq deed.FreeLists
   allocs-lists : v .lists ≡ true → v .freed ≡ true → v .present ≡ 0 → p .w2 ≢ 0 → p .w2 ≤ lists → Verdict p v nc nm AllocDaq (deed.AllocLists (p .w2))
-  allocs-odts : v .lists ≡ true → p .w2 < v .present → v .odts ≡ 0 → v .entriesTaken ≡ 0 → p .b4 ≢ 0 → v .odtsTaken + p .b4 ≤ allOdts
+  allocs-odts : v .lists ≡ true → p .w2 < v .present → v .odts ≡ 0 → v .entriesTaken ≡ 0 → v .started ≡ false → p .b4 ≢ 0 → v .odtsTaken + p .b4 ≤ allOdts
       → Verdict p v nc nm AllocOdt (deed.AllocOdts (p .w2) (p .b4))
   allocs-entries : v .lists ≡ true → p .b4 < v .odts → v .entries ≡ 0 → v .runs ≡ false → p .b5 ≢ 0 → v .entriesTaken + p .b5 ≤ allEntries
       → Verdict p v nc nm AllocOdtEntry (deed.AllocEntries (p .w2) (p .b4) (p .b5))
@@ -222,7 +222,7 @@ module _ (p : Packet) (v : Seen) (nc nm : ℕ) where
         cond-ind (Led StartStopDaqList) (eqb (p .b1) 0) (λ _. stops free (leb-false (v .present) (p .w2) list)) (λ _.
         cond-ind (Led StartStopDaqList) (eqb (p .b1) 1) (λ mode.
         cond-ind (Led StartStopDaqList) (v .runs) (λ _. goes-on free (leb-false (v .present) (p .w2) list)) (λ still.
-        cond-ind (Led StartStopDaqList) (v .fits) (λ _. starts free (leb-false (v .present) (p .w2) list) (eqb-true (p .b1) 1 mode) still) (λ _. refused StartStopDaqList _)))
+        cond-ind (Led StartStopDaqList) (v .fits) (λ fit. starts free (leb-false (v .present) (p .w2) list) (eqb-true (p .b1) 1 mode) still fit) (λ _. refused StartStopDaqList _)))
         (λ _. selects free (leb-false (v .present) (p .w2) list)))))
 
     synch-found : Led StartStopSynch (synchDeed (v .ready) (p .b1))
@@ -231,7 +231,7 @@ module _ (p : Packet) (v : Seen) (nc nm : ℕ) where
         cond-ind (Led StartStopSynch) (ltb 2 (p .b1)) (λ _. refused StartStopSynch _) (λ _.
         cond-ind (Led StartStopSynch) (eqb (p .b1) 0) (λ _. stops-all free) (λ _.
         cond-ind (Led StartStopSynch) (eqb (p .b1) 1) (λ mode.
-        cond-ind (Led StartStopSynch) (v .ready) (λ _. starts-all free (eqb-true (p .b1) 1 mode)) (λ _. refused StartStopSynch _)) (λ _. stops-some free)))
+        cond-ind (Led StartStopSynch) (v .ready) (λ ready. starts-all free (eqb-true (p .b1) 1 mode) ready) (λ _. refused StartStopSynch _)) (λ _. stops-some free)))
 
     -- ---- the pool
     alloc-lists-found : Led AllocDaq (allocListsDeed (v .freed) (v .present) (p .w2))
@@ -243,17 +243,17 @@ module _ (p : Packet) (v : Seen) (nc nm : ℕ) where
         cond-ind (Led AllocDaq) (ltb lists (p .w2)) (λ _. refused AllocDaq _) (λ few.
         allocs-lists free freed (no-more (v .present) none) (eqb-false (p .w2) 0 some) (ltb-false lists (p .w2) few))))) (λ _. refused AllocDaq _)
 
-    alloc-odts-found : Led AllocOdt (allocOdtsDeed (v .present) (v .odts) (v .odtsTaken) (v .entriesTaken) (v .runs) (p .w2) (p .b4))
+    alloc-odts-found : Led AllocOdt (allocOdtsDeed (v .present) (v .odts) (v .odtsTaken) (v .entriesTaken) (v .started) (p .w2) (p .b4))
     unfolding allocOdtsDeed
     alloc-odts-found =
         cond-ind (Led AllocOdt) (eqb (v .present) 0) (λ _. refused AllocOdt _) (λ _.
         cond-ind (Led AllocOdt) (ltb 0 (v .entriesTaken)) (λ _. refused AllocOdt _) (λ unused.
         cond-ind (Led AllocOdt) (ltb 0 (v .odts)) (λ _. refused AllocOdt _) (λ none.
+        cond-ind (Led AllocOdt) (v .started) (λ _. refused AllocOdt _) (λ still.
         cond-ind (Led AllocOdt) (leb (v .present) (p .w2)) (λ _. refused AllocOdt _) (λ list.
         cond-ind (Led AllocOdt) (eqb (p .b4) 0) (λ _. refused AllocOdt _) (λ some.
-        cond-ind (Led AllocOdt) (v .runs) (λ _. refused AllocOdt _) (λ _.
         cond-ind (Led AllocOdt) (ltb allOdts (v .odtsTaken + p .b4)) (λ _. refused AllocOdt _) (λ room.
-        allocs-odts free (leb-false (v .present) (p .w2) list) (no-more (v .odts) none) (no-more (v .entriesTaken) unused) (eqb-false (p .b4) 0 some)
+        allocs-odts free (leb-false (v .present) (p .w2) list) (no-more (v .odts) none) (no-more (v .entriesTaken) unused) still (eqb-false (p .b4) 0 some)
         (ltb-false allOdts (v .odtsTaken + p .b4) room))))))))
 
     alloc-entries-found : Led AllocOdtEntry (allocEntriesDeed (v .odts) (v .entries) (v .odtsTaken) (v .entriesTaken) (v .runs) (p .w2) (p .b4) (p .b5))

@@ -12,14 +12,13 @@ use lib.ListN.{length}
 use Rattle.line.proofs.Laws.{cond-ind, false-true}
 use Rattle.model.specs.declared.Sampling.{Sampling}
 use Rattle.model.specs.declared.Sampling.the-variants.{Idle, Sampled, Missed}
-use Rattle.model.specs.Model.{Odt, DaqList, noList, Session, firstOf, entriesTaken, sizesOf, bytesIn, runsIn, hasPacket, somePacket, unsent, inStore, inStores, waiting, waitingIn, runs}
-use Rattle.model.specs.Step.{emptied, at, withOdts, withEntries, allocEntries, withoutLists, withNewLists, eachList}
+use Rattle.model.specs.Model.{Odt, DaqList, noList, Session, firstOf, runsIn, someStarted, hasPacket, somePacket, unsent, inStore, inStores, waiting, waitingIn, runs}
+use Rattle.model.specs.Step.{emptied, at, withOdts, allocEntries, withoutLists, withNewLists, eachList}
 use Rattle.model.specs.Calls.{withoutPacket, samplingIn, contentsIn, sampled, packetWith, sampleFrom, sampleIn}
 use Rattle.model.specs.Whole.{sampledAs, isSampled, sampledIn}
-use Rattle.model.proofs.Bounded.{either}
-use Rattle.model.proofs.Fits.{runs-same, runs-alike}
+use Rattle.model.proofs.Fits.{runs-same}
 use Rattle.views.proofs.Parts.{this-or-other, put-by, put-here, put-there}
-use Rattle.views.proofs.Listed.{Listed, before-same, no-bytes, empty-rests, unused-rests}
+use Rattle.views.proofs.Listed.{Listed, before-same, unstarted-rests, all-unstarted}
 
 -- ---- by the stores
 module _ (first : ℕ) (x z : DaqList) where
@@ -83,12 +82,6 @@ pub sent-others : (c : Session) (j d l : ℕ) → l ≢ j → waitingIn (at j (w
 sent-others c j d l n = others-wait c j (withoutPacket d) refl l n
 
 module _ (x : DaqList) (d : ℕ) where
-  count-kept : (o : ℕ) → withoutPacket d x .odt o .entries ≡ x .odt o .entries
-  count-kept o = put-by (λ (y : Odt). y .entries ≡ x .odt o .entries) d (emptied (x .odt d)) (x .odt) o (λ e. ap (λ (i : ℕ). x .odt i .entries) (sym e)) (λ _. refl)
-
-  entry-kept : (o : ℕ) → withoutPacket d x .odt o .entry ≡ x .odt o .entry
-  entry-kept o = put-by (λ (y : Odt). y .entry ≡ x .odt o .entry) d (emptied (x .odt d)) (x .odt) o (λ e. ap (λ (i : ℕ). x .odt i .entry) (sym e)) (λ _. refl)
-
   store-gone : withoutPacket d x .odt d .store ≡ []
   store-gone = ap (λ (y : Odt). y .store) (put-here d (emptied (x .odt d)) (x .odt))
 
@@ -125,7 +118,7 @@ module _ (c : Session) (l d n : ℕ) (run : runsIn c l ≡ true) (there : d + su
       let z : DaqList = withoutPacket d x in
       let still : Empty z 0 d = λ i h. store-kept x d (0 + i) (omega arith) ∙ none i h in
       own-waits c l (withoutPacket d) refl
-      ∙ ap (λ (b : Bool). cond b (inStores number z 0 (x .odts)) []) (runs-same z x (λ o h. count-kept x d o) (λ o h. entry-kept x d o) (c .opened) refl refl refl ∙ run)
+      ∙ ap (λ (b : Bool). cond b (inStores number z 0 (x .odts)) []) (runs-same z x (c .opened) refl refl ∙ run)
       ∙ first-in z still
       ∙ ap₂ (λ (bs : List ℕ) (ps : List (List ℕ)). cond (ltb 0 (length bs)) (((number + d) ∷ bs) ∷ []) [] ++ ps) (store-gone x d)
       (stores-same number z x (d + 1) n (λ i p q. store-kept x d i (omega arith)))
@@ -138,12 +131,6 @@ packet-waits k (b ∷ bs) = rw (lt-ltb 0 (length (b ∷ bs)) (omega arith))
 module _ (first clock : ℕ) (cal meas : List ℕ) (x : DaqList) where
   abbrev withSample : DaqList
   withSample = sampled clock cal meas x
-
-  same-count : (o : ℕ) → withSample .odt o .entries ≡ x .odt o .entries
-  same-count o = either (ltb o (x .odts)) (λ b. rw b) (λ b. rw b)
-
-  same-entry : (o : ℕ) → withSample .odt o .entry ≡ x .odt o .entry
-  same-entry o = either (ltb o (x .odts)) (λ b. rw b) (λ b. rw b)
 
   captured-store : (o : ℕ) → o < x .odts → withSample .odt o .store ≡ contentsIn o clock cal meas (x .odt o)
   captured-store o h = rw (lt-ltb o (x .odts) h)
@@ -163,7 +150,7 @@ unfolding waiting
 sampled-waits o first clock cal meas x run =
     let z : DaqList = sampled clock cal meas x in
     ap (λ (b : Bool). cond b (inStores first z 0 (x .odts)) [])
-    (runs-same z x (λ i h. same-count first clock cal meas x i) (λ i h. same-entry first clock cal meas x i) o refl refl refl ∙ run) ∙ captured-in first clock cal meas x 0 (x .odts) (omega arith)
+    (runs-same z x o refl refl ∙ run) ∙ captured-in first clock cal meas x 0 (x .odts) (omega arith)
 
 -- ---- a list that an event samples runs, and has nothing unsent
 pub sampled-free : (c : Session) (l event : ℕ) → samplingIn c l event ≡ Sampled → (runsIn c l ≡ true) × (unsent (c .list l) ≡ false)
@@ -224,7 +211,7 @@ module _ (c : Session) (event clock : ℕ) (cal meas : List ℕ) where
 
 -- ---- the pool: nothing waits of a list that there is not
 unlisted-waits : (o : Bool) (first : ℕ) → waiting o first noList ≡ []
-unlisted-waits o first = rests o first noList (empty-rests o noList (λ k h. refl))
+unlisted-waits o first = rests o first noList (unstarted-rests o noList refl)
 
 module _ (c : Session) (l : ℕ) where
   pub freed-waits : waitingIn (withoutLists c) l ≡ []
@@ -235,28 +222,17 @@ module _ (c : Session) (l : ℕ) where
   listed-waits has n e =
       unlisted-waits (c .opened) (firstOf (withNewLists n c) l) ∙ sym (ap (waiting (c .opened) (firstOf c l)) (has l (omega arith)) ∙ unlisted-waits (c .opened) (firstOf c l))
 
-  -- ODTs where none has entries, and none has any then
-  pub odts-wait : Listed c → entriesTaken c ≡ 0 → (j n : ℕ) → waitingIn (eachList (withOdts j n) c) l ≡ waitingIn c l
+  -- ODTs where no list was started
+  pub odts-wait : Listed c → someStarted c (c .lists) ≡ false → (j n : ℕ) → waitingIn (eachList (withOdts j n) c) l ≡ waitingIn c l
   odts-wait has e j n =
-      rests (c .opened) (firstOf (eachList (withOdts j n) c) l) (withOdts j n l (c .list l)) (empty-rests (c .opened) (withOdts j n l (c .list l)) (λ k h. refl))
-      ∙ sym (rests (c .opened) (firstOf c l) (c .list l) (unused-rests c has e l))
+      let off : c .list l .started ≡ false = all-unstarted c has e l in
+      rests (c .opened) (firstOf (eachList (withOdts j n) c) l) (withOdts j n l (c .list l)) (unstarted-rests (c .opened) (withOdts j n l (c .list l)) off)
+      ∙ sym (rests (c .opened) (firstOf c l) (c .list l) (unstarted-rests (c .opened) (c .list l) off))
 
--- entries are of size 0 where there were none: a list's bytes are as they were
-no-sizes : (y : Odt) (m n : ℕ) → sizesOf (withEntries m y) n ≡ 0
-unfolding sizesOf
-no-sizes y m zero = refl
-no-sizes y m (suc n) = rw (no-sizes y m n) refl
-
-pub entered-runs : (opened : Bool) (o n : ℕ) (x : DaqList) → x .odt o .entries ≡ 0 → runs opened (allocEntries o n x) ≡ runs opened x
-entered-runs opened o n x e =
-    runs-alike (allocEntries o n x) x
-    (λ i h. put-by (λ (y : Odt). bytesIn y ≡ bytesIn (x .odt i)) o (withEntries n (x .odt o)) (x .odt) i
-    (λ same. no-sizes (x .odt o) n n ∙ sym (no-bytes (x .odt i) (ap (λ (k : ℕ). x .odt k .entries) same ∙ e))) (λ _. refl))
-    opened refl refl refl
-
-pub entries-wait : (c : Session) (l j o n : ℕ) → c .list j .odt o .entries ≡ 0 → runsIn c j ≡ false → waitingIn (at j (allocEntries o n) c) l ≡ waitingIn c l
-entries-wait c l j o n e r =
+-- entries, of a list that does not run and does not then
+pub entries-wait : (c : Session) (l j o n : ℕ) → runsIn c j ≡ false → waitingIn (at j (allocEntries o n) c) l ≡ waitingIn c l
+entries-wait c l j o n r =
     let x : DaqList = allocEntries o n (c .list j) in
     this-or-other l j
-    (λ same. rw same (own-waits c j (allocEntries o n) refl ∙ rests (c .opened) (firstOf c j) x (entered-runs (c .opened) o n (c .list j) e ∙ r) ∙ sym (rests (c .opened) (firstOf c j) (c .list j) r)))
+    (λ same. rw same (own-waits c j (allocEntries o n) refl ∙ rests (c .opened) (firstOf c j) x (runs-same x (c .list j) (c .opened) refl refl ∙ r) ∙ sym (rests (c .opened) (firstOf c j) (c .list j) r)))
     (λ other. others-wait c j (allocEntries o n) refl l other)

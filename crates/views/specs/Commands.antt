@@ -376,11 +376,12 @@ pub record ALLOC-DAQ (p : List ℕ) (c : Session) (cal meas : List ℕ) (o : Don
   pub memory : o .memory ≡ cal
   pub answer : o .answer ≡ 0xFF ∷ []
 
--- ---- D4 ALLOC_ODT: once for a list, and before any entries; so many ODTs, and none of any list has entries or a packet
+-- ---- D4 ALLOC_ODT: once for a list, before any entries, and while no list is started; so many ODTs, and none of any list has entries or a packet
 pub record ALLOC-ODT (p : List ℕ) (c : Session) (cal meas : List ℕ) (o : Done) : Type 0 where
   pub there : two p 2 < c .lists
   pub none : c .list (two p 2) .odts ≡ 0
   pub noEntries : entriesTaken c ≡ 0
+  pub still : (l : ℕ) → l < c .lists → c .list l .started ≡ false
   pub some : 1 ≤ byte p 4
   pub most : odtsTaken c + byte p 4 ≤ 16
   pub count : o .session .list (two p 2) .odts ≡ byte p 4

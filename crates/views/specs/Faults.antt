@@ -206,12 +206,13 @@ ofAllocDaq p c =
     ∷ 0x30 when ltb 8 (two p 2)
     ∷ []
 
--- D4 ALLOC_ODT: ALLOC_DAQ first, no entry yet, and once for a list; list; count; it runs; the pool's 16 ODTs
+-- D4 ALLOC_ODT: ALLOC_DAQ first, no entry yet, once for a list, and no list started; list; count; it runs; the pool's 16 ODTs
 abbrev pub ofAllocOdt : List ℕ → Session → List Check
 ofAllocOdt p c =
     0x29 when eqb (c .lists) 0
     ∷ 0x29 when ltb 0 (entriesInAll c)
     ∷ 0x29 when ltb 0 (c .list (two p 2) .odts)
+    ∷ 0x29 when any (c .lists) (λ l. c .list l .started)
     ∷ 0x22 when noSuchList c (two p 2)
     ∷ 0x22 when eqb (byte p 4) 0
     ∷ 0x11 when running c (two p 2)

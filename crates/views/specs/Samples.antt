@@ -24,12 +24,18 @@ pub record ReadAs (mem : List ℕ) (a b : ℕ) : Type 0 where
   pub beyond : 4096 ≤ a → b ≡ 0
 
 -- ODT o of a list, which is y, captured in bytes bs: the clock, lowest byte first, before those of the first ODT; then entry by entry, and in each
--- from its address on
+-- from its address on. Of the entries all are taken, where they are no more than 63 bytes with the clock, else those before the first for which there is
+-- no room
 pub record Captured (o clock : ℕ) (cal meas : List ℕ) (y : Odt) (bs : List ℕ) : Type 0 where
-  pub long : length bs ≡ leadSize o + sizesBefore y (y .entries)
+  pub taken : ℕ
+  pub some : taken ≤ y .entries
+  pub all : leadSize o + sizesBefore y (y .entries) ≤ 63 → taken ≡ y .entries
+  pub next : taken < y .entries → 63 < leadSize o + sizesBefore y (suc taken)
+  pub most : length bs ≤ 63
+  pub long : length bs ≡ leadSize o + sizesBefore y taken
   pub low : o ≡ 0 → byte bs 0 ≡ clock % 256
   pub high : o ≡ 0 → byte bs 1 ≡ clock / 256 % 256
-  pub bytes : (e j : ℕ) → e < y .entries → j < y .entry e .size
+  pub bytes : (e j : ℕ) → e < taken → j < y .entry e .size
       → ReadAs (memoryOf (y .entry e .extension) cal meas) (y .entry e .address + j) (byte bs (leadSize o + sizesBefore y e + j))
 
 -- a list, which is x, sampled: z then has in store what was captured of each ODT, whose entries are x's

@@ -64,9 +64,9 @@ tooLong x (suc o) = ltb 63 (bytesOfOdt (x .odt (suc o)))
 abbrev pub unfit : DaqList → Bool
 unfit x = eqb (x .mode) 0 || (not (any (x .odts) (λ o. any (x .odt o .entries) (λ e. ltb 0 (x .odt o .entry e .size)))) || any (x .odts) (tooLong x))
 
--- it runs: a session is open, and it was started and can be
+-- it runs: a session is open, it was started, and it has an ODT
 abbrev pub running : Session → ℕ → Bool
-running c l = c .opened && (c .list l .started && not (unfit (c .list l)))
+running c l = c .opened && (c .list l .started && ltb 0 (c .list l .odts))
 
 -- ---- what of the pool is taken
 abbrev pub odtsInAll : Session → ℕ

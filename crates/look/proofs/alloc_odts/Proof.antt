@@ -15,14 +15,14 @@ odt-total-requires c κs = search needs
 entry-total-requires : tie.Need-entry-total-requires
 entry-total-requires c κs = search needs
 
-runs-requires : tie.Need-runs-requires
-runs-requires c κs = search needs
+any-started-requires : tie.Need-any-started-requires
+any-started-requires c κs = search needs
 
 alloc-odts-requires : tie.Need-alloc-odts-requires
 alloc-odts-requires c κs = search needs
 
 returns : tie.Need-returns
-returns c = c .alloc-odts .ensures ∙ rw (c .before .before .before .before .before .list-count .ensures .0, c .before .before .before .before .odts .ensures .0, c .before .before .before .odt-total .ensures .0, c .before .before .entry-total .ensures .0, c .before .runs .ensures)
+returns c = c .alloc-odts .ensures ∙ rw (c .before .before .before .before .before .list-count .ensures .0, c .before .before .before .before .odts .ensures .0, c .before .before .before .odt-total .ensures .0, c .before .before .entry-total .ensures .0, c .before .any-started .ensures)
 
 pub alloc-odts-spec : {M : Type 1} → statement M
 alloc-odts-spec =
@@ -32,6 +32,6 @@ alloc-odts-spec =
     odts-requires
     odt-total-requires
     entry-total-requires
-    runs-requires
+    any-started-requires
     alloc-odts-requires
     returns)

@@ -18,15 +18,15 @@ returns-3 c = simp (ne-eqb _ _ (c .before .before .if1 .left), le-ltb _ _ (c .be
 
 returns-4 : tie.Need-returns-4
 unfolding allocOdtsDeed
-returns-4 c = simp (ne-eqb _ _ (c .before .before .before .if1 .left), le-ltb _ _ (c .before .before .if2 .left), le-ltb _ _ (c .before .if3 .left), le-leb _ _ (c .if4 .taken))
+returns-4 c = simp (ne-eqb _ _ (c .before .before .before .if1 .left), le-ltb _ _ (c .before .before .if2 .left), le-ltb _ _ (c .before .if3 .left), c .if4 .taken)
 
 returns-5 : tie.Need-returns-5
 unfolding allocOdtsDeed
-returns-5 c = simp (ne-eqb _ _ (c .before .before .before .before .if1 .left), le-ltb _ _ (c .before .before .before .if2 .left), le-ltb _ _ (c .before .before .if3 .left), lt-leb _ _ (c .before .if4 .left), eq-eqb _ _ (c .if5 .taken))
+returns-5 c = simp (ne-eqb _ _ (c .before .before .before .before .if1 .left), le-ltb _ _ (c .before .before .before .if2 .left), le-ltb _ _ (c .before .before .if3 .left), c .before .if4 .left, le-leb _ _ (c .if5 .taken))
 
 returns-6 : tie.Need-returns-6
 unfolding allocOdtsDeed
-returns-6 c = simp (ne-eqb _ _ (c .before .before .before .before .before .if1 .left), le-ltb _ _ (c .before .before .before .before .if2 .left), le-ltb _ _ (c .before .before .before .if3 .left), lt-leb _ _ (c .before .before .if4 .left), ne-eqb _ _ (c .before .if5 .left), c .if6 .taken)
+returns-6 c = simp (ne-eqb _ _ (c .before .before .before .before .before .if1 .left), le-ltb _ _ (c .before .before .before .before .if2 .left), le-ltb _ _ (c .before .before .before .if3 .left), c .before .before .if4 .left, lt-leb _ _ (c .before .if5 .left), eq-eqb _ _ (c .if6 .taken))
 
 cast-if7 : tie.Need-cast-if7
 cast-if7 c = search needs
@@ -36,14 +36,14 @@ add-if7 c = search needs
 
 returns-7 : tie.Need-returns-7
 unfolding allocOdtsDeed
-returns-7 c = simp (ne-eqb _ _ (c .before .before .before .before .before .before .if1 .left), le-ltb _ _ (c .before .before .before .before .before .if2 .left), le-ltb _ _ (c .before .before .before .before .if3 .left), lt-leb _ _ (c .before .before .before .if4 .left), ne-eqb _ _ (c .before .before .if5 .left), c .before .if6 .left, lt-ltb _ _ (c .if7 .taken))
+returns-7 c = simp (ne-eqb _ _ (c .before .before .before .before .before .before .if1 .left), le-ltb _ _ (c .before .before .before .before .before .if2 .left), le-ltb _ _ (c .before .before .before .before .if3 .left), c .before .before .before .if4 .left, lt-leb _ _ (c .before .before .if5 .left), ne-eqb _ _ (c .before .if6 .left), lt-ltb _ _ (c .if7 .taken))
 
 cast-t21 : tie.Need-cast-t21
 cast-t21 c = search needs
 
 returns-8 : tie.Need-returns-8
 unfolding allocOdtsDeed
-returns-8 c = simp (ne-eqb _ _ (c .before .before .before .before .before .before .if1 .left), le-ltb _ _ (c .before .before .before .before .before .if2 .left), le-ltb _ _ (c .before .before .before .before .if3 .left), lt-leb _ _ (c .before .before .before .if4 .left), ne-eqb _ _ (c .before .before .if5 .left), c .before .if6 .left, le-ltb _ _ (c .if7 .left))
+returns-8 c = simp (ne-eqb _ _ (c .before .before .before .before .before .before .if1 .left), le-ltb _ _ (c .before .before .before .before .before .if2 .left), le-ltb _ _ (c .before .before .before .before .if3 .left), c .before .before .before .if4 .left, lt-leb _ _ (c .before .before .if5 .left), ne-eqb _ _ (c .before .if6 .left), le-ltb _ _ (c .if7 .left))
 
 pub alloc-odts-spec : {M : Type 1} → statement M
 alloc-odts-spec =

@@ -2,7 +2,7 @@ use Prim.Native.Nat.{ℕ}
 use borrow.Author.Tests.{lt-ltb, le-ltb, eq-eqb, ne-eqb}
 use native.Mathlib.Omega.{arith}
 use mathlib.Core.Path.{_≡_, refl, _∙_, ap}
-use lib.ListN.{length, length-set}
+use lib.ListN.{length, set, length-set}
 use Rattle.line.specs.Stuffing.{SYNC}
 use Rattle.line.specs.Message.{headIn, byteForm}
 use Rattle.line.specs.Writer.{writeOf}
@@ -30,32 +30,32 @@ cast-len c = search needs
 slice-write-out : tie.Need-slice-write-out
 slice-write-out c = search needs
 
+slice-write-out-2 : tie.Need-slice-write-out-2
+slice-write-out-2 c = simp length-set (omega arith)
+
 stuff-byte-requires : tie.Need-stuff-byte-requires
-stuff-byte-requires c κs = simp length-set (omega arith)
-
-stuff-byte-requires-2 : tie.Need-stuff-byte-requires-2
-stuff-byte-requires-2 c κs = omega (arith, c .before .before .before .stuff-byte .ensures .next, byte-size (length (c .before .before .before .before .before .before .before .before .before .before .args .packet .now)), c .before .before .before .stuff-byte .kept .1 .0, length-set {A = ℕ} (c .before .before .before .before .before .before .before .before .before .before .args .out .now) 0 SYNC, c .before .before .before .before .before .if3 .left)
-
-stuff-bytes-requires : tie.Need-stuff-bytes-requires
-stuff-bytes-requires c κs = omega (arith, c .before .before .before .before .before .before .before .stuff-byte .ensures .next, c .before .before .before .stuff-byte2 .ensures .next, byte-size (length (c .before .before .before .before .before .before .before .before .before .before .before .before .before .before .args .packet .now)), byte-size (c .before .before .before .before .before .before .before .before .before .before .before .before .before .before .args .ctr), c .before .before .before .before .before .before .before .stuff-byte .kept .1 .0, c .before .before .before .stuff-byte2 .kept .1 .0, length-set {A = ℕ} (c .before .before .before .before .before .before .before .before .before .before .before .before .before .before .args .out .now) 0 SYNC, c .before .before .before .before .before .before .before .before .before .if3 .left, c .before .before .before .before .before .before .before .before .before .before .if2 .left)
+stuff-byte-requires c κs = (omega arith, simp length-set (omega (arith, c .before .if3 .left)))
 
 wrapping-add-u8-requires : tie.Need-wrapping-add-u8-requires
 wrapping-add-u8-requires c κs = search needs
 
-sum-of-requires : tie.Need-sum-of-requires
-sum-of-requires c κs = search needs
+stuff-packet-requires : tie.Need-stuff-packet-requires
+stuff-packet-requires c κs = (refl, omega (arith, c .before .before .before .before .stuff-byte .ensures .next, byte-size (c .before .before .before .before .before .before .before .before .before .before .before .args .ctr), c .before .before .before .before .before .before .before .if2 .left), omega (arith, c .before .before .before .before .stuff-byte .kept .1 .0, length-set {A = ℕ} (c .before .before .before .before .before .before .before .before .before .before .before .args .out .now) 0 SYNC, length-set {A = ℕ} (set (c .before .before .before .before .before .before .before .before .before .before .before .args .out .now) 0 SYNC) 1 (length (c .before .before .before .before .before .before .before .before .before .before .before .args .packet .now)), c .before .before .before .before .before .before .if3 .left))
 
-stuff-byte-requires-3 : tie.Need-stuff-byte-requires-3
-stuff-byte-requires-3 c κs = omega (arith, c .before .before .before .before .before .before .before .before .before .before .before .before .before .stuff-byte .ensures .next, c .before .before .before .before .before .before .before .before .before .stuff-byte2 .ensures .next, c .before .before .before .before .before .stuff-bytes .ensures .next, byte-size (length (c .before .before .before .before .before .before .before .before .before .before .before .before .before .before .before .before .before .before .before .before .args .packet .now)), byte-size (c .before .before .before .before .before .before .before .before .before .before .before .before .before .before .before .before .before .before .before .before .args .ctr), stuff-short (c .before .before .before .before .before .before .before .before .before .before .before .before .before .before .before .before .before .before .before .before .args .packet .now), c .before .before .before .before .before .before .before .before .before .before .before .before .before .stuff-byte .kept .1 .0, c .before .before .before .before .before .before .before .before .before .stuff-byte2 .kept .1 .0, c .before .before .before .before .before .stuff-bytes .kept .1 .0, length-set {A = ℕ} (c .before .before .before .before .before .before .before .before .before .before .before .before .before .before .before .before .before .before .before .before .args .out .now) 0 SYNC, c .before .before .before .before .before .before .before .before .before .before .before .before .before .before .before .if3 .left, c .before .before .before .before .before .before .before .before .before .before .before .before .before .before .before .before .if2 .left)
+stuff-byte-requires-2 : tie.Need-stuff-byte-requires-2
+stuff-byte-requires-2 c κs = (omega (arith, c .before .before .before .before .before .before .before .before .stuff-byte .ensures .next, c .before .before .before .stuff-packet .ensures .0 .next, byte-size (c .before .before .before .before .before .before .before .before .before .before .before .before .before .before .before .args .ctr), stuff-short (c .before .before .before .before .before .before .before .before .before .before .before .before .before .before .before .args .packet .now), c .before .before .before .before .before .before .before .before .before .before .before .if2 .left), omega (arith, c .before .before .before .stuff-packet .kept .1 .1 .1 .0, c .before .before .before .before .before .before .before .before .stuff-byte .kept .1 .0, length-set {A = ℕ} (c .before .before .before .before .before .before .before .before .before .before .before .before .before .before .before .args .out .now) 0 SYNC, length-set {A = ℕ} (set (c .before .before .before .before .before .before .before .before .before .before .before .before .before .before .before .args .out .now) 0 SYNC) 1 (length (c .before .before .before .before .before .before .before .before .before .before .before .before .before .before .before .args .packet .now)), c .before .before .before .before .before .before .before .before .before .before .if3 .left))
+
+cast-size : tie.Need-cast-size
+cast-size c = search needs
 
 same-length : tie.Need-same-length
-same-length c = c .before .before .stuff-byte3 .kept .1 .0 ∙ c .before .before .before .before .before .before .before .before .stuff-bytes .kept .1 .0 ∙ c .before .before .before .before .before .before .before .before .before .before .before .before .stuff-byte2 .kept .1 .0 ∙ c .before .before .before .before .before .before .before .before .before .before .before .before .before .before .before .before .stuff-byte .kept .1 .0 ∙ length-set {A = ℕ} (c .before .before .before .before .before .before .before .before .before .before .before .before .before .before .before .before .before .before .before .before .before .before .before .args .out .now) 0 SYNC
+same-length c = c .before .before .stuff-byte2 .kept .1 .0 ∙ c .before .before .before .before .before .before .stuff-packet .kept .1 .1 .1 .0 ∙ c .before .before .before .before .before .before .before .before .before .before .before .stuff-byte .kept .1 .0 ∙ length-set {A = ℕ} (set (c .before .before .before .before .before .before .before .before .before .before .before .before .before .before .before .before .before .before .args .out .now) 0 SYNC) 1 (length (c .before .before .before .before .before .before .before .before .before .before .before .before .before .before .before .before .before .before .args .packet .now)) ∙ length-set {A = ℕ} (c .before .before .before .before .before .before .before .before .before .before .before .before .before .before .before .before .before .before .args .out .now) 0 SYNC
 
 returns-4 : tie.Need-returns-4
 unfolding writeOf
-returns-4 c = let s : c .before .before .before .before .sum-of .result ≡ byteForm .checksum (headIn byteForm (c .before .before .before .before .before .before .before .before .before .before .before .before .before .before .before .before .before .before .before .before .before .before .before .args .ctr) (c .before .before .before .before .before .before .before .before .before .before .before .before .before .before .before .before .before .before .before .before .before .before .before .args .packet .now)) = omega (arith, c .before .before .before .before .sum-of .ensures, c .before .before .before .before .before .wrapping-add-u8 .ensures) in
-    let w = written (c .before .before .before .before .before .before .before .before .before .before .before .before .before .before .before .before .before .before .before .before .before .before .before .args .packet .now) (c .before .before .before .before .before .before .before .before .before .before .before .before .before .before .before .before .before .before .before .before .before .before .before .args .out .now) (c .before .before .before .before .before .before .before .before .before .before .before .before .before .before .before .before .before .before .before .before .before .before .before .args .ctr) (c .before .before .before .before .sum-of .result) s (c .before .before .before .before .before .before .before .before .before .before .before .before .before .before .before .before .stuff-byte .ensures) (c .before .before .before .before .before .before .before .before .before .before .before .before .stuff-byte2 .ensures) (c .before .before .before .before .before .before .before .before .stuff-bytes .ensures) (c .before .before .stuff-byte3 .ensures) in
-    simp (ne-eqb _ _ (c .before .before .before .before .before .before .before .before .before .before .before .before .before .before .before .before .before .before .before .before .if1 .left), le-ltb _ _ (c .before .before .before .before .before .before .before .before .before .before .before .before .before .before .before .before .before .before .before .if2 .left), le-ltb _ _ (c .before .before .before .before .before .before .before .before .before .before .before .before .before .before .before .before .before .before .if3 .left)) (record { result = ap Frame (w .0); bytes = w .1 })
+returns-4 c = let s : c .before .before .before .before .before .before .stuff-packet .result .sum ≡ byteForm .checksum (headIn byteForm (c .before .before .before .before .before .before .before .before .before .before .before .before .before .before .before .before .before .before .args .ctr) (c .before .before .before .before .before .before .before .before .before .before .before .before .before .before .before .before .before .before .args .packet .now)) = omega (arith, c .before .before .before .before .before .before .stuff-packet .ensures .1, c .before .before .before .before .before .before .before .before .wrapping-add-u8 .ensures) in
+    let w = written (c .before .before .before .before .before .before .before .before .before .before .before .before .before .before .before .before .before .before .args .packet .now) (c .before .before .before .before .before .before .before .before .before .before .before .before .before .before .before .before .before .before .args .out .now) (c .before .before .before .before .before .before .before .before .before .before .before .before .before .before .before .before .before .before .args .ctr) (c .before .before .before .before .before .before .stuff-packet .result .sum) (c .before .before .before .before .before .before .before .before .before .before .before .before .before .before .if2 .left) s (c .before .before .before .before .before .before .before .before .before .before .before .stuff-byte .ensures) (c .before .before .before .before .before .before .stuff-packet .ensures .0) (c .before .before .stuff-byte2 .ensures) in
+    simp (ne-eqb _ _ (c .before .before .before .before .before .before .before .before .before .before .before .before .before .before .before .if1 .left), le-ltb _ _ (c .before .before .before .before .before .before .before .before .before .before .before .before .before .before .if2 .left), le-ltb _ _ (c .before .before .before .before .before .before .before .before .before .before .before .before .before .if3 .left)) (record { result = ap Frame (w .0); bytes = w .1 })
 
 pub write-spec : {M : Type 1} → statement M
 write-spec =
@@ -66,11 +66,11 @@ write-spec =
     returns-3
     cast-len
     slice-write-out
+    slice-write-out-2
     stuff-byte-requires
-    stuff-byte-requires-2
-    stuff-bytes-requires
     wrapping-add-u8-requires
-    sum-of-requires
-    stuff-byte-requires-3
+    stuff-packet-requires
+    stuff-byte-requires-2
+    cast-size
     same-length
     returns-4)

@@ -1,13 +1,10 @@
-use lib.ListN.{set}
+use Prim.Native.Nat.{ℕ, _+_, _-_, _≤_}
+use mathlib.Core.Path.{_≡_, refl, sym, ap, ap₂, _∙_}
 use mathlib.Core.List.{List}
-use Prim.Native.Nat.{ℕ, suc}
-use Prim.Native.Nat.{_+_, _-_, _≤_}
-use mathlib.Core.Path.{_≡_, refl, sym, ap, _∙_}
 use native.Mathlib.Omega.{arith}
-use native.Mathlib.Nat.{add-zero}
-use lib.ListN.{length, getD, length-set}
+use lib.ListN.{length}
 use Rattle.state.specs.Bytes.{copied}
-use Rattle.lists.proofs.Moving.{copied-down, copied-kept}
+use Rattle.state.proofs.Copies.{moved-behind}
 use borrow.Author.Needs.{needs}
 use Rattle.lists.proofs.alloc.shift.Statement.{statement}
 use Rattle.lists.proofs.alloc.shift.Tie as tie
@@ -18,39 +15,36 @@ Inv-loop s₀ at d n j₀ s j = (j ≤ n) × (s ≡ copied s₀ (at + d + j) s�
 abbrev μ-loop : tie.MeasureT-loop
 μ-loop s₀ at d n j₀ s j = j
 
+cast-j : tie.Need-cast-j Inv-loop μ-loop
+cast-j c = omega (arith, c .before .pre .0, c .before .pre .1)
+
 loop-holds : tie.Need-loop-holds Inv-loop μ-loop
 unfolding copied
-loop-holds c = let e : c .args .n - c .args .n ≡ 0 = omega arith in (omega arith, rw e refl, refl)
+loop-holds c = let e : c .before .args .n - c .before .args .n ≡ 0 = omega arith in (omega arith, rw e refl, refl)
 
-sub-j : tie.Need-sub-j Inv-loop μ-loop
-sub-j c = search needs
+cast-shift-four : tie.Need-cast-shift-four Inv-loop μ-loop
+cast-shift-four c = search needs
 
-add-s : tie.Need-add-s Inv-loop μ-loop
-add-s c = omega (arith, c .before .before .pre .0, c .before .before .pre .1, c .before .loop .inv .0)
+add-shift-four : tie.Need-add-shift-four Inv-loop μ-loop
+add-shift-four c = omega (arith, c .before .before .before .before .pre .0, c .before .before .before .before .pre .1, c .before .before .loop .inv .0)
 
-slice-read-s : tie.Need-slice-read-s Inv-loop μ-loop
-slice-read-s c = omega (arith, c .before .before .before .pre .0, c .before .before .loop .inv .0, c .before .before .loop .inv .2)
-
-add-s-2 : tie.Need-add-s-2 Inv-loop μ-loop
-add-s-2 c = omega (arith, c .before .before .before .pre .0, c .before .before .before .pre .1, c .before .before .loop .inv .0)
-
-add-s-3 : tie.Need-add-s-3 Inv-loop μ-loop
-add-s-3 c = omega (arith, c .before .before .before .pre .0, c .before .before .before .pre .1, c .before .before .loop .inv .0)
-
-slice-write-s : tie.Need-slice-write-s Inv-loop μ-loop
-slice-write-s c = omega (arith, c .before .before .before .pre .0, c .before .before .loop .inv .0, c .before .before .loop .inv .2)
+shift-four-requires : tie.Need-shift-four-requires Inv-loop μ-loop
+shift-four-requires c κs = (omega (arith, c .before .before .before .before .pre .0, c .before .before .loop .inv .0, c .before .before .loop .inv .2, c .before .loop-test .taken), c .before .before .loop .inv .2 ∙ c .before .before .before .before .pre .1)
 
 loop-less : tie.Need-loop-less Inv-loop μ-loop
 loop-less c = search needs
 
 loop-again : tie.Need-loop-again Inv-loop μ-loop
-loop-again c = let e : c .before .before .loop .j ≡ suc (c .before .before .loop .j - 1) = omega arith in (omega arith, ap (λ (t : List ℕ). set t (c .before .before .before .args .at + c .before .before .before .args .d + (c .before .before .loop .j - 1)) (getD t (c .before .before .before .args .at + (c .before .before .loop .j - 1)) 0)) (c .before .before .loop .inv .1 ∙ ap (λ (i : ℕ). copied (c .before .before .before .args .s .now) (c .before .before .before .args .at + c .before .before .before .args .d + i) (c .before .before .before .args .s .now) (c .before .before .before .args .at + i) (c .before .before .before .args .n - i)) e) ∙ ap (set (copied (c .before .before .before .args .s .now) (c .before .before .before .args .at + c .before .before .before .args .d + suc (c .before .before .loop .j - 1)) (c .before .before .before .args .s .now) (c .before .before .before .args .at + suc (c .before .before .loop .j - 1)) (c .before .before .before .args .n - suc (c .before .before .loop .j - 1))) (c .before .before .before .args .at + c .before .before .before .args .d + (c .before .before .loop .j - 1))) (copied-kept (c .before .before .before .args .s .now) (c .before .before .before .args .at + c .before .before .before .args .d) (c .before .before .before .args .at) (c .before .before .before .args .n) (c .before .before .loop .j - 1) (omega (arith, c .before .before .before .pre .0)) (omega (arith, c .before .before .loop .inv .0)) (omega arith)) ∙ sym (copied-down (c .before .before .before .args .s .now) (c .before .before .before .args .at + c .before .before .before .args .d) (c .before .before .before .args .at) (c .before .before .before .args .n) (c .before .before .loop .j - 1) (omega (arith, c .before .before .before .pre .0)) (omega (arith, c .before .before .loop .inv .0))), simp length-set (c .before .before .loop .inv .2))
+loop-again c = let j : c .before .before .before .before .before .loop .j ≡ c .before .before .before .before .before .loop .j - 4 + 4 = omega arith in let w : c .before .before .before .before .before .before .before .args .n - (c .before .before .before .before .before .loop .j - 4) ≡ 4 + (c .before .before .before .before .before .before .before .args .n - c .before .before .before .before .before .loop .j) = omega (arith, c .before .before .before .before .before .loop .inv .0) in let a : c .before .before .before .before .before .before .before .args .at + c .before .before .before .before .before .before .before .args .d + c .before .before .before .before .before .loop .j ≡ c .before .before .before .before .before .before .before .args .at + c .before .before .before .before .before .before .before .args .d + (c .before .before .before .before .before .loop .j - 4) + 4 = omega arith in let b : c .before .before .before .before .before .before .before .args .at + c .before .before .before .before .before .loop .j ≡ c .before .before .before .before .before .before .before .args .at + (c .before .before .before .before .before .loop .j - 4) + 4 = omega arith in let t : c .before .before .before .before .before .loop .s ≡ copied (c .before .before .before .before .before .before .before .args .s .now) (c .before .before .before .before .before .before .before .args .at + c .before .before .before .before .before .before .before .args .d + (c .before .before .before .before .before .loop .j - 4) + 4) (c .before .before .before .before .before .before .before .args .s .now) (c .before .before .before .before .before .before .before .args .at + (c .before .before .before .before .before .loop .j - 4) + 4) (c .before .before .before .before .before .before .before .args .n - c .before .before .before .before .before .loop .j) = c .before .before .before .before .before .loop .inv .1 ∙ ap₂ (λ (x y : ℕ). copied (c .before .before .before .before .before .before .before .args .s .now) x (c .before .before .before .before .before .before .before .args .s .now) y (c .before .before .before .before .before .before .before .args .n - c .before .before .before .before .before .loop .j)) a b in let at4 : c .before .before .before .before .before .before .before .args .at + (c .before .before .before .before .before .loop .j - 4) + c .before .before .before .before .before .before .before .args .d ≡ c .before .before .before .before .before .before .before .args .at + c .before .before .before .before .before .before .before .args .d + (c .before .before .before .before .before .loop .j - 4) = omega arith in (omega (arith, c .before .before .before .before .before .loop .inv .0), c .before .before .shift-four .ensures ∙ ap (λ (i : ℕ). copied (c .before .before .before .before .before .loop .s) i (c .before .before .before .before .before .loop .s) (c .before .before .before .before .before .before .before .args .at + (c .before .before .before .before .before .loop .j - 4)) 4) at4 ∙ ap (λ (u : List ℕ). copied u (c .before .before .before .before .before .before .before .args .at + c .before .before .before .before .before .before .before .args .d + (c .before .before .before .before .before .loop .j - 4)) u (c .before .before .before .before .before .before .before .args .at + (c .before .before .before .before .before .loop .j - 4)) 4) t ∙ moved-behind (c .before .before .before .before .before .before .before .args .s .now) (c .before .before .before .before .before .before .before .args .at + c .before .before .before .before .before .before .before .args .d + (c .before .before .before .before .before .loop .j - 4)) (c .before .before .before .before .before .before .before .args .at + (c .before .before .before .before .before .loop .j - 4)) 4 (c .before .before .before .before .before .before .before .args .n - c .before .before .before .before .before .loop .j) (omega arith) (omega (arith, c .before .before .before .before .before .before .before .pre .0, c .before .before .before .before .before .loop .inv .0, c .before .before .before .before .loop-test .taken)) ∙ ap (copied (c .before .before .before .before .before .before .before .args .s .now) (c .before .before .before .before .before .before .before .args .at + c .before .before .before .before .before .before .before .args .d + (c .before .before .before .before .before .loop .j - 4)) (c .before .before .before .before .before .before .before .args .s .now) (c .before .before .before .before .before .before .before .args .at + (c .before .before .before .before .before .loop .j - 4))) (sym w), c .before .before .shift-four .kept .0 ∙ c .before .before .before .before .before .loop .inv .2)
+
+shift-few-requires : tie.Need-shift-few-requires Inv-loop μ-loop
+shift-few-requires c κs = (omega (arith, c .before .before .before .before .pre .0, c .before .before .loop .inv .0, c .before .before .loop .inv .2), c .before .before .loop .inv .2 ∙ c .before .before .before .before .pre .1)
 
 same-length : tie.Need-same-length Inv-loop μ-loop
-same-length c = c .before .loop .inv .2
+same-length c = c .before .before .shift-few .kept .0 ∙ c .before .before .before .before .before .loop .inv .2
 
 returns : tie.Need-returns Inv-loop μ-loop
-returns c = let e : c .before .loop .j ≡ 0 = omega arith in let z : c .before .before .args .n - 0 ≡ c .before .before .args .n = omega arith in c .before .loop .inv .1 ∙ ap (λ (i : ℕ). copied (c .before .before .args .s .now) (c .before .before .args .at + c .before .before .args .d + i) (c .before .before .args .s .now) (c .before .before .args .at + i) (c .before .before .args .n - i)) e ∙ rw (add-zero, add-zero, z) refl
+returns c = let w : c .before .before .before .before .before .before .before .args .n ≡ c .before .before .before .before .before .loop .j + (c .before .before .before .before .before .before .before .args .n - c .before .before .before .before .before .loop .j) = omega (arith, c .before .before .before .before .before .loop .inv .0) in c .before .before .shift-few .ensures ∙ ap (λ (u : List ℕ). copied u (c .before .before .before .before .before .before .before .args .at + c .before .before .before .before .before .before .before .args .d) u (c .before .before .before .before .before .before .before .args .at) (c .before .before .before .before .before .loop .j)) (c .before .before .before .before .before .loop .inv .1) ∙ moved-behind (c .before .before .before .before .before .before .before .args .s .now) (c .before .before .before .before .before .before .before .args .at + c .before .before .before .before .before .before .before .args .d) (c .before .before .before .before .before .before .before .args .at) (c .before .before .before .before .before .loop .j) (c .before .before .before .before .before .before .before .args .n - c .before .before .before .before .before .loop .j) (omega arith) (omega (arith, c .before .before .before .before .before .before .before .pre .0, c .before .before .before .before .before .loop .inv .0)) ∙ ap (copied (c .before .before .before .before .before .before .before .args .s .now) (c .before .before .before .before .before .before .before .args .at + c .before .before .before .before .before .before .before .args .d) (c .before .before .before .before .before .before .before .args .s .now) (c .before .before .before .before .before .before .before .args .at)) (sym w)
 
 pub shift-spec : {M : Type 1} → statement M
 shift-spec =
@@ -58,14 +52,13 @@ shift-spec =
     (tie.spec
     Inv-loop
     μ-loop
+    cast-j
     loop-holds
-    sub-j
-    add-s
-    slice-read-s
-    add-s-2
-    add-s-3
-    slice-write-s
+    cast-shift-four
+    add-shift-four
+    shift-four-requires
     loop-less
     loop-again
+    shift-few-requires
     same-length
     returns)

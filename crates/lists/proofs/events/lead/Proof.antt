@@ -5,7 +5,6 @@ use Rattle.lists.proofs.Gathered.{pair-sets}
 use borrow.Author.Needs.{needs}
 use Rattle.lists.proofs.events.lead.Statement.{statement}
 use Rattle.lists.proofs.events.lead.Tie as tie
-use Rattle.state.proofs.layout.is_first.Reads as is-first-reads
 
 is-first-requires : tie.Need-is-first-requires
 is-first-requires c κs = search needs
@@ -28,17 +27,14 @@ slice-write-s-2 c = simp length-set (omega (arith, c .before .before .before .pr
 cast-result : tie.Need-cast-result
 cast-result c = search needs
 
-add-result : tie.Need-add-result
-add-result c = search needs
-
 same-length : tie.Need-same-length
 same-length c = search needs
 
 returns : tie.Need-returns
-returns c = rw (sym (c .before .is-first .ensures) ∙ c .if1 .taken) (pair-sets (c .before .before .before .args .s .now) (c .before .before .before .args .at) _ _, omega arith)
+returns c = rw (sym (c .before .is-first .ensures) ∙ c .if1 .taken) (pair-sets (c .before .before .before .args .s .now) (c .before .before .before .args .at) _ _, refl)
 
 returns-2 : tie.Need-returns-2
-returns-2 c = rw (sym (c .before .is-first .ensures) ∙ c .if1 .left) (refl, omega arith)
+returns-2 c = rw (sym (c .before .is-first .ensures) ∙ c .if1 .left) (refl, refl)
 
 pub lead-spec : {M : Type 1} → statement M
 lead-spec =
@@ -51,7 +47,6 @@ lead-spec =
     add-s
     slice-write-s-2
     cast-result
-    add-result
     same-length
     returns
     returns-2)

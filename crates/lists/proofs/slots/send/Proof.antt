@@ -1,12 +1,9 @@
 use mathlib.Core.Path.{refl, sym, subst, _∙_}
 use Rattle.lists.specs.Slot.{sentBy}
-use Rattle.lists.proofs.Sending.{Within, turn-within}
+use Rattle.lists.proofs.Sending.{Back, turn-back}
 use borrow.Author.Needs.{needs}
 use Rattle.lists.proofs.slots.send.Statement.{statement}
 use Rattle.lists.proofs.slots.send.Tie as tie
-use Rattle.lists.proofs.slots.send_answer.Reads as send-answer-reads
-use Rattle.lists.proofs.slots.send_packet.Reads as send-packet-reads
-use Rattle.lists.proofs.slots.turn.Reads as turn-reads
 
 turn-requires : tie.Need-turn-requires
 turn-requires c κs = search needs
@@ -24,14 +21,14 @@ enum-known-t : tie.Need-enum-known-t
 enum-known-t c = search needs
 
 send-packet-requires : tie.Need-send-packet-requires
-send-packet-requires c κs = let w = subst (Within (c .before .before .before .before .before .before .before .before .before .args .s .now)) (sym (c .before .before .before .before .before .turn .ensures) ∙ c .before .before .before .t .given .1) (turn-within (c .before .before .before .before .before .before .before .before .before .args .s .now)) in (c .before .before .before .before .before .before .before .before .before .pre, w .0, w .1)
+send-packet-requires c κs = let w = subst (Back (c .before .before .before .before .before .before .before .before .before .args .s .now) _) (c .before .before .before .t .given .1) (turn-back (c .before .before .before .before .before .before .before .before .before .args .s .now) (c .before .before .before .before .before .turn .result) (c .before .before .before .before .before .turn .ensures)) in (c .before .before .before .before .before .before .before .before .before .pre, w .there, w .from, w .few)
 
 same-length : tie.Need-same-length
 same-length c = search needs
 
 returns : tie.Need-returns
 unfolding sentBy
-returns c = rw (← (c .before .before .turn .ensures), c .enum-told .given .1) (record { result = refl; state = refl; bytes = refl })
+returns c = rw (subst (Back (c .before .before .before .before .before .before .args .s .now) _) (c .enum-told .given .1) (turn-back (c .before .before .before .before .before .before .args .s .now) (c .before .before .turn .result) (c .before .before .turn .ensures))) (record { result = refl; state = refl; bytes = refl })
 
 same-length-2 : tie.Need-same-length-2
 same-length-2 c = search needs
@@ -40,7 +37,7 @@ same-length-3 : tie.Need-same-length-3
 same-length-3 c = search needs
 
 returns-2 : tie.Need-returns-2
-returns-2 c = rw (← (c .before .before .before .before .before .before .before .before .before .turn .ensures), c .before .before .before .before .before .before .before .enum-told2 .given .1) (c .before .before .before .before .send-answer .ensures)
+returns-2 c = rw (subst (Back (c .before .before .before .before .before .before .before .before .before .before .before .before .before .args .s .now) _) (c .before .before .before .before .before .before .before .enum-told2 .given .1) (turn-back (c .before .before .before .before .before .before .before .before .before .before .before .before .before .args .s .now) (c .before .before .before .before .before .before .before .before .before .turn .result) (c .before .before .before .before .before .before .before .before .before .turn .ensures))) (c .before .before .before .before .send-answer .ensures)
 
 same-length-4 : tie.Need-same-length-4
 same-length-4 c = search needs
@@ -49,7 +46,7 @@ same-length-5 : tie.Need-same-length-5
 same-length-5 c = search needs
 
 returns-3 : tie.Need-returns-3
-returns-3 c = rw (← (c .before .before .before .before .before .before .before .before .before .before .turn .ensures), c .before .before .before .before .before .before .before .before .t .given .1) (c .before .before .before .before .send-packet .ensures)
+returns-3 c = let w = subst (Back (c .before .before .before .before .before .before .before .before .before .before .before .before .before .before .args .s .now) _) (c .before .before .before .before .before .before .before .before .t .given .1) (turn-back (c .before .before .before .before .before .before .before .before .before .before .before .before .before .before .args .s .now) (c .before .before .before .before .before .before .before .before .before .before .turn .result) (c .before .before .before .before .before .before .before .before .before .before .turn .ensures)) in rw (w .turn) (c .before .before .before .before .send-packet .ensures)
 
 pub send-spec : {M : Type 1} → statement M
 send-spec =

@@ -19,8 +19,8 @@ add-copy c = search needs
 copy-requires : tie.Need-copy-requires
 copy-requires c κs = (inside-le (c .before .before .before .before .args .address) (c .before .before .before .before .args .n) (length (c .before .before .before .before .args .cal .now)) (c .before .before .before .before .pre .3 .1) .0, omega (arith, c .before .before .before .before .pre .0, c .before .before .before .before .pre .1, c .before .before .before .before .pre .2))
 
-add-t20 : tie.Need-add-t20
-add-t20 c = omega (arith, inside-le (c .before .before .before .before .before .before .before .before .args .address) (c .before .before .before .before .before .before .before .before .args .n) (length (c .before .before .before .before .before .before .before .before .args .cal .now)) (c .before .before .before .before .before .before .before .before .pre .3 .1) .1)
+add-t19 : tie.Need-add-t19
+add-t19 c = omega (arith, inside-le (c .before .before .before .before .before .before .before .before .args .address) (c .before .before .before .before .before .before .before .before .args .n) (length (c .before .before .before .before .before .before .before .before .args .cal .now)) (c .before .before .before .before .before .before .before .before .pre .3 .1) .1)
 
 set-mta-requires : tie.Need-set-mta-requires
 set-mta-requires c κs = search needs
@@ -44,7 +44,7 @@ download-spec =
     (tie.spec
     add-copy
     copy-requires
-    add-t20
+    add-t19
     set-mta-requires
     ok-requires
     same-length

@@ -4,8 +4,8 @@ use borrow.Author.Tests.{lt-ltb, le-ltb}
 use lib.ListN.{length}
 use Rattle.state.specs.Layout.{addressable}
 use Rattle.state.specs.Memory.{byteOf}
-use Rattle.lists.proofs.events.byte_below.Statement.{statement}
-use Rattle.lists.proofs.events.byte_below.Tie as tie
+use Rattle.lists.proofs.word.byte_below.Statement.{statement}
+use Rattle.lists.proofs.word.byte_below.Tie as tie
 
 shared-slice-read-result : tie.Need-shared-slice-read-result
 shared-slice-read-result c = omega (arith, c .before .before .pre, min-le-left (length (c .before .before .args .mem .now)) addressable)
