@@ -84,13 +84,13 @@ pub fn sum(s: &mut [u8], x: u32)
 }
 
 // FF and n bytes of a memory.
-pub fn bytes(s: &mut [u8], mem: &[u8], at: usize, n: u8)
+pub fn bytes(s: &mut [u8], mem: &[u8], at: u32, n: u8)
     requires { ⌜ (length (now s) ≡ size) × (n ≤ uploadMost) × (at + n ≤ length (now mem)) ⌝ }
     ensures { λ _. ⌜ now (s .exit) ≡ answered (now (s .entry)) (0xFF ∷ block (now (mem .entry)) at n) ⌝ }
 {
     s[layout::ANSWER] = n + 1;
     s[layout::ANSWER_BYTES] = 0xFF;
-    copy(s, layout::ANSWER_1, mem, at, n);
+    copy(s, layout::ANSWER_1 as u32, mem, at, n);
 }
 
 // FE and the reason's code.

@@ -1,5 +1,5 @@
-// Blocks of lent bytes, copied from the back, four bytes at a time: a processor that can makes one load and one store of them. What is left is counted in
-// 32 bits: a small processor has no others.
+// Blocks of lent bytes, copied from the back, four bytes at a time: a processor that can makes one load and one store of them. Places and what is left come
+// in 32 bits: a small processor has no others.
 ghost use mathlib.Core.Path.{_≡_};
 ghost use Prim.Native.Nat.{_+_, _≤_};
 ghost use lib.ListN.{length};
@@ -20,26 +20,31 @@ fn copy_four(dst: &mut [u8], at: usize, src: &[u8], from: usize)
     dst[at + 3] = d;
 }
 
-fn copy_few(dst: &mut [u8], at: usize, src: &[u8], from: usize, n: u32)
+fn copy_few(dst: &mut [u8], at: u32, src: &[u8], from: u32, n: u32)
     requires { ⌜ (at + n ≤ length (now dst)) × (from + n ≤ length (now src)) ⌝ }
     ensures { λ _. ⌜ now (dst .exit) ≡ copied (now (dst .entry)) at (now (src .entry)) from n ⌝ }
 {
     let mut i = n;
     while 0 < i {
         i -= 1;
-        dst[at + i as usize] = src[from + i as usize];
+        dst[at as usize + i as usize] = src[from as usize + i as usize];
     }
 }
 
 // The n bytes of src from `from` into dst from `at`.
-pub fn copy(dst: &mut [u8], at: usize, src: &[u8], from: usize, n: u8)
+pub fn copy(dst: &mut [u8], at: u32, src: &[u8], from: u32, n: u8)
     requires { ⌜ (at + n ≤ length (now dst)) × (from + n ≤ length (now src)) ⌝ }
     ensures { λ _. ⌜ now (dst .exit) ≡ copied (now (dst .entry)) at (now (src .entry)) from n ⌝ }
 {
     let mut i = n as u32;
     while 4 <= i {
         i -= 4;
-        copy_four(dst, at + i as usize, src, from + i as usize);
+        copy_four(
+            dst,
+            at as usize + i as usize,
+            src,
+            from as usize + i as usize,
+        );
     }
     copy_few(dst, at, src, from, i);
 }

@@ -120,10 +120,10 @@ fn read(s: &mut [u8], cal: &[u8], meas: &[u8], extension: Extension, address: u3
 {
     match extension {
         Extension::Calibration => {
-            answer::bytes(s, cal, address as usize, n);
+            answer::bytes(s, cal, address, n);
         }
         Extension::Measured => {
-            answer::bytes(s, meas, address as usize, n);
+            answer::bytes(s, meas, address, n);
         }
     }
 }
@@ -162,7 +162,7 @@ pub fn download(s: &mut [u8], cal: &mut [u8], from: u8, address: u32, n: u8, len
     requires { ⌜ (length (now s) ≡ size) × (len ≤ packetMost) × (n + from ≤ len) × Inside downloadMost address n (length (now cal)) ⌝ }
     ensures { λ _. ⌜ (now (s .exit) ≡ after (Deed.Download from address n) (now (s .entry)) [] []) × (now (cal .exit) ≡ written (Deed.Download from address n) (block (now (s .entry)) packetAt len) (now (cal .entry))) ⌝ }
 {
-    copy(cal, address as usize, s, layout::PACKET + from as usize, n);
+    copy(cal, address, s, layout::PACKET as u32 + from as u32, n);
     fields::set_mta(s, Mta::At(Extension::Calibration, address + n as u32));
     answer::ok(s);
 }

@@ -18,6 +18,9 @@ slice-write-s c = search needs
 slice-write-s-2 : tie.Need-slice-write-s-2
 slice-write-s-2 c = search needs
 
+cast-copy : tie.Need-cast-copy
+cast-copy c = search needs
+
 copy-requires : tie.Need-copy-requires
 copy-requires c κs = (simp length-set (omega arith), c .before .before .before .pre .2)
 
@@ -31,4 +34,4 @@ returns c = c .before .before .copy .ensures ∙ rw (block-length (c .before .be
 pub bytes-spec : {M : Type 1} → statement M
 bytes-spec =
     tie.close
-    (tie.spec add-s slice-write-s slice-write-s-2 copy-requires same-length returns)
+    (tie.spec add-s slice-write-s slice-write-s-2 cast-copy copy-requires same-length returns)

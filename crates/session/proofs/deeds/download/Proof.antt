@@ -13,14 +13,17 @@ use borrow.Author.Needs.{needs}
 use Rattle.session.proofs.deeds.download.Statement.{statement}
 use Rattle.session.proofs.deeds.download.Tie as tie
 
+cast-copy : tie.Need-cast-copy
+cast-copy c = search needs
+
 add-copy : tie.Need-add-copy
 add-copy c = search needs
 
 copy-requires : tie.Need-copy-requires
 copy-requires c κs = (inside-le (c .before .before .before .before .args .address) (c .before .before .before .before .args .n) (length (c .before .before .before .before .args .cal .now)) (c .before .before .before .before .pre .3 .1) .0, omega (arith, c .before .before .before .before .pre .0, c .before .before .before .before .pre .1, c .before .before .before .before .pre .2))
 
-add-t19 : tie.Need-add-t19
-add-t19 c = omega (arith, inside-le (c .before .before .before .before .before .before .before .before .args .address) (c .before .before .before .before .before .before .before .before .args .n) (length (c .before .before .before .before .before .before .before .before .args .cal .now)) (c .before .before .before .before .before .before .before .before .pre .3 .1) .1)
+add-t13 : tie.Need-add-t13
+add-t13 c = omega (arith, inside-le (c .before .before .before .before .before .before .before .before .args .address) (c .before .before .before .before .before .before .before .before .args .n) (length (c .before .before .before .before .before .before .before .before .args .cal .now)) (c .before .before .before .before .before .before .before .before .pre .3 .1) .1)
 
 set-mta-requires : tie.Need-set-mta-requires
 set-mta-requires c κs = search needs
@@ -42,9 +45,10 @@ pub download-spec : {M : Type 1} → statement M
 download-spec =
     tie.close
     (tie.spec
+    cast-copy
     add-copy
     copy-requires
-    add-t19
+    add-t13
     set-mta-requires
     ok-requires
     same-length
