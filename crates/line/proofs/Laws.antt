@@ -2,14 +2,14 @@
 use mathlib.Core.Path.{_≡_, refl, sym, ap, _∙_}
 use mathlib.Core.Bool.{Bool, true, false, cond}
 use mathlib.Core.List.{List, [], _∷_, _++_, append-assoc, append-nil}
-use Prim.Native.Nat.{ℕ, suc, _+_, _≤_, _<_}
+use Prim.Native.Nat.{ℕ, suc, _+_, _-_, _/_, _≤_, _<_}
 use native.Mathlib.Nat.{add-zero, add-suc, suc-add, zero-add}
 use native.Mathlib.Numerals.{add-one}
 use native.Mathlib.Omega.{arith}
-use borrow.Author.Tests.{ne-eqb}
+use borrow.Author.Tests.{ne-eqb, eqb-true, eqb-false}
 use lib.Dec.{eqb}
 use lib.ListN.{length, take, getD, set, length-append}
-use lib.Seq.{sets, take-suc}
+use lib.Seq.{sets, set-set, take-suc}
 use Rattle.line.specs.Stuffing.{SYNC, ESC, stuffByte, stuff}
 use Rattle.line.specs.Message.{headIn, byteForm, most, sum, frame}
 use Rattle.line.specs.Writer.{atFront, Stored}
@@ -71,6 +71,18 @@ stuff-one b = append-nil (stuffByte b)
 stuff-next : (l : List ℕ) (i : ℕ) → i < length l → stuff (take (i + 1) l) ≡ stuff (take i l) ++ stuffByte (getD l i 0)
 stuff-next l i h = rw (add-one, take-suc l i 0 h, stuff-append (take i l) (getD l i 0 ∷ []), stuff-one (getD l i 0))
 
+-- SYNC and ESC differ in their lowest bit alone, and what follows ESC tells them apart; any other byte stands as itself
+escaped : (b : ℕ) → b / 2 ≡ SYNC / 2 → stuffByte b ≡ ESC ∷ (ESC - b) ∷ []
+escaped b h = go (eqb b SYNC) (eqb b ESC) refl refl
+  where
+    go : (t u : Bool) → eqb b SYNC ≡ t → eqb b ESC ≡ u → cond t (ESC ∷ 1 ∷ []) (cond u (ESC ∷ 0 ∷ []) (b ∷ [])) ≡ ESC ∷ (ESC - b) ∷ []
+    go true u e f = rw (eqb-true b SYNC e)
+    go false true e f = rw (eqb-true b ESC f)
+    go false false e f = absurd (omega (arith, h, eqb-false b SYNC e, eqb-false b ESC f))
+
+itself : (b : ℕ) → (b / 2 ≡ SYNC / 2 → ⊥) → stuffByte b ≡ b ∷ []
+itself b h = simp (ne-eqb b SYNC (λ e. h (rw e)), ne-eqb b ESC (λ e. h (rw e)))
+
 -- a byte takes one byte of the wire or two
 pub byte-size : (b : ℕ) → (1 ≤ length (stuffByte b)) × (length (stuffByte b) ≤ 2)
 byte-size b =
@@ -80,6 +92,13 @@ byte-size b =
 pub stuff-short : (bs : List ℕ) → length (stuff bs) ≤ length bs + length bs
 stuff-short [] = omega arith
 stuff-short (b ∷ bs) = rw (length-append (stuffByte b) (stuff bs)) (omega (arith, byte-size b, stuff-short bs))
+
+-- a byte as it is stored: as itself, and ESC over it if that was SYNC or ESC
+pub stored-escaped : (l : List ℕ) (at b : ℕ) → b / 2 ≡ SYNC / 2 → Stored l at (stuffByte b) (set (set (set l at b) at ESC) (at + 1) (ESC - b)) (at + 1 + 1)
+stored-escaped l at b h = rw (escaped b h, set-set l at b ESC, add-one at) (record { next = omega arith; bytes = refl })
+
+pub stored-itself : (l : List ℕ) (at b : ℕ) → (b / 2 ≡ SYNC / 2 → ⊥) → Stored l at (stuffByte b) (set l at b) (at + 1)
+stored-itself l at b h = rw (itself b h) (record { next = refl; bytes = refl })
 
 -- the first i bytes of l, stuffed, and one byte more
 pub stored-next : {l l′ l″ : List ℕ} {at r r′ : ℕ} (bs : List ℕ) (i : ℕ) → i < length bs → Stored l at (stuff (take i bs)) l′ r → Stored l′ r (stuffByte (getD bs i 0)) l″ r′ → Stored l at (stuff (take (i + 1) bs)) l″ r′

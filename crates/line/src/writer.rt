@@ -22,19 +22,14 @@ fn stuff_byte(byte: u8, out: &mut [u8], at: u32) -> u32
     requires { ⌜ (at + 2 ≤ room) × (room ≤ length (now out)) ⌝ }
     ensures { λ r. ⌜ Stored (now (out .entry)) at (stuffByte byte) (now (out .exit)) r ⌝ }
 {
-    let i = at as usize;
-    if byte == SYNC {
-        out[i] = ESC;
-        out[i + 1] = 1;
-        return at + 2;
+    let mut end = at;
+    out[end as usize] = byte;
+    if byte / 2 == SYNC / 2 {
+        out[end as usize] = ESC;
+        end += 1;
+        out[end as usize] = ESC - byte;
     }
-    if byte == ESC {
-        out[i] = ESC;
-        out[i + 1] = 0;
-        return at + 2;
-    }
-    out[i] = byte;
-    at + 1
+    end + 1
 }
 
 // A packet of n bytes as it stands on the wire, likewise, and its sum behind what was summed before.
