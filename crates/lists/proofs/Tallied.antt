@@ -1,13 +1,14 @@
 -- One list more at an event. Assumes nothing.
 use mathlib.Core.Path.{_≡_, refl, _∙_}
 use mathlib.Core.List.{List}
-use Prim.Native.Nat.{ℕ, zero, suc, _+_}
+use Prim.Native.Nat.{ℕ, zero, suc, _+_, _≤_, _<_}
+use native.Mathlib.Omega.{arith}
 use Rattle.state.specs.Pool.{firstOdt, odtCount}
 use Rattle.model.specs.declared.Sampling.{Sampling}
 use Rattle.model.specs.declared.Sampling.the-variants.{Idle, Sampled, Missed}
 use Rattle.lists.proofs.Entries.{Alike}
 use Rattle.lists.proofs.Gathered.{captured-alike}
-use Rattle.lists.specs.Event.{samplingOf, sampledState, sampledBy, missedBy, tally, Counts}
+use Rattle.lists.specs.Event.{samplingOf, captured, sampledState, sampledBy, missedBy, tally, Counts}
 
 pub counts-next : (s₀ : List ℕ) (event clock : ℕ) (cal meas : List ℕ) (l : ℕ) {s t : List ℕ} {n m : ℕ} {c : Sampling}
     → Counts (tally s₀ event clock cal meas l) s n m → c ≡ samplingOf s l event → t ≡ sampledState c s l clock cal meas
@@ -18,6 +19,26 @@ counts-next s₀ event clock cal meas l r e f = record {
   sampled = rw (r .sampled, e, r .state);
   missed = rw (r .missed, e, r .state);
 }
+
+-- a list that samples is captured; any other stays as it is
+module _ (s : List ℕ) (l clock : ℕ) (cal meas : List ℕ) where
+  pub if-sampled : (c : Sampling) → 0 < sampledBy c → captured s l clock cal meas ≡ sampledState c s l clock cal meas
+  unfolding sampledState
+  if-sampled Idle h = absurd (none h) where
+    none : 0 < 0 → ⊥
+    none p = omega arith
+  if-sampled Sampled h = refl
+  if-sampled Missed h = absurd (none h) where
+    none : 0 < 0 → ⊥
+    none p = omega arith
+
+  pub if-not : (c : Sampling) → sampledBy c ≤ 0 → s ≡ sampledState c s l clock cal meas
+  unfolding sampledState
+  if-not Idle h = refl
+  if-not Sampled h = absurd (none h) where
+    none : 1 ≤ 0 → ⊥
+    none p = omega arith
+  if-not Missed h = refl
 
 -- an event changes packets alone
 sampled-alike : (c : Sampling) (s : List ℕ) (l clock : ℕ) (cal meas : List ℕ) → Alike (sampledState c s l clock cal meas) s

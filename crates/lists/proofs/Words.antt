@@ -1,13 +1,12 @@
 -- Words of an entry's bytes: four bytes make one, and it has them. Assumes nothing.
-use mathlib.Core.Path.{_≡_, refl, sym, ap, ap₂, _∙_}
-use mathlib.Core.List.{List, [], _∷_}
-use Prim.Native.Nat.{ℕ, zero, suc, _+_, _*_, _-_, _/_, _%_, _≤_, _<_}
+use mathlib.Core.Path.{_≡_, refl, ap, ap₂, _∙_}
+use mathlib.Core.List.{List, _∷_}
+use Prim.Native.Nat.{ℕ, zero, suc, _+_, _*_, _/_, _%_, _≤_, _<_}
 use native.Mathlib.Numerals.{add-one}
 use native.Mathlib.Omega.{arith}
-use borrow.Author.Tests.{lt-ltb}
+use borrow.Author.Tests.{lt-ltb, le-ltb}
 use lib.ListN.{length, getD, set}
 use lib.Seq.{sets}
-use Rattle.state.specs.Layout.{entryMost}
 use Rattle.state.specs.Memory.{reach, byteOf, bytesOf}
 use Rattle.lists.specs.Word.{wordBytes, Holds}
 
@@ -18,39 +17,6 @@ word-step a x n h =
     let low : (a + 256 * x) % 256 ≡ a = omega arith in
     let high : (a + 256 * x) / 256 ≡ x = omega arith in
     rw (low, high)
-
--- of a word without its highest byte the lowest three are the same
-same-low : (x y q : ℕ) → y ≡ x + 256 * q → x % 256 ≡ y % 256
-same-low x y q e = omega arith
-
-up-a-byte : (x y q : ℕ) → y ≡ x + 256 * q → y / 256 ≡ x / 256 + q
-up-a-byte x y q e = omega arith
-
--- words that differ by what lies above so many bytes
-abbrev above : ℕ → ℕ → ℕ
-above zero q = q
-above (suc n) q = 256 * above n q
-
-low-same : (n x y q : ℕ) → y ≡ x + above n q → wordBytes x n ≡ wordBytes y n
-unfolding wordBytes
-low-same zero x y q e = refl
-low-same (suc n) x y q e = ap₂ (λ (a : ℕ) (l : List ℕ). a ∷ l) (same-low x y (above n q) e) (low-same n (x / 256) (y / 256) q (up-a-byte x y (above n q) e))
-
-word-low : (w n : ℕ) → n < 4 → wordBytes (w % 16777216) n ≡ wordBytes w n
-word-low w zero h = low-same 0 (w % 16777216) w (16777216 * (w / 16777216)) (omega arith)
-word-low w (suc zero) h = low-same 1 (w % 16777216) w (65536 * (w / 16777216)) (omega arith)
-word-low w (suc (suc zero)) h = low-same 2 (w % 16777216) w (256 * (w / 16777216)) (omega arith)
-word-low w (suc (suc (suc zero))) h = low-same 3 (w % 16777216) w (w / 16777216) (omega arith)
-word-low w (suc (suc (suc (suc n)))) h = absurd (none h) where
-  none : suc (suc (suc (suc n))) < 4 → ⊥
-  none p = omega arith
-
--- one byte more of a memory, before those that a word has
-pub word-more : (mem : List ℕ) (at w n b : ℕ) → n < 4 → b < 256 → b ≡ byteOf mem at → wordBytes w n ≡ bytesOf mem (suc at) n → wordBytes (w % 16777216 * 256 + b) (suc n) ≡ bytesOf mem at (suc n)
-unfolding bytesOf
-word-more mem at w n b few h e k =
-    let flat : w % 16777216 * 256 + b ≡ b + 256 * (w % 16777216) = omega arith in
-    ap (λ (x : ℕ). wordBytes x (suc n)) flat ∙ word-step b (w % 16777216) n h ∙ ap₂ (λ (x : ℕ) (xs : List ℕ). x ∷ xs) e (word-low w n few ∙ k)
 
 -- a byte of a memory before those that a word has
 held : (mem : List ℕ) (at a x n : ℕ) → a < 256 → a ≡ byteOf mem at → ((m : ℕ) → m ≤ n → wordBytes x m ≡ bytesOf mem (suc at) m) → (m : ℕ) → m ≤ suc n → wordBytes (a + 256 * x) m ≡ bytesOf mem at m
@@ -83,7 +49,28 @@ pub byte-inside : (mem : List ℕ) (a : ℕ) → a < reach (length mem) → getD
 unfolding byteOf
 byte-inside mem a h = simp (lt-ltb a (reach (length mem)) h)
 
--- ---- a word stored, whole or byte by byte
+-- one that is not is 0
+pub byte-outside : (mem : List ℕ) (a : ℕ) → reach (length mem) ≤ a → byteOf mem a ≡ 0
+unfolding byteOf
+byte-outside mem a h = simp (le-ltb a (reach (length mem)) h)
+
+-- ---- a word stored, byte by byte
+module _ (s : List ℕ) (to w a : ℕ) (e : a ≡ w % 256) where
+  pub put-one : set s to a ≡ sets s to (wordBytes w 1)
+  unfolding wordBytes
+  put-one = rw e
+
+  module _ (b : ℕ) (f : b ≡ w / 256 % 256) where
+    pub put-two : set (set s to a) (to + 1) b ≡ sets s to (wordBytes w 2)
+    unfolding wordBytes
+    put-two = rw (e, f, add-one to)
+
+    pub put-three : (c : ℕ) → c ≡ w / 256 / 256 % 256 → set (set (set s to a) (to + 1) b) (to + 2) c ≡ sets s to (wordBytes w 3)
+    unfolding wordBytes
+    put-three c g =
+        let two : to + 2 ≡ suc (suc to) = omega arith in
+        rw (e, f, g, add-one to, two)
+
 pub put-four : (s : List ℕ) (to w a b c d : ℕ) → a ≡ w % 256 → b ≡ w / 256 % 256 → c ≡ w / 256 / 256 % 256 → d ≡ w / 256 / 256 / 256 % 256
     → set (set (set (set s to a) (to + 1) b) (to + 2) c) (to + 3) d ≡ sets s to (wordBytes w 4)
 unfolding wordBytes
@@ -92,10 +79,3 @@ put-four s to w a b c d e f g h =
     let two : to + 2 ≡ suc (suc to) = omega arith in
     let three : to + 3 ≡ suc (suc (suc to)) = omega arith in
     rw (e, f, g, h, one, two, three)
-
-pub put-next : (s : List ℕ) (to i w n : ℕ) → i < n → sets (set s (to + i) (w % 256)) (to + (i + 1)) (wordBytes (w / 256) (n - (i + 1))) ≡ sets s (to + i) (wordBytes w (n - i))
-unfolding wordBytes
-put-next s to i w n h =
-    let e : n - i ≡ suc (n - (i + 1)) = omega arith in
-    let f : to + (i + 1) ≡ suc (to + i) = omega arith in
-    rw (e, f)

@@ -2,7 +2,6 @@
 use Prim.Native.Nat.{ℕ, zero, suc, _/_, _%_, _≤_}
 use mathlib.Core.Path.{_≡_}
 use mathlib.Core.List.{List, [], _∷_}
-use Rattle.state.specs.Layout.{entryMost}
 use Rattle.state.specs.Memory.{bytesOf}
 
 -- the lowest n bytes of a word, lowest first
@@ -10,6 +9,6 @@ unfoldable pub wordBytes : ℕ → ℕ → List ℕ
 wordBytes w zero = []
 wordBytes w (suc n) = w % 256 ∷ wordBytes (w / 256) n
 
--- a word has a memory's bytes from a on, as many as an entry can have
+-- a word has a memory's four bytes from a on
 abbrev pub Holds : ℕ → List ℕ → ℕ → Type 0
-Holds w mem a = (n : ℕ) → n ≤ entryMost → wordBytes w n ≡ bytesOf mem a n
+Holds w mem a = (n : ℕ) → n ≤ 4 → wordBytes w n ≡ bytesOf mem a n

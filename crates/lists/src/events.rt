@@ -1,12 +1,11 @@
 // An event: each running list of it samples at once.
 ghost use mathlib.Core.Path.{_≡_};
-ghost use mathlib.Core.Bool.{true};
 ghost use Prim.Native.Nat.{_+_, _≤_, _<_};
 ghost use lib.ListN.{length};
 ghost use lib.Seq.{sets};
-ghost use Rattle.state.specs.Layout.{lists, allOdts, allEntries, events, entryMost, clockSize, addressable, size, sampleAt};
+ghost use Rattle.state.specs.Layout.{allOdts, allEntries, events, entryMost, clockSize, size, sampleAt};
 ghost use Rattle.state.specs.Pool.{listCount, firstOdt, odtCount, firstEntry, entryCount};
-ghost use Rattle.state.specs.Memory.{reach, byteOf, bytesOf};
+ghost use Rattle.state.specs.Memory.{reach};
 ghost use Rattle.state.specs.Lists.{extensionAt, addressIn};
 ghost use Rattle.lists.specs.Lists.{Spans};
 ghost use Rattle.lists.specs.Event.{samplingOf, contentsOf, stored, captured, sampledState, sampledBy, missedBy, Counts, tally, Happens, eventOf};
@@ -35,7 +34,7 @@ fn take_entry(s: &mut [u8], to: usize, cal: &[u8], meas: &[u8], nc: u32, nm: u32
     }
     let address = list::entry_address(s, at);
     let extension = list::entry_extension(s, at);
-    let w = word::fetch(extension, cal, meas, nc, nm, address, n);
+    let w = word::fetch(extension, cal, meas, nc, nm, address);
     word::put(s, to, w, n);
 }
 
@@ -57,8 +56,8 @@ fn gather(
 {
     let mut at = layout::entries_at(first);
     let mut sum: u32 = 0;
-    let mut e: u16 = 0;
-    while e < n {
+    let mut e: u32 = 0;
+    while e < n as u32 {
         let m = list::entry_size(s, at);
         let next = sum + m as u32;
         if room < next {
@@ -119,10 +118,19 @@ fn capture_odt(
     s[at] = (before + bytes) as u8;
 }
 
-// All ODTs at once: nothing is read when they are sent.
-fn capture(s: &mut [u8], cal: &[u8], meas: &[u8], nc: u32, nm: u32, l: u8, span: Span, clock: u16)
+// All ODTs at once: nothing is read when they are sent. Answers the first entry behind the list's own.
+fn capture(
+    s: &mut [u8],
+    cal: &[u8],
+    meas: &[u8],
+    nc: u32,
+    nm: u32,
+    l: u8,
+    span: Span,
+    clock: u16,
+) -> u16
     requires { ⌜ (length (now s) ≡ size) × (l < listCount (now s)) × (nc ≡ reach (length (now cal))) × (nm ≡ reach (length (now meas))) × Spans (now s) l (span .odt) (span .odts) (span .entry) ⌝ }
-    ensures { λ _. ⌜ now (s .exit) ≡ captured (now (s .entry)) l clock (now (cal .entry)) (now (meas .entry)) ⌝ }
+    ensures { λ r. ⌜ (now (s .exit) ≡ captured (now (s .entry)) l clock (now (cal .entry)) (now (meas .entry))) × (r ≡ firstEntry (now (s .entry)) (span .odt + span .odts)) × (r ≤ allEntries) ⌝ }
 {
     let mut first = span.entry;
     let mut o: u16 = 0;
@@ -132,23 +140,13 @@ fn capture(s: &mut [u8], cal: &[u8], meas: &[u8], nc: u32, nm: u32, l: u8, span:
         first += n;
         o += 1;
     }
+    first
 }
 
-// One list, of which the ODTs are known: what the event is to it, and its sample.
-fn sample(
-    s: &mut [u8],
-    cal: &[u8],
-    meas: &[u8],
-    nc: u32,
-    nm: u32,
-    l: u8,
-    k: u16,
-    n: u16,
-    event: u8,
-    clock: u16,
-) -> Sampling
-    requires { ⌜ (length (now s) ≡ size) × (l < listCount (now s)) × (event < events) × (k ≡ firstOdt (now s) l) × (n ≡ odtCount (now s) l) × (k + n ≤ allOdts) × (nc ≡ reach (length (now cal))) × (nm ≡ reach (length (now meas))) ⌝ }
-    ensures { λ r. ⌜ (r ≡ samplingOf (now (s .entry)) l event) × (now (s .exit) ≡ sampledState r (now (s .entry)) l clock (now (cal .entry)) (now (meas .entry))) ⌝ }
+// What the event is to one list, of which the ODTs are known.
+fn sampling(s: &[u8], l: u8, k: u16, n: u16, event: u8) -> Sampling
+    requires { ⌜ (length (now s) ≡ size) × (l < listCount (now s)) × (event < events) × (k ≡ firstOdt (now s) l) × (n ≡ odtCount (now s) l) × (k + n ≤ allOdts) ⌝ }
+    ensures { λ r. ⌜ r ≡ samplingOf (now (s .entry)) l event ⌝ }
 {
     if list::mode(s, l) != event + 1 {
         return Sampling::Idle;
@@ -159,7 +157,6 @@ fn sample(
     if list::is_unsent(s, l, k, n) {
         return Sampling::Missed;
     }
-    capture(s, cal, meas, nc, nm, l, spans::span_from(s, l, k, n), clock);
     Sampling::Sampled
 }
 
@@ -183,7 +180,28 @@ fn missed_by(c: Sampling) -> u8
     }
 }
 
-// All lists: how many sampled and how many missed. The first ODT of each is kept on the way.
+// One list's sample, if it samples. Answers the first entry behind the list's own.
+fn pass(
+    s: &mut [u8],
+    cal: &[u8],
+    meas: &[u8],
+    nc: u32,
+    nm: u32,
+    l: u8,
+    span: Span,
+    c: Sampling,
+    clock: u16,
+) -> u16
+    requires { ⌜ (length (now s) ≡ size) × (l < listCount (now s)) × (nc ≡ reach (length (now cal))) × (nm ≡ reach (length (now meas))) × Spans (now s) l (span .odt) (span .odts) (span .entry) ⌝ }
+    ensures { λ r. ⌜ (now (s .exit) ≡ sampledState c (now (s .entry)) l clock (now (cal .entry)) (now (meas .entry))) × (r ≡ firstEntry (now (s .entry)) (span .odt + span .odts)) × (r ≤ allEntries) ⌝ }
+{
+    if 0 < sampled_by(c) {
+        return capture(s, cal, meas, nc, nm, l, span, clock);
+    }
+    spans::entry_after(s, span)
+}
+
+// All lists: how many sampled and how many missed. Where the ODTs and entries of each begin is kept on the way.
 fn happen(s: &mut [u8], cal: &[u8], meas: &[u8], event: u8, clock: u16) -> Counted
     requires { ⌜ (length (now s) ≡ size) × (event < events) ⌝ }
     ensures { λ r. ⌜ Counts (tally (now (s .entry)) event clock (now (cal .entry)) (now (meas .entry)) (listCount (now (s .entry)))) (now (s .exit)) (r .sampled) (r .missed) ⌝ }
@@ -193,12 +211,14 @@ fn happen(s: &mut [u8], cal: &[u8], meas: &[u8], event: u8, clock: u16) -> Count
     let count = pool::list_count(s);
     let nc = reach(cal.len()) as u32;
     let nm = reach(meas.len()) as u32;
-    let mut k: u16 = 0;
+    let mut odt: u16 = 0;
+    let mut entry: u16 = 0;
     let mut l: u8 = 0;
     while l < count {
-        let n = spans::odts_in(s, l, k);
-        let c = sample(s, cal, meas, nc, nm, l, k, n, event, clock);
-        k += n;
+        let odts = spans::odts_in(s, l, odt);
+        let c = sampling(s, l, odt, odts, event);
+        entry = pass(s, cal, meas, nc, nm, l, Span { odt, odts, entry }, c, clock);
+        odt += odts;
         sampled += sampled_by(c);
         missed += missed_by(c);
         l += 1;

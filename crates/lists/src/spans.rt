@@ -15,16 +15,16 @@ fn counts_before(s: &[u8], at: usize, most: u16, n: u16) -> u16
     requires { ⌜ (length (now s) ≡ size) × (at + n ≤ length (now s)) × (n ≤ allOdts) ⌝ }
     ensures { λ r. ⌜ (r ≡ startIn most (λ i. getD (now (s .entry)) (at + i) 0) n) × (r ≤ most) ⌝ }
 {
-    let mut sum: u16 = 0;
-    let mut i: u16 = 0;
-    while i < n {
-        sum += s[at + i as usize] as u16;
+    let mut sum: u32 = 0;
+    let mut i: u32 = 0;
+    while i < n as u32 {
+        sum += s[at + i as usize] as u32;
         i += 1;
     }
-    if most < sum {
+    if (most as u32) < sum {
         return most;
     }
-    sum
+    sum as u16
 }
 
 // A count, of which no more is there than the pool has behind `first`.
@@ -89,4 +89,18 @@ pub fn span(s: &[u8], l: u8) -> Span
     let odt = first_odt(s, l);
     let odts = odts_in(s, l, odt);
     span_from(s, l, odt, odts)
+}
+
+// The first entry behind a list's own.
+pub fn entry_after(s: &[u8], span: Span) -> u16
+    requires { ⌜ (length (now s) ≡ size) × (span .odt + span .odts ≤ allOdts) × (span .entry ≡ firstEntry (now s) (span .odt)) × (span .entry ≤ allEntries) ⌝ }
+    ensures { λ r. ⌜ (r ≡ firstEntry (now (s .entry)) (span .odt + span .odts)) × (r ≤ allEntries) ⌝ }
+{
+    let mut first = span.entry;
+    let mut o: u16 = 0;
+    while o < span.odts {
+        first += entries_in(s, span.odt + o, first);
+        o += 1;
+    }
+    first
 }

@@ -4,12 +4,11 @@ ghost use mathlib.Core.Path.{_≡_};
 ghost use Prim.Native.Nat.{_+_, _≤_, _<_};
 ghost use lib.ListN.{length};
 ghost use lib.Seq.{sets};
-ghost use Rattle.state.specs.Layout.{entryMost, addressable, size};
-ghost use Rattle.state.specs.Memory.{pick, reach, byteOf, bytesOf};
+ghost use Rattle.state.specs.Layout.{size};
+ghost use Rattle.state.specs.Memory.{pick, reach, byteOf};
 ghost use Rattle.lists.specs.Word.{wordBytes, Holds};
 use state::bytes::low;
 use state::bytes::wide;
-use state::layout;
 use words::Extension;
 
 // A byte of a memory of which so many can be addressed, 0 where it is not inside.
@@ -31,46 +30,36 @@ fn inside(mem: &[u8], at: usize) -> u32
         + 16777216 * wide(mem[at + 3])
 }
 
-// The n bytes from there on, of which some may not, one by one from the last.
-fn across(mem: &[u8], at: u32, n: u8, end: u32) -> u32
-    requires { ⌜ (end ≡ reach (length (now mem))) × (at < 65536) × (n ≤ entryMost) ⌝ }
-    ensures { λ r. ⌜ wordBytes r n ≡ bytesOf (now (mem .entry)) at n ⌝ }
+// Four bytes of which the last does not, nor perhaps those before it: such a byte is 0.
+fn across(mem: &[u8], at: u32, end: u32) -> u32
+    requires { ⌜ (end ≡ reach (length (now mem))) × (at < 65536) × (end < at + 4) ⌝ }
+    ensures { λ r. ⌜ Holds r (now (mem .entry)) at ⌝ }
 {
-    let mut w: u32 = 0;
-    let mut i = n;
-    while 0 < i {
-        i -= 1;
-        w = w % 16777216 * 256 + wide(byte_below(mem, at + i as u32, end));
-    }
-    w
+    wide(byte_below(mem, at, end))
+        + 256 * wide(byte_below(mem, at + 1, end))
+        + 65536 * wide(byte_below(mem, at + 2, end))
 }
 
-fn load(mem: &[u8], at: u32, n: u8, end: u32) -> u32
-    requires { ⌜ (end ≡ reach (length (now mem))) × (at < 65536) × (n ≤ entryMost) ⌝ }
-    ensures { λ r. ⌜ wordBytes r n ≡ bytesOf (now (mem .entry)) at n ⌝ }
+// The four bytes from an address of a memory on; of each memory so much can be addressed. Each arm asks by itself, so that
+// what it asks stands in its place when compiled.
+pub fn fetch(extension: Extension, cal: &[u8], meas: &[u8], nc: u32, nm: u32, address: u16) -> u32
+    requires { ⌜ (nc ≡ reach (length (now cal))) × (nm ≡ reach (length (now meas))) ⌝ }
+    ensures { λ r. ⌜ Holds r (pick extension (now (cal .entry)) (now (meas .entry))) address ⌝ }
 {
-    if at + 4 <= end {
-        return inside(mem, at as usize);
-    }
-    across(mem, at, n, end)
-}
-
-// The n bytes from an address of a memory on; of each so much can be addressed.
-pub fn fetch(
-    extension: Extension,
-    cal: &[u8],
-    meas: &[u8],
-    nc: u32,
-    nm: u32,
-    address: u16,
-    n: u8,
-) -> u32
-    requires { ⌜ (nc ≡ reach (length (now cal))) × (nm ≡ reach (length (now meas))) × (n ≤ entryMost) ⌝ }
-    ensures { λ r. ⌜ wordBytes r n ≡ bytesOf (pick extension (now (cal .entry)) (now (meas .entry))) address n ⌝ }
-{
+    let at = address as u32;
     match extension {
-        Extension::Calibration => load(cal, address as u32, n, nc),
-        Extension::Measured => load(meas, address as u32, n, nm),
+        Extension::Calibration => {
+            if at + 4 <= nc {
+                return inside(cal, at as usize);
+            }
+            across(cal, at, nc)
+        }
+        Extension::Measured => {
+            if at + 4 <= nm {
+                return inside(meas, at as usize);
+            }
+            across(meas, at, nm)
+        }
     }
 }
 
@@ -87,24 +76,27 @@ fn put_four(s: &mut [u8], to: usize, w: u32)
 }
 
 fn put_few(s: &mut [u8], to: usize, w: u32, n: u8)
-    requires { ⌜ (to + n ≤ length (now s)) × (length (now s) ≡ size) ⌝ }
+    requires { ⌜ (1 ≤ n) × (n < 4) × (to + n ≤ length (now s)) × (length (now s) ≡ size) ⌝ }
     ensures { λ _. ⌜ now (s .exit) ≡ sets (now (s .entry)) to (wordBytes w n) ⌝ }
 {
-    let mut left = w;
-    let mut i: u8 = 0;
-    while i < n {
-        s[to + i as usize] = low(left);
-        left = left / 256;
-        i += 1;
+    s[to] = low(w);
+    if n == 1 {
+        return;
     }
+    let x = w / 256;
+    s[to + 1] = low(x);
+    if n == 2 {
+        return;
+    }
+    s[to + 2] = low(x / 256);
 }
 
 // The lowest n bytes of a word into the state.
 pub fn put(s: &mut [u8], to: usize, w: u32, n: u8)
-    requires { ⌜ (to + n ≤ length (now s)) × (length (now s) ≡ size) ⌝ }
+    requires { ⌜ (1 ≤ n) × (n ≤ 4) × (to + n ≤ length (now s)) × (length (now s) ≡ size) ⌝ }
     ensures { λ _. ⌜ now (s .exit) ≡ sets (now (s .entry)) to (wordBytes w n) ⌝ }
 {
-    if n == layout::ENTRY_MOST {
+    if n == 4 {
         put_four(s, to, w);
         return;
     }

@@ -50,7 +50,7 @@ same-length : tie.Need-same-length Inv-loop μ-loop
 same-length c = c .before .before .loop .inv .4
 
 returns : tie.Need-returns Inv-loop μ-loop
-returns c = let e : c .before .before .loop .o ≡ odtCount (c .before .before .before .before .before .before .args .s .now) (c .before .before .before .before .before .before .args .l) = omega (arith, c .before .before .before .before .before .before .pre .4 .count, c .before .before .loop .inv .0) in c .before .before .loop .inv .3 ∙ ap (λ (k : ℕ). capturedOdts (c .before .before .before .before .before .before .args .s .now) k (c .before .before .before .before .before .before .args .clock) (c .before .before .before .before .before .before .args .cal .now) (c .before .before .before .before .before .before .args .meas .now) (c .before .before .loop .o)) (c .before .before .before .before .before .before .pre .4 .first) ∙ ap (capturedOdts (c .before .before .before .before .before .before .args .s .now) (firstOdt (c .before .before .before .before .before .before .args .s .now) (c .before .before .before .before .before .before .args .l)) (c .before .before .before .before .before .before .args .clock) (c .before .before .before .before .before .before .args .cal .now) (c .before .before .before .before .before .before .args .meas .now)) e
+returns c = (let e : c .before .before .loop .o ≡ odtCount (c .before .before .before .before .before .before .args .s .now) (c .before .before .before .before .before .before .args .l) = omega (arith, c .before .before .before .before .before .before .pre .4 .count, c .before .before .loop .inv .0) in c .before .before .loop .inv .3 ∙ ap (λ (k : ℕ). capturedOdts (c .before .before .before .before .before .before .args .s .now) k (c .before .before .before .before .before .before .args .clock) (c .before .before .before .before .before .before .args .cal .now) (c .before .before .before .before .before .before .args .meas .now) (c .before .before .loop .o)) (c .before .before .before .before .before .before .pre .4 .first) ∙ ap (capturedOdts (c .before .before .before .before .before .before .args .s .now) (firstOdt (c .before .before .before .before .before .before .args .s .now) (c .before .before .before .before .before .before .args .l)) (c .before .before .before .before .before .before .args .clock) (c .before .before .before .before .before .before .args .cal .now) (c .before .before .before .before .before .before .args .meas .now)) e, let e : c .before .before .loop .o ≡ c .before .before .before .before .before .before .args .span .odts = omega (arith, c .before .before .loop .inv .0) in rw e at (c .before .before .loop .inv .1), c .before .before .loop .inv .2)
 
 pub capture-spec : {M : Type 1} → statement M
 capture-spec =

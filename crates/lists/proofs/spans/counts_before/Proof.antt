@@ -44,6 +44,9 @@ loop-again c = (omega (arith, c .before .loop-test .taken), rw (add-one (c .befo
 returns : tie.Need-returns Inv-loop μ-loop
 returns c = let e : c .before .before .loop .i ≡ c .before .before .before .args .n = omega (arith, c .before .before .loop .inv .0) in let z : c .before .before .loop .sum ≡ sumTo (λ i. getD (c .before .before .before .args .s .now) (c .before .before .before .args .at + i) 0) (c .before .before .before .args .n) = c .before .before .loop .inv .1 ∙ ap (sumTo (λ i. getD (c .before .before .before .args .s .now) (c .before .before .before .args .at + i) 0)) e in (omega (arith, z, c .if1 .taken, cut-once (c .before .before .before .args .most) (λ i. getD (c .before .before .before .args .s .now) (c .before .before .before .args .at + i) 0) (c .before .before .before .args .n)), omega (arith, c .if1 .taken))
 
+cast-result : tie.Need-cast-result Inv-loop μ-loop
+cast-result c = omega (arith, c .if1 .left)
+
 returns-2 : tie.Need-returns-2 Inv-loop μ-loop
 returns-2 c = let e : c .before .before .loop .i ≡ c .before .before .before .args .n = omega (arith, c .before .before .loop .inv .0) in let z : c .before .before .loop .sum ≡ sumTo (λ i. getD (c .before .before .before .args .s .now) (c .before .before .before .args .at + i) 0) (c .before .before .before .args .n) = c .before .before .loop .inv .1 ∙ ap (sumTo (λ i. getD (c .before .before .before .args .s .now) (c .before .before .before .args .at + i) 0)) e in (omega (arith, z, c .if1 .left, cut-once (c .before .before .before .args .most) (λ i. getD (c .before .before .before .args .s .now) (c .before .before .before .args .at + i) 0) (c .before .before .before .args .n)), omega (arith, c .if1 .left))
 
@@ -63,4 +66,5 @@ counts-before-spec =
     loop-less
     loop-again
     returns
+    cast-result
     returns-2)

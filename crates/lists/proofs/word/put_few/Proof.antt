@@ -1,65 +1,68 @@
-use Prim.Native.Nat.{_+_, _-_, _≤_}
-use mathlib.Core.Path.{_≡_, refl, ap, _∙_}
-use native.Mathlib.Nat.{add-zero}
+use mathlib.Core.Path.{_≡_}
 use native.Mathlib.Omega.{arith}
-use lib.ListN.{length, length-set}
-use lib.Seq.{sets}
-use Rattle.lists.specs.Word.{wordBytes}
-use Rattle.lists.proofs.Words.{put-next}
+use lib.ListN.{length-set}
+use Rattle.lists.proofs.Words.{put-one, put-two, put-three}
 use borrow.Author.Needs.{needs}
 use Rattle.lists.proofs.word.put_few.Statement.{statement}
 use Rattle.lists.proofs.word.put_few.Tie as tie
 
-abbrev Inv-loop : tie.InvT-loop
-Inv-loop s₀ to w n left₀ i₀ s left i = (i ≤ n) × (sets s (to + i) (wordBytes left (n - i)) ≡ sets s₀ to (wordBytes w n)) × (length s ≡ length s₀)
-
-abbrev μ-loop : tie.MeasureT-loop
-μ-loop s₀ to w n left₀ i₀ s left i = n - i
-
-loop-holds : tie.Need-loop-holds Inv-loop μ-loop
-loop-holds c = let e : c .before .args .n - 0 ≡ c .before .args .n = omega arith in (omega arith, rw (add-zero, e) refl, refl)
-
-low-requires : tie.Need-low-requires Inv-loop μ-loop
+low-requires : tie.Need-low-requires
 low-requires c κs = search needs
 
-cast-s : tie.Need-cast-s Inv-loop μ-loop
-cast-s c = search needs
+slice-write-s : tie.Need-slice-write-s
+slice-write-s c = search needs
 
-add-s : tie.Need-add-s Inv-loop μ-loop
-add-s c = omega (arith, c .before .before .before .before .pre .0, c .before .before .before .before .pre .1)
+same-length : tie.Need-same-length
+same-length c = search needs
 
-slice-write-s : tie.Need-slice-write-s Inv-loop μ-loop
-slice-write-s c = omega (arith, c .before .before .before .before .pre .0, c .before .before .loop .inv .2)
+returns : tie.Need-returns
+returns c = rw (c .if1 .taken) (put-one (c .before .before .before .args .s .now) (c .before .before .before .args .to) (c .before .before .before .args .w) (c .before .low .result) (c .before .low .ensures))
 
-add-i : tie.Need-add-i Inv-loop μ-loop
-add-i c = search needs
+low-requires-2 : tie.Need-low-requires-2
+low-requires-2 c κs = search needs
 
-loop-less : tie.Need-loop-less Inv-loop μ-loop
-loop-less c = search needs
+add-s : tie.Need-add-s
+add-s c = search needs
 
-loop-again : tie.Need-loop-again Inv-loop μ-loop
-loop-again c = (omega arith, rw (c .low .ensures) (put-next (c .before .before .loop .s) (c .before .before .before .before .args .to) (c .before .before .loop .i) (c .before .before .loop .left) (c .before .before .before .before .args .n) (c .before .loop-test .taken) ∙ c .before .before .loop .inv .1), simp length-set (c .before .before .loop .inv .2))
+slice-write-s-2 : tie.Need-slice-write-s-2
+slice-write-s-2 c = simp length-set (omega (arith, c .before .before .before .before .pre .0, c .before .before .before .before .pre .2, c .before .if1 .left))
 
-same-length : tie.Need-same-length Inv-loop μ-loop
-same-length c = c .before .loop .inv .2
+same-length-2 : tie.Need-same-length-2
+same-length-2 c = search needs
 
-returns : tie.Need-returns Inv-loop μ-loop
-unfolding wordBytes
-returns c = let e : c .before .before .before .args .n - c .before .loop .i ≡ 0 = omega arith in rw e at (c .before .loop .inv .1)
+returns-2 : tie.Need-returns-2
+returns-2 c = rw (c .if2 .taken) (put-two (c .before .before .before .before .before .args .s .now) (c .before .before .before .before .before .args .to) (c .before .before .before .before .before .args .w) (c .before .before .before .low .result) (c .before .before .before .low .ensures) (c .before .low2 .result) (c .before .low2 .ensures))
+
+low-requires-3 : tie.Need-low-requires-3
+low-requires-3 c κs = search needs
+
+add-s-2 : tie.Need-add-s-2
+add-s-2 c = search needs
+
+slice-write-s-3 : tie.Need-slice-write-s-3
+slice-write-s-3 c = simp length-set (omega (arith, c .before .before .before .before .before .before .pre .0, c .before .before .before .before .before .before .pre .2, c .before .before .before .if1 .left, c .before .if2 .left))
+
+same-length-3 : tie.Need-same-length-3
+same-length-3 c = search needs
+
+returns-3 : tie.Need-returns-3
+returns-3 c = let three : c .before .before .before .before .before .before .args .n ≡ 3 = omega (arith, c .before .before .before .before .before .before .pre .0, c .before .before .before .before .before .before .pre .1, c .before .before .before .if1 .left, c .before .if2 .left) in rw three (put-three (c .before .before .before .before .before .before .args .s .now) (c .before .before .before .before .before .before .args .to) (c .before .before .before .before .before .before .args .w) (c .before .before .before .before .low .result) (c .before .before .before .before .low .ensures) (c .before .before .low2 .result) (c .before .before .low2 .ensures) (c .low3 .result) (c .low3 .ensures))
 
 pub put-few-spec : {M : Type 1} → statement M
 put-few-spec =
     tie.close
     (tie.spec
-    Inv-loop
-    μ-loop
-    loop-holds
     low-requires
-    cast-s
-    add-s
     slice-write-s
-    add-i
-    loop-less
-    loop-again
     same-length
-    returns)
+    returns
+    low-requires-2
+    add-s
+    slice-write-s-2
+    same-length-2
+    returns-2
+    low-requires-3
+    add-s-2
+    slice-write-s-3
+    same-length-3
+    returns-3)
