@@ -20,7 +20,7 @@
  * Seed and key are a guard against mistakes. They are no security: who listens can compute the key.
  *
  * The longest call is xcp_event where it samples the whole pool, 512 bytes in 128 entries: on a
- * Cortex-M4 (-Os) it takes up to 10,384 instructions (lists of a few bytes, an eighth of that). The
+ * Cortex-M4 (-Os) it takes up to 7,267 instructions (lists of a few bytes, a sixth of that). The
  * last byte of BUILD_CHECKSUM, which reads 4,096 bytes of memory, takes up to 5,017; no other call
  * takes more than that. Let the ring buffer hold what can arrive in that time. Bytes lost there are
  * damage on the line like any other: the message is dropped, as far as one checksum byte can tell.
@@ -52,7 +52,7 @@ extern "C" {
 #endif
 
 /* Of this header and the archives made with it; CHANGELOG.md says what each version changed. */
-#define XCP_SLAVE_VERSION "1.4.1"
+#define XCP_SLAVE_VERSION "1.4.2"
 
 /* The state's one size: a shorter or longer buffer is refused. */
 #define XCP_STATE_SIZE 1486
