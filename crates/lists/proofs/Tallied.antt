@@ -20,24 +20,21 @@ counts-next s₀ event clock cal meas l r e f = record {
   missed = rw (r .missed, e, r .state);
 }
 
+none : 0 < 0 → ⊥
+none p = omega arith
+
 -- a list that samples is captured; any other stays as it is
 module _ (s : List ℕ) (l clock : ℕ) (cal meas : List ℕ) where
   pub if-sampled : (c : Sampling) → 0 < sampledBy c → captured s l clock cal meas ≡ sampledState c s l clock cal meas
   unfolding sampledState
-  if-sampled Idle h = absurd (none h) where
-    none : 0 < 0 → ⊥
-    none p = omega arith
+  if-sampled Idle h = absurd (none h)
   if-sampled Sampled h = refl
-  if-sampled Missed h = absurd (none h) where
-    none : 0 < 0 → ⊥
-    none p = omega arith
+  if-sampled Missed h = absurd (none h)
 
   pub if-not : (c : Sampling) → sampledBy c ≤ 0 → s ≡ sampledState c s l clock cal meas
   unfolding sampledState
   if-not Idle h = refl
-  if-not Sampled h = absurd (none h) where
-    none : 1 ≤ 0 → ⊥
-    none p = omega arith
+  if-not Sampled h = absurd (none h)
   if-not Missed h = refl
 
 -- an event changes packets alone
