@@ -1,6 +1,6 @@
 -- Words of an entry's bytes: four bytes make one, and it has them. Assumes nothing.
 use mathlib.Core.Path.{_≡_, refl, ap, ap₂, _∙_}
-use mathlib.Core.List.{List, _∷_}
+use mathlib.Core.List.{List, [], _∷_}
 use Prim.Native.Nat.{ℕ, zero, suc, _+_, _*_, _/_, _%_, _≤_, _<_}
 use native.Mathlib.Numerals.{add-one}
 use native.Mathlib.Omega.{arith}
@@ -49,8 +49,8 @@ pub byte-inside : (mem : List ℕ) (a : ℕ) → a < reach (length mem) → getD
 unfolding byteOf
 byte-inside mem a h = simp (lt-ltb a (reach (length mem)) h)
 
--- one that is not is 0
-pub byte-outside : (mem : List ℕ) (a : ℕ) → reach (length mem) ≤ a → byteOf mem a ≡ 0
+-- one that is not reads as if there were no memory
+pub byte-outside : (mem : List ℕ) (a : ℕ) → reach (length mem) ≤ a → byteOf mem a ≡ byteOf [] 0
 unfolding byteOf
 byte-outside mem a h = simp (le-ltb a (reach (length mem)) h)
 

@@ -11,12 +11,15 @@ use state::bytes::low;
 use state::bytes::wide;
 use words::Extension;
 
-// A byte of a memory of which so many can be addressed, 0 where it is not inside.
+// What a byte that is not inside reads.
+const OUTSIDE: u8 = 0;
+
+// A byte of a memory of which so many can be addressed.
 fn byte_below(mem: &[u8], at: u32, end: u32) -> u8
     requires { ⌜ end ≡ reach (length (now mem)) ⌝ }
     ensures { λ r. ⌜ r ≡ byteOf (now (mem .entry)) at ⌝ }
 {
-    if at < end { mem[at as usize] } else { 0 }
+    if at < end { mem[at as usize] } else { OUTSIDE }
 }
 
 // Four bytes that all lie inside.
@@ -30,7 +33,7 @@ fn inside(mem: &[u8], at: usize) -> u32
         + 16777216 * wide(mem[at + 3])
 }
 
-// Four bytes of which the last does not, nor perhaps those before it: such a byte is 0.
+// Four bytes of which the last does not, nor perhaps those before it.
 fn across(mem: &[u8], at: u32, end: u32) -> u32
     requires { ⌜ (end ≡ reach (length (now mem))) × (at < 65536) × (end < at + 4) ⌝ }
     ensures { λ r. ⌜ Holds r (now (mem .entry)) at ⌝ }
@@ -38,6 +41,7 @@ fn across(mem: &[u8], at: u32, end: u32) -> u32
     wide(byte_below(mem, at, end))
         + 256 * wide(byte_below(mem, at + 1, end))
         + 65536 * wide(byte_below(mem, at + 2, end))
+        + 16777216 * wide(OUTSIDE)
 }
 
 // The four bytes from an address of a memory on; of each memory so much can be addressed. Each arm asks by itself, so that

@@ -1,6 +1,7 @@
 use Prim.Native.Nat.{_+_}
-use mathlib.Core.Path.{sym, _∙_}
+use mathlib.Core.Path.{refl, sym, _∙_}
 use native.Mathlib.Omega.{arith}
+use Rattle.state.specs.Memory.{byteOf}
 use Rattle.lists.proofs.Words.{byte-outside, four-held}
 use borrow.Author.Needs.{needs}
 use Rattle.lists.proofs.word.across.Statement.{statement}
@@ -42,8 +43,18 @@ mul-result-2 c = search needs
 add-result-2 : tie.Need-add-result-2
 add-result-2 c = search needs
 
+wide-requires-4 : tie.Need-wide-requires-4
+wide-requires-4 c κs = search needs
+
+mul-result-3 : tie.Need-mul-result-3
+mul-result-3 c = search needs
+
+add-result-3 : tie.Need-add-result-3
+add-result-3 c = search needs
+
 returns : tie.Need-returns
-returns c = four-held (c .before .before .before .before .before .before .before .args .mem .now) (c .before .before .before .before .before .before .before .args .at) (c .before .before .before .before .wide .result) (c .before .before .wide2 .result) (c .wide3 .result) 0 _ (omega arith) (c .before .before .before .before .wide .ensures .1) (c .before .before .wide2 .ensures .1) (c .wide3 .ensures .1) (omega arith) (c .before .before .before .before .wide .ensures .0 ∙ c .before .before .before .before .before .byte-below .ensures) (c .before .before .wide2 .ensures .0 ∙ c .before .before .before .byte-below2 .ensures) (c .wide3 .ensures .0 ∙ c .before .byte-below3 .ensures) (sym (byte-outside (c .before .before .before .before .before .before .before .args .mem .now) (c .before .before .before .before .before .before .before .args .at + 3) (omega (arith, c .before .before .before .before .before .before .before .pre .0, c .before .before .before .before .before .before .before .pre .2))))
+unfolding byteOf
+returns c = four-held (c .before .before .before .before .before .before .before .before .args .mem .now) (c .before .before .before .before .before .before .before .before .args .at) (c .before .before .before .before .before .wide .result) (c .before .before .before .wide2 .result) (c .before .wide3 .result) (c .wide4 .result) _ refl (c .before .before .before .before .before .wide .ensures .1) (c .before .before .before .wide2 .ensures .1) (c .before .wide3 .ensures .1) (c .wide4 .ensures .1) (c .before .before .before .before .before .wide .ensures .0 ∙ c .before .before .before .before .before .before .byte-below .ensures) (c .before .before .before .wide2 .ensures .0 ∙ c .before .before .before .before .byte-below2 .ensures) (c .before .wide3 .ensures .0 ∙ c .before .before .byte-below3 .ensures) (c .wide4 .ensures .0 ∙ sym (byte-outside (c .before .before .before .before .before .before .before .before .args .mem .now) (c .before .before .before .before .before .before .before .before .args .at + 3) (omega (arith, c .before .before .before .before .before .before .before .before .pre .0, c .before .before .before .before .before .before .before .before .pre .2))))
 
 pub across-spec : {M : Type 1} → statement M
 across-spec =
@@ -61,4 +72,7 @@ across-spec =
     wide-requires-3
     mul-result-2
     add-result-2
+    wide-requires-4
+    mul-result-3
+    add-result-3
     returns)
