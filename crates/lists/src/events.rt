@@ -181,7 +181,7 @@ fn missed_by(c: Sampling) -> u8
 }
 
 // One list's sample, if it samples. Answers the first entry behind the list's own.
-fn pass(
+fn sample(
     s: &mut [u8],
     cal: &[u8],
     meas: &[u8],
@@ -217,7 +217,7 @@ fn happen(s: &mut [u8], cal: &[u8], meas: &[u8], event: u8, clock: u16) -> Count
     while l < count {
         let odts = spans::odts_in(s, l, odt);
         let c = sampling(s, l, odt, odts, event);
-        entry = pass(s, cal, meas, nc, nm, l, Span { odt, odts, entry }, c, clock);
+        entry = sample(s, cal, meas, nc, nm, l, Span { odt, odts, entry }, c, clock);
         odt += odts;
         sampled += sampled_by(c);
         missed += missed_by(c);

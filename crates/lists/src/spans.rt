@@ -55,7 +55,7 @@ pub fn odts_in(s: &[u8], l: u8, first: u16) -> u16
 }
 
 // Where the entries of an ODT begin, and how many they are.
-pub fn first_entry(s: &[u8], k: u16) -> u16
+fn first_entry(s: &[u8], k: u16) -> u16
     requires { ⌜ (length (now s) ≡ size) × (k ≤ allOdts) ⌝ }
     ensures { λ r. ⌜ (r ≡ firstEntry (now (s .entry)) k) × (r ≤ allEntries) ⌝ }
 {
@@ -73,22 +73,15 @@ pub fn entries_in(s: &[u8], k: u16, first: u16) -> u16
     )
 }
 
-// What a list has, of which the ODTs are known.
-pub fn span_from(s: &[u8], l: u8, odt: u16, odts: u16) -> Span
-    requires { ⌜ (length (now s) ≡ size) × (odt ≡ firstOdt (now s) l) × (odts ≡ odtCount (now s) l) × (odt + odts ≤ allOdts) ⌝ }
-    ensures { λ r. ⌜ Spans (now (s .entry)) l (r .odt) (r .odts) (r .entry) ⌝ }
-{
-    let entry = first_entry(s, odt);
-    Span { odt, odts, entry }
-}
-
+// What a list has.
 pub fn span(s: &[u8], l: u8) -> Span
     requires { ⌜ (length (now s) ≡ size) × (l < lists) ⌝ }
     ensures { λ r. ⌜ Spans (now (s .entry)) l (r .odt) (r .odts) (r .entry) ⌝ }
 {
     let odt = first_odt(s, l);
     let odts = odts_in(s, l, odt);
-    span_from(s, l, odt, odts)
+    let entry = first_entry(s, odt);
+    Span { odt, odts, entry }
 }
 
 // The first entry behind a list's own.

@@ -47,8 +47,8 @@ odts-in-requires c κs = (c .before .before .loop .inv .4 ∙ c .before .before 
 sampling-requires : tie.Need-sampling-requires Inv-loop μ-loop
 sampling-requires c κs = (c .before .before .before .before .loop .inv .4 ∙ c .before .before .before .before .before .before .before .before .before .before .before .before .pre .0, rw (c .before .before .before .before .loop .inv .1 .state, lists-alike _ (c .before .before .before .before .before .before .before .before .before .before .before .before .args .s .now) (tally-alike (c .before .before .before .before .before .before .before .before .before .before .before .before .args .s .now) (c .before .before .before .before .before .before .before .before .before .before .before .before .args .event) (c .before .before .before .before .before .before .before .before .before .before .before .before .args .clock) (c .before .before .before .before .before .before .before .before .before .before .before .before .args .cal .now) (c .before .before .before .before .before .before .before .before .before .before .before .before .args .meas .now) (c .before .before .before .before .loop .l))) (omega (arith, c .before .before .before .before .before .before .before .list-count .ensures .0, c .before .before .before .loop-test .taken)), c .before .before .before .before .before .before .before .before .before .before .before .before .pre .1, rw (c .before .before .before .before .loop .inv .1 .state, first-alike (tally (c .before .before .before .before .before .before .before .before .before .before .before .before .args .s .now) (c .before .before .before .before .before .before .before .before .before .before .before .before .args .event) (c .before .before .before .before .before .before .before .before .before .before .before .before .args .clock) (c .before .before .before .before .before .before .before .before .before .before .before .before .args .cal .now) (c .before .before .before .before .before .before .before .before .before .before .before .before .args .meas .now) (c .before .before .before .before .loop .l) .state) (c .before .before .before .before .before .before .before .before .before .before .before .before .args .s .now) (tally-alike (c .before .before .before .before .before .before .before .before .before .before .before .before .args .s .now) (c .before .before .before .before .before .before .before .before .before .before .before .before .args .event) (c .before .before .before .before .before .before .before .before .before .before .before .before .args .clock) (c .before .before .before .before .before .before .before .before .before .before .before .before .args .cal .now) (c .before .before .before .before .before .before .before .before .before .before .before .before .args .meas .now) (c .before .before .before .before .loop .l)) (c .before .before .before .before .loop .l) (omega (arith, lists-most (c .before .before .before .before .before .before .before .before .before .before .before .before .args .s .now), c .before .before .before .before .before .before .before .list-count .ensures .0, c .before .before .before .loop-test .taken))) (c .before .before .before .before .loop .inv .5), c .before .odts-in .ensures .0, c .before .odts-in .ensures .1)
 
-pass-requires : tie.Need-pass-requires Inv-loop μ-loop
-pass-requires c κs = (c .before .before .before .before .before .before .loop .inv .4 ∙ c .before .before .before .before .before .before .before .before .before .before .before .before .before .before .pre .0, rw (c .before .before .before .before .before .before .loop .inv .1 .state, lists-alike _ (c .before .before .before .before .before .before .before .before .before .before .before .before .before .before .args .s .now) (tally-alike (c .before .before .before .before .before .before .before .before .before .before .before .before .before .before .args .s .now) (c .before .before .before .before .before .before .before .before .before .before .before .before .before .before .args .event) (c .before .before .before .before .before .before .before .before .before .before .before .before .before .before .args .clock) (c .before .before .before .before .before .before .before .before .before .before .before .before .before .before .args .cal .now) (c .before .before .before .before .before .before .before .before .before .before .before .before .before .before .args .meas .now) (c .before .before .before .before .before .before .loop .l))) (omega (arith, c .before .before .before .before .before .before .before .before .before .list-count .ensures .0, c .before .before .before .before .before .loop-test .taken)), c .before .before .before .before .before .before .before .before .reach .ensures, c .before .before .before .before .before .before .before .reach2 .ensures, record { first = rw (c .before .before .before .before .before .before .loop .inv .1 .state, first-alike (tally (c .before .before .before .before .before .before .before .before .before .before .before .before .before .before .args .s .now) (c .before .before .before .before .before .before .before .before .before .before .before .before .before .before .args .event) (c .before .before .before .before .before .before .before .before .before .before .before .before .before .before .args .clock) (c .before .before .before .before .before .before .before .before .before .before .before .before .before .before .args .cal .now) (c .before .before .before .before .before .before .before .before .before .before .before .before .before .before .args .meas .now) (c .before .before .before .before .before .before .loop .l) .state) (c .before .before .before .before .before .before .before .before .before .before .before .before .before .before .args .s .now) (tally-alike (c .before .before .before .before .before .before .before .before .before .before .before .before .before .before .args .s .now) (c .before .before .before .before .before .before .before .before .before .before .before .before .before .before .args .event) (c .before .before .before .before .before .before .before .before .before .before .before .before .before .before .args .clock) (c .before .before .before .before .before .before .before .before .before .before .before .before .before .before .args .cal .now) (c .before .before .before .before .before .before .before .before .before .before .before .before .before .before .args .meas .now) (c .before .before .before .before .before .before .loop .l)) (c .before .before .before .before .before .before .loop .l) (omega (arith, lists-most (c .before .before .before .before .before .before .before .before .before .before .before .before .before .before .args .s .now), c .before .before .before .before .before .before .before .before .before .list-count .ensures .0, c .before .before .before .before .before .loop-test .taken))) (c .before .before .before .before .before .before .loop .inv .5); count = c .before .before .before .odts-in .ensures .0; entered = rw (c .before .before .before .before .before .before .loop .inv .1 .state, start-alike (tally (c .before .before .before .before .before .before .before .before .before .before .before .before .before .before .args .s .now) (c .before .before .before .before .before .before .before .before .before .before .before .before .before .before .args .event) (c .before .before .before .before .before .before .before .before .before .before .before .before .before .before .args .clock) (c .before .before .before .before .before .before .before .before .before .before .before .before .before .before .args .cal .now) (c .before .before .before .before .before .before .before .before .before .before .before .before .before .before .args .meas .now) (c .before .before .before .before .before .before .loop .l) .state) (c .before .before .before .before .before .before .before .before .before .before .before .before .before .before .args .s .now) (tally-alike (c .before .before .before .before .before .before .before .before .before .before .before .before .before .before .args .s .now) (c .before .before .before .before .before .before .before .before .before .before .before .before .before .before .args .event) (c .before .before .before .before .before .before .before .before .before .before .before .before .before .before .args .clock) (c .before .before .before .before .before .before .before .before .before .before .before .before .before .before .args .cal .now) (c .before .before .before .before .before .before .before .before .before .before .before .before .before .before .args .meas .now) (c .before .before .before .before .before .before .loop .l)) (c .before .before .before .before .before .before .loop .odt) (rw (c .before .before .before .before .before .before .loop .inv .5) (first-most (c .before .before .before .before .before .before .before .before .before .before .before .before .before .before .args .s .now) (c .before .before .before .before .before .before .loop .l)))) (c .before .before .before .before .before .before .loop .inv .6); inside = c .before .before .before .odts-in .ensures .1; few = c .before .before .before .before .before .before .loop .inv .7 })
+sample-requires : tie.Need-sample-requires Inv-loop μ-loop
+sample-requires c κs = (c .before .before .before .before .before .before .loop .inv .4 ∙ c .before .before .before .before .before .before .before .before .before .before .before .before .before .before .pre .0, rw (c .before .before .before .before .before .before .loop .inv .1 .state, lists-alike _ (c .before .before .before .before .before .before .before .before .before .before .before .before .before .before .args .s .now) (tally-alike (c .before .before .before .before .before .before .before .before .before .before .before .before .before .before .args .s .now) (c .before .before .before .before .before .before .before .before .before .before .before .before .before .before .args .event) (c .before .before .before .before .before .before .before .before .before .before .before .before .before .before .args .clock) (c .before .before .before .before .before .before .before .before .before .before .before .before .before .before .args .cal .now) (c .before .before .before .before .before .before .before .before .before .before .before .before .before .before .args .meas .now) (c .before .before .before .before .before .before .loop .l))) (omega (arith, c .before .before .before .before .before .before .before .before .before .list-count .ensures .0, c .before .before .before .before .before .loop-test .taken)), c .before .before .before .before .before .before .before .before .reach .ensures, c .before .before .before .before .before .before .before .reach2 .ensures, record { first = rw (c .before .before .before .before .before .before .loop .inv .1 .state, first-alike (tally (c .before .before .before .before .before .before .before .before .before .before .before .before .before .before .args .s .now) (c .before .before .before .before .before .before .before .before .before .before .before .before .before .before .args .event) (c .before .before .before .before .before .before .before .before .before .before .before .before .before .before .args .clock) (c .before .before .before .before .before .before .before .before .before .before .before .before .before .before .args .cal .now) (c .before .before .before .before .before .before .before .before .before .before .before .before .before .before .args .meas .now) (c .before .before .before .before .before .before .loop .l) .state) (c .before .before .before .before .before .before .before .before .before .before .before .before .before .before .args .s .now) (tally-alike (c .before .before .before .before .before .before .before .before .before .before .before .before .before .before .args .s .now) (c .before .before .before .before .before .before .before .before .before .before .before .before .before .before .args .event) (c .before .before .before .before .before .before .before .before .before .before .before .before .before .before .args .clock) (c .before .before .before .before .before .before .before .before .before .before .before .before .before .before .args .cal .now) (c .before .before .before .before .before .before .before .before .before .before .before .before .before .before .args .meas .now) (c .before .before .before .before .before .before .loop .l)) (c .before .before .before .before .before .before .loop .l) (omega (arith, lists-most (c .before .before .before .before .before .before .before .before .before .before .before .before .before .before .args .s .now), c .before .before .before .before .before .before .before .before .before .list-count .ensures .0, c .before .before .before .before .before .loop-test .taken))) (c .before .before .before .before .before .before .loop .inv .5); count = c .before .before .before .odts-in .ensures .0; entered = rw (c .before .before .before .before .before .before .loop .inv .1 .state, start-alike (tally (c .before .before .before .before .before .before .before .before .before .before .before .before .before .before .args .s .now) (c .before .before .before .before .before .before .before .before .before .before .before .before .before .before .args .event) (c .before .before .before .before .before .before .before .before .before .before .before .before .before .before .args .clock) (c .before .before .before .before .before .before .before .before .before .before .before .before .before .before .args .cal .now) (c .before .before .before .before .before .before .before .before .before .before .before .before .before .before .args .meas .now) (c .before .before .before .before .before .before .loop .l) .state) (c .before .before .before .before .before .before .before .before .before .before .before .before .before .before .args .s .now) (tally-alike (c .before .before .before .before .before .before .before .before .before .before .before .before .before .before .args .s .now) (c .before .before .before .before .before .before .before .before .before .before .before .before .before .before .args .event) (c .before .before .before .before .before .before .before .before .before .before .before .before .before .before .args .clock) (c .before .before .before .before .before .before .before .before .before .before .before .before .before .before .args .cal .now) (c .before .before .before .before .before .before .before .before .before .before .before .before .before .before .args .meas .now) (c .before .before .before .before .before .before .loop .l)) (c .before .before .before .before .before .before .loop .odt) (rw (c .before .before .before .before .before .before .loop .inv .5) (first-most (c .before .before .before .before .before .before .before .before .before .before .before .before .before .before .args .s .now) (c .before .before .before .before .before .before .loop .l)))) (c .before .before .before .before .before .before .loop .inv .6); inside = c .before .before .before .odts-in .ensures .1; few = c .before .before .before .before .before .before .loop .inv .7 })
 
 add-odt : tie.Need-add-odt Inv-loop μ-loop
 add-odt c = omega (arith, c .before .before .before .before .before .before .odts-in .ensures .1)
@@ -74,7 +74,7 @@ loop-less c = search needs
 loop-again : tie.Need-loop-again Inv-loop μ-loop
 loop-again c = let n : c .before .before .before .before .before .before .before .before .odts-in .result ≡ odtCount (c .before .before .before .before .before .before .before .before .before .before .before .before .before .before .before .before .before .before .before .args .s .now) (c .before .before .before .before .before .before .before .before .before .before .before .loop .l) = c .before .before .before .before .before .before .before .before .odts-in .ensures .0 ∙ ap (λ (t : List ℕ). odtCount t (c .before .before .before .before .before .before .before .before .before .before .before .loop .l)) (c .before .before .before .before .before .before .before .before .before .before .before .loop .inv .1 .state) ∙ odts-alike (tally (c .before .before .before .before .before .before .before .before .before .before .before .before .before .before .before .before .before .before .before .args .s .now) (c .before .before .before .before .before .before .before .before .before .before .before .before .before .before .before .before .before .before .before .args .event) (c .before .before .before .before .before .before .before .before .before .before .before .before .before .before .before .before .before .before .before .args .clock) (c .before .before .before .before .before .before .before .before .before .before .before .before .before .before .before .before .before .before .before .args .cal .now) (c .before .before .before .before .before .before .before .before .before .before .before .before .before .before .before .before .before .before .before .args .meas .now) (c .before .before .before .before .before .before .before .before .before .before .before .loop .l) .state) (c .before .before .before .before .before .before .before .before .before .before .before .before .before .before .before .before .before .before .before .args .s .now) (tally-alike (c .before .before .before .before .before .before .before .before .before .before .before .before .before .before .before .before .before .before .before .args .s .now) (c .before .before .before .before .before .before .before .before .before .before .before .before .before .before .before .before .before .before .before .args .event) (c .before .before .before .before .before .before .before .before .before .before .before .before .before .before .before .before .before .before .before .args .clock) (c .before .before .before .before .before .before .before .before .before .before .before .before .before .before .before .before .before .before .before .args .cal .now) (c .before .before .before .before .before .before .before .before .before .before .before .before .before .before .before .before .before .before .before .args .meas .now) (c .before .before .before .before .before .before .before .before .before .before .before .loop .l)) (c .before .before .before .before .before .before .before .before .before .before .before .loop .l) (omega (arith, lists-most (c .before .before .before .before .before .before .before .before .before .before .before .before .before .before .before .before .before .before .before .args .s .now), c .before .before .before .before .before .before .before .before .before .before .before .before .before .before .list-count .ensures .0, c .before .before .before .before .before .before .before .before .before .before .loop-test .taken)) in
     let k : c .before .before .before .before .before .before .before .before .before .before .before .loop .odt + c .before .before .before .before .before .before .before .before .odts-in .result ≡ firstOdt (c .before .before .before .before .before .before .before .before .before .before .before .before .before .before .before .before .before .before .before .args .s .now) (c .before .before .before .before .before .before .before .before .before .before .before .loop .l + 1) = rw (add-one (c .before .before .before .before .before .before .before .before .before .before .before .loop .l)) (omega (arith, n, c .before .before .before .before .before .before .before .before .before .before .before .loop .inv .5, odt-next (c .before .before .before .before .before .before .before .before .before .before .before .before .before .before .before .before .before .before .before .args .s .now) (c .before .before .before .before .before .before .before .before .before .before .before .loop .l))) in
-    (omega arith, rw (add-one, c .before .sampled-by .ensures .0, c .missed-by .ensures .0) (counts-next (c .before .before .before .before .before .before .before .before .before .before .before .before .before .before .before .before .before .before .before .args .s .now) (c .before .before .before .before .before .before .before .before .before .before .before .before .before .before .before .before .before .before .before .args .event) (c .before .before .before .before .before .before .before .before .before .before .before .before .before .before .before .before .before .before .before .args .clock) (c .before .before .before .before .before .before .before .before .before .before .before .before .before .before .before .before .before .before .before .args .cal .now) (c .before .before .before .before .before .before .before .before .before .before .before .before .before .before .before .before .before .before .before .args .meas .now) (c .before .before .before .before .before .before .before .before .before .before .before .loop .l) (c .before .before .before .before .before .before .before .before .before .before .before .loop .inv .1) (c .before .before .before .before .before .before .sampling .ensures) (c .before .before .before .before .pass .ensures .0)), omega (arith, c .before .sampled-by .ensures .1, c .before .before .before .before .before .before .before .before .before .before .before .loop .inv .2), omega (arith, c .missed-by .ensures .1, c .before .before .before .before .before .before .before .before .before .before .before .loop .inv .3), c .before .before .before .before .pass .kept .0 ∙ c .before .before .before .before .before .before .before .before .before .before .before .loop .inv .4, k, c .before .before .before .before .pass .ensures .1 ∙ ap (λ (t : List ℕ). firstEntry t (c .before .before .before .before .before .before .before .before .before .before .before .loop .odt + c .before .before .before .before .before .before .before .before .odts-in .result)) (c .before .before .before .before .before .before .before .before .before .before .before .loop .inv .1 .state) ∙ start-alike (tally (c .before .before .before .before .before .before .before .before .before .before .before .before .before .before .before .before .before .before .before .args .s .now) (c .before .before .before .before .before .before .before .before .before .before .before .before .before .before .before .before .before .before .before .args .event) (c .before .before .before .before .before .before .before .before .before .before .before .before .before .before .before .before .before .before .before .args .clock) (c .before .before .before .before .before .before .before .before .before .before .before .before .before .before .before .before .before .before .before .args .cal .now) (c .before .before .before .before .before .before .before .before .before .before .before .before .before .before .before .before .before .before .before .args .meas .now) (c .before .before .before .before .before .before .before .before .before .before .before .loop .l) .state) (c .before .before .before .before .before .before .before .before .before .before .before .before .before .before .before .before .before .before .before .args .s .now) (tally-alike (c .before .before .before .before .before .before .before .before .before .before .before .before .before .before .before .before .before .before .before .args .s .now) (c .before .before .before .before .before .before .before .before .before .before .before .before .before .before .before .before .before .before .before .args .event) (c .before .before .before .before .before .before .before .before .before .before .before .before .before .before .before .before .before .before .before .args .clock) (c .before .before .before .before .before .before .before .before .before .before .before .before .before .before .before .before .before .before .before .args .cal .now) (c .before .before .before .before .before .before .before .before .before .before .before .before .before .before .before .before .before .before .before .args .meas .now) (c .before .before .before .before .before .before .before .before .before .before .before .loop .l)) (c .before .before .before .before .before .before .before .before .before .before .before .loop .odt + c .before .before .before .before .before .before .before .before .odts-in .result) (c .before .before .before .before .before .before .before .before .odts-in .ensures .1), c .before .before .before .before .pass .ensures .2)
+    (omega arith, rw (add-one, c .before .sampled-by .ensures .0, c .missed-by .ensures .0) (counts-next (c .before .before .before .before .before .before .before .before .before .before .before .before .before .before .before .before .before .before .before .args .s .now) (c .before .before .before .before .before .before .before .before .before .before .before .before .before .before .before .before .before .before .before .args .event) (c .before .before .before .before .before .before .before .before .before .before .before .before .before .before .before .before .before .before .before .args .clock) (c .before .before .before .before .before .before .before .before .before .before .before .before .before .before .before .before .before .before .before .args .cal .now) (c .before .before .before .before .before .before .before .before .before .before .before .before .before .before .before .before .before .before .before .args .meas .now) (c .before .before .before .before .before .before .before .before .before .before .before .loop .l) (c .before .before .before .before .before .before .before .before .before .before .before .loop .inv .1) (c .before .before .before .before .before .before .sampling .ensures) (c .before .before .before .before .sample .ensures .0)), omega (arith, c .before .sampled-by .ensures .1, c .before .before .before .before .before .before .before .before .before .before .before .loop .inv .2), omega (arith, c .missed-by .ensures .1, c .before .before .before .before .before .before .before .before .before .before .before .loop .inv .3), c .before .before .before .before .sample .kept .0 ∙ c .before .before .before .before .before .before .before .before .before .before .before .loop .inv .4, k, c .before .before .before .before .sample .ensures .1 ∙ ap (λ (t : List ℕ). firstEntry t (c .before .before .before .before .before .before .before .before .before .before .before .loop .odt + c .before .before .before .before .before .before .before .before .odts-in .result)) (c .before .before .before .before .before .before .before .before .before .before .before .loop .inv .1 .state) ∙ start-alike (tally (c .before .before .before .before .before .before .before .before .before .before .before .before .before .before .before .before .before .before .before .args .s .now) (c .before .before .before .before .before .before .before .before .before .before .before .before .before .before .before .before .before .before .before .args .event) (c .before .before .before .before .before .before .before .before .before .before .before .before .before .before .before .before .before .before .before .args .clock) (c .before .before .before .before .before .before .before .before .before .before .before .before .before .before .before .before .before .before .before .args .cal .now) (c .before .before .before .before .before .before .before .before .before .before .before .before .before .before .before .before .before .before .before .args .meas .now) (c .before .before .before .before .before .before .before .before .before .before .before .loop .l) .state) (c .before .before .before .before .before .before .before .before .before .before .before .before .before .before .before .before .before .before .before .args .s .now) (tally-alike (c .before .before .before .before .before .before .before .before .before .before .before .before .before .before .before .before .before .before .before .args .s .now) (c .before .before .before .before .before .before .before .before .before .before .before .before .before .before .before .before .before .before .before .args .event) (c .before .before .before .before .before .before .before .before .before .before .before .before .before .before .before .before .before .before .before .args .clock) (c .before .before .before .before .before .before .before .before .before .before .before .before .before .before .before .before .before .before .before .args .cal .now) (c .before .before .before .before .before .before .before .before .before .before .before .before .before .before .before .before .before .before .before .args .meas .now) (c .before .before .before .before .before .before .before .before .before .before .before .loop .l)) (c .before .before .before .before .before .before .before .before .before .before .before .loop .odt + c .before .before .before .before .before .before .before .before .odts-in .result) (c .before .before .before .before .before .before .before .before .odts-in .ensures .1), c .before .before .before .before .sample .ensures .2)
 
 same-length : tie.Need-same-length Inv-loop μ-loop
 same-length c = c .before .loop .inv .4
@@ -96,7 +96,7 @@ happen-spec =
     loop-holds
     odts-in-requires
     sampling-requires
-    pass-requires
+    sample-requires
     add-odt
     sampled-by-requires
     add-sampled

@@ -2,8 +2,8 @@ use mathlib.Core.Path.{_∙_}
 use native.Mathlib.Omega.{arith}
 use Rattle.lists.proofs.Tallied.{if-sampled, if-not}
 use borrow.Author.Needs.{needs}
-use Rattle.lists.proofs.events.pass.Statement.{statement}
-use Rattle.lists.proofs.events.pass.Tie as tie
+use Rattle.lists.proofs.events.sample.Statement.{statement}
+use Rattle.lists.proofs.events.sample.Tie as tie
 
 sampled-by-requires : tie.Need-sampled-by-requires
 sampled-by-requires c κs = search needs
@@ -26,8 +26,8 @@ same-length-2 c = search needs
 returns-2 : tie.Need-returns-2
 returns-2 c = (if-not (c .before .before .before .before .before .before .before .args .s .now) (c .before .before .before .before .before .before .before .args .l) (c .before .before .before .before .before .before .before .args .clock) (c .before .before .before .before .before .before .before .args .cal .now) (c .before .before .before .before .before .before .before .args .meas .now) (c .before .before .before .before .before .before .before .args .c) (omega (arith, c .before .before .if1 .left, c .before .before .before .sampled-by .ensures .0)), c .entry-after .ensures .0, c .entry-after .ensures .1)
 
-pub pass-spec : {M : Type 1} → statement M
-pass-spec =
+pub sample-spec : {M : Type 1} → statement M
+sample-spec =
     tie.close
     (tie.spec
     sampled-by-requires
