@@ -7,9 +7,11 @@ mod reader;
 mod sum;
 mod writer;
 
+pub use limits::ESC;
 pub use limits::LONGEST;
 pub use limits::MOST;
 pub use limits::ROOM;
+pub use limits::SYNC;
 pub use reader::take;
 pub use writer::next_ctr;
 pub use writer::write;

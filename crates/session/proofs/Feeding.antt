@@ -1,10 +1,10 @@
 -- What the line leaves in the state: the reader's place, its message buffer, and the packet in it. Assumes nothing.
 use mathlib.Core.Path.{_≡_, sym, ap, subst, _∙_}
-use mathlib.Core.List.{List, _++_}
-use Prim.Native.Nat.{ℕ, _≤_}
+use mathlib.Core.List.{List, _++_, append-nil}
+use Prim.Native.Nat.{ℕ, _-_, _≤_}
 use native.Mathlib.Omega.{arith}
 use lib.ListN.{length, set, take, drop, length-drop}
-use lib.Seq.{drop-drop, drop-append-add, drop-append-le, take-append-le, length-take-le, drop-set-lt}
+use lib.Seq.{take-all, drop-length, drop-drop, drop-append-add, drop-append-le, take-append-le, length-take-le, drop-set-lt}
 use Rattle.line.specs.Message.{longest}
 use Rattle.line.specs.Unstuffing.{Fed, Does}
 use Rattle.line.specs.Reader.{takeOf}
@@ -77,3 +77,14 @@ message-length s b p taken m h d = ap length (d .bytes) ∙ take-length p (block
 pub by-outcome : (s cal meas : List ℕ) (f : Fed) {o : Outcome} {r : Received} {s′ cal′ : List ℕ} → f .taken .outcome ≡ o
     → Receives (meant o (f .message) (readOn s f) cal meas) r s′ cal′ → Receives (receivedBy f s cal meas) r s′ cal′
 by-outcome s cal meas f {r = r} {s′ = s′} {cal′ = cal′} e x = subst (λ (o : Outcome). Receives (meant o (f .message) (readOn s f) cal meas) r s′ cal′) (sym e) x
+
+-- a whole slice that was lent, and what comes back
+pub whole : (s : List ℕ) → take (length s - 0) (drop 0 s) ≡ s
+whole s = take-all (length s - 0) s (omega arith)
+
+pub whole-back : (s m : List ℕ) → take 0 s ++ (m ++ drop (length s - 0) (drop 0 s)) ≡ m
+whole-back s m = let n : length s - 0 ≡ length s = omega arith in rw (n, drop-length s) (append-nil m)
+
+pub by-whole : (s cal meas : List ℕ) {s₁ cal₁ meas₁ : List ℕ} (b : ℕ) {r : Received} {s₂ cal₂ s₃ cal₃ : List ℕ} → s₁ ≡ s → cal₁ ≡ cal → meas₁ ≡ meas
+    → Receives (receivedBy (fedOf s₁ b) s₁ cal₁ meas₁) r s₂ cal₂ → s₃ ≡ s₂ → cal₃ ≡ cal₂ → Receives (receivedBy (fedOf s b) s cal meas) r s₃ cal₃
+by-whole s cal meas b a c m x e f = record { result = rw (← a, ← c, ← m) (x .result); state = e ∙ rw (← a, ← c, ← m) (x .state); memory = f ∙ rw (← a, ← c, ← m) (x .memory) }

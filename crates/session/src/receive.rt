@@ -1,4 +1,4 @@
-// A received byte in a consistent state.
+// A received byte in a consistent state, whatever it ends.
 ghost use mathlib.Core.Path.{_≡_};
 ghost use Prim.Native.Nat.{_≤_};
 ghost use lib.ListN.{length};
@@ -50,7 +50,7 @@ fn heed(s: &mut [u8], cal: &mut [u8], meas: &[u8], n: u8) -> Received
 }
 
 // The line says what ended, then the session says what it means.
-pub fn receive(s: &mut [u8], cal: &mut [u8], meas: &[u8], byte: u8) -> Received
+fn read(s: &mut [u8], cal: &mut [u8], meas: &[u8], byte: u8) -> Received
     requires { ⌜ length (now s) ≡ size ⌝ }
     ensures { λ r. ⌜ Receives (receivedBy (fedOf (now (s .entry)) byte) (now (s .entry)) (now (cal .entry)) (now (meas .entry))) r (now (s .exit)) (now (cal .exit)) ⌝ }
 {
@@ -73,4 +73,15 @@ pub fn receive(s: &mut [u8], cal: &mut [u8], meas: &[u8], byte: u8) -> Received
         Outcome::CutOff => Received::CutOff,
         Outcome::ShortBuffer => Received::NoState,
     }
+}
+
+// What the byte call and the slice call share, for a byte that may end something. It is compiled by itself: it asks the size once, so that no read of the state has to, and takes each slice out of memory once.
+pub fn receive(s: &mut [u8], cal: &mut [u8], meas: &[u8], byte: u8) -> Received
+    requires { ⌜ length (now s) ≡ size ⌝ }
+    ensures { λ r. ⌜ Receives (receivedBy (fedOf (now (s .entry)) byte) (now (s .entry)) (now (cal .entry)) (now (meas .entry))) r (now (s .exit)) (now (cal .exit)) ⌝ }
+{
+    if s.len() != layout::STATE {
+        return Received::NoState;
+    }
+    read(&mut s[0..], &mut cal[0..], &meas[0..], byte)
 }

@@ -1,14 +1,18 @@
 // The C interface: thin functions over lent bytes. Each is one call of the session and one number:
-// 65,536 times the paper's number, plus a slot's size, or 256 times the sampled lists plus the missed.
+// 65,536 times the paper's number, plus a slot's size, or 256 times the sampled lists plus the missed,
+// or 2^32 times the bytes taken of a slice.
 ghost use mathlib.Core.Path.{_≡_};
+ghost use Prim.Native.Nat.{_+_, _*_};
 ghost use Rattle.state.specs.Layout.{size};
 ghost use Rattle.session.specs.Receive.{receiveOf};
+ghost use Rattle.session.specs.Slice.{receiveBytesOf};
 ghost use Rattle.lists.specs.Event.{eventOf};
 ghost use Rattle.lists.specs.Slot.{slotOf};
 ghost use Rattle.session.specs.PowerUp.{powerUpOf};
 ghost use Rattle.lists.specs.Slot.{Small};
 ghost use Rattle.words.specs.Number.{receivedC, eventedC, slottedC, poweredUpC};
-ghost use Rattle.slave.specs.Returns.{PowersUpC, ReceivesC, HappensC, SendsC};
+ghost use Rattle.slave.specs.Returns.{PowersUpC, ReceivesC, TakesC, HappensC, SendsC};
+use session::Took;
 use words::Evented;
 use words::PoweredUp;
 use words::Received;
@@ -28,6 +32,13 @@ fn received(r: Received) -> u32
         Received::CutOff => 458_752,
         Received::NoState => 655_360,
     }
+}
+
+fn took(r: Took) -> u64
+    ensures { λ n. ⌜ n ≡ receivedC (r .received) + 4294967296 * r .taken ⌝ }
+{
+    let answer = r.received;
+    received(answer) as u64 + 4_294_967_296 * r.taken as u64
 }
 
 fn evented(r: Evented) -> u32
@@ -73,6 +84,13 @@ pub extern "C" fn xcp_receive_byte(state: &mut [u8], cal: &mut [u8], meas: &[u8]
     ensures { λ r. ⌜ ReceivesC (receiveOf (now (state .entry)) (now (cal .entry)) (now (meas .entry)) byte) r (now (state .exit)) (now (cal .exit)) ⌝ }
 {
     received(session::receive_byte(state, cal, meas, byte))
+}
+
+#[no_mangle]
+pub extern "C" fn xcp_receive(state: &mut [u8], cal: &mut [u8], meas: &[u8], bytes: &[u8]) -> u64
+    ensures { λ r. ⌜ TakesC (receiveBytesOf (now (state .entry)) (now (cal .entry)) (now (meas .entry)) (now (bytes .entry))) r (now (state .exit)) (now (cal .exit)) ⌝ }
+{
+    took(session::receive_bytes(state, cal, meas, bytes))
 }
 
 #[no_mangle]
