@@ -2,19 +2,21 @@
  * archive is made for.
  *
  * The slave keeps no memory of its own and calls nothing. Each call is lent what it works on, for
- * that call only: the state, the two memories, the room for a frame. Another address at the next
- * call is fine (a copy of a state is a slave too), and so are a memory of another length, any
- * alignment, and NULL with length 0. (Code for a Cortex-M4 uses words at odd addresses; where these
- * are trapped, build with UNALIGNED=no.)
+ * that call only: the state, the two memories, received bytes, the room for a frame. Another
+ * address at the next call is fine (a copy of a state is a slave too), and so are a memory of
+ * another length, any alignment, and NULL with length 0. (Code for a Cortex-M4 uses words at odd
+ * addresses; where these are trapped, build with UNALIGNED=no.)
  *
  * What a host owes, because no call can test it:
- *  - Every pointer and length name real memory, and no two slices of one call overlap.
+ *  - Every pointer and length name real memory, and no two slices of one call overlap: received
+ *    bytes lie neither in the state nor in a memory.
  *  - No call begins while another on the same state runs. An interrupt may make calls only if it is
  *    masked around every other one; let it fill a ring buffer instead, which the main loop drains.
  *  - While a call runs, nothing else (an interrupt, DMA, a second core) writes what it was lent,
- *    nor reads what it may write: the state, the room, and in xcp_receive_byte cal. What an
- *    interrupt reads of cal it reads from a copy that the main loop makes between calls, or it is
- *    masked around each call.
+ *    nor reads what it may write: the state, the room, and in both calls that receive cal. Of a
+ *    ring that is being filled lend only what has come, and let nothing come over it before the
+ *    call has returned. What an interrupt reads of cal it reads from a copy that the main loop
+ *    makes between calls, or it is masked around each call.
  * All else may be anything: every call has a defined outcome, and each refusal its number (below).
  *
  * Seed and key are a guard against mistakes. They are no security: who listens can compute the key.
@@ -22,17 +24,21 @@
  * The longest call is xcp_event where it samples the whole pool, 512 bytes in 128 entries: on a
  * Cortex-M4 (-Os) it takes up to 7,267 instructions (lists of a few bytes, a sixth of that). The
  * last byte of BUILD_CHECKSUM, which reads 4,096 bytes of memory, takes up to 5,017; no other call
- * takes more than that. Let the ring buffer hold what can arrive in that time. Bytes lost there are
- * damage on the line like any other: the message is dropped, as far as one checksum byte can tell.
+ * takes more than that, but that xcp_receive takes the time of all its bytes, of which the last
+ * alone can end a command: how many it is lent is the host's. Let the ring buffer hold what can
+ * arrive in that time. Bytes lost there are damage on the line like any other: the message is
+ * dropped, as far as one checksum byte can tell.
  *
  * The main loop in short; examples/host.c has it whole, and docs/PORTING.md says why:
  *
- *   for each byte that has come until now:  xcp_receive_byte(state, ..., byte)
+ *   for what has come until now, a run      r = xcp_receive(state, ..., bytes, how many);
+ *   of the ring, two where it wraps:        XCP_TOOK(r) of them are done with, the rest comes next
  *   if a weight is ready:                   put it into the measured values; xcp_event(state, ...)
  *   if the last frame has left:             size = XCP_SIZE(xcp_slot(state, ..., room, ...));
  *                                           if it is not 0, send so many bytes of room
  *   if one of these gave number 10:         xcp_power_up(state, ..., a fresh number), and give the
- *                                           slave that byte again; else feed the watchdog
+ *                                           slave the bytes that it did not take again; else feed
+ *                                           the watchdog
  *
  * The room is the line's until the last byte has left: with DMA it is not lent again before, and
  * does not lie on the stack.
@@ -52,7 +58,7 @@ extern "C" {
 #endif
 
 /* Of this header and the archives made with it; CHANGELOG.md says what each version changed. */
-#define XCP_SLAVE_VERSION "1.4.2"
+#define XCP_SLAVE_VERSION "1.5.0"
 
 /* The state's one size: a shorter or longer buffer is refused. */
 #define XCP_STATE_SIZE 1486
@@ -62,12 +68,15 @@ extern "C" {
 #define XCP_SLOT_ROOM 135
 
 /* What a call returns is its number and, when it is done, a value beside it. */
-#define XCP_NUMBER(r) ((uint32_t)(r) >> 16)
+#define XCP_NUMBER(r) ((uint32_t)(r) >> 16)           /* of any call, xcp_receive's 64 bits too */
 #define XCP_SIZE(r) ((uint32_t)(r) & 0xFFFFu)         /* a slot: bytes of the frame, 0 for none */
 #define XCP_SAMPLED(r) (((uint32_t)(r) >> 8) & 0xFFu) /* an event: lists that sampled, up to 8 */
 #define XCP_MISSED(r) ((uint32_t)(r) & 0xFFu)         /* an event: lists that missed it, up to 8 */
+#define XCP_RESULT(r) ((uint32_t)(r))                 /* xcp_receive: as of its last byte's call */
+#define XCP_TOOK(r) ((uint32_t)((uint64_t)(r) >> 32)) /* xcp_receive: how many bytes it took */
 
-/* The numbers. Only 1 takes a command; 2 to 7 drop a message; 8 to 10 change nothing at all. */
+/* The numbers. Only 1 takes a command; 2 to 7 drop a message; 8 to 10 change nothing at all. What
+ * is said of a byte xcp_receive says of the last one that it took. */
 enum xcp_number {
     XCP_DONE = 0,         /* a byte: nothing to report; an event, slot or power-up: done */
     XCP_TAKEN = 1,        /* a byte: a command was taken, its answer (FF or FE) waits for a slot */
@@ -96,6 +105,14 @@ uint32_t xcp_power_up(uint8_t *state, uint64_t state_len, uint32_t start);
  * cal is read and, once it is unlocked, written; meas is only read. Returns 0 to 7, or 10. */
 uint32_t xcp_receive_byte(uint8_t *state, uint64_t state_len, uint8_t *cal, uint64_t cal_len,
                           const uint8_t *meas, uint64_t meas_len, uint8_t byte);
+
+/* Takes bytes from the wire up to and with the first whose number is not 0, or all of them: the
+ * call above repeated, in its result and in all that it leaves. Returns that number, and how many
+ * bytes it took, 4,294,967,295 at most; the host goes on behind them. Number 10 takes none. No bytes
+ * at all, NULL with length 0 too, change nothing: 0, or 10. */
+uint64_t xcp_receive(uint8_t *state, uint64_t state_len, uint8_t *cal, uint64_t cal_len,
+                     const uint8_t *meas, uint64_t meas_len, const uint8_t *bytes,
+                     uint64_t bytes_len);
 
 /* Event 0 or 1: each running list of that event takes its sample within this call, or misses it
  * while packets of its last one are unsent. How many lists there are, and what they have, is the
