@@ -77,6 +77,24 @@ static void trial_watchdog(void)
     NUMBER("times that a good one feeds it then", 6, feeds);
 }
 
+/* More comes at once than the ring holds, behind a whole command: what is lost is the last of it. */
+static void trial_full(void)
+{
+    static const uint8_t synch[] = {SYNC, 0x01, 0x00, 0xFC, 0xFD};
+    uint8_t packet[PACKET];
+    switch_on();
+    connect_and_unlock();
+    for (size_t count = sizeof ring - sizeof synch - 2; count < sizeof ring + 8; count++) {
+        check_note("%zu bytes behind it", count);
+        for (size_t i = 0; i < sizeof synch; i++)
+            uart_received(synch[i]);
+        babble(count);
+        NUMBER("bytes of the answer to SYNCH", 2, (uint32_t)next_packet(packet));
+        turns(sizeof ring);
+    }
+    check_note("%s", "");
+}
+
 /* As a power cut leaves it: what is not kept is gone. */
 static void switch_off_and_on(void)
 {
@@ -205,6 +223,7 @@ int main(int count, char **words)
         {"session", trial_session}, {"damage", trial_damage},     {"keys", trial_keys},
         {"reader", trial_reader},   {"watchdog", trial_watchdog}, {"kept", trial_kept},
         {"lost", trial_lost},       {"broken", trial_broken},     {"cut", trial_cut},
+        {"burst", trial_burst},     {"full", trial_full},
     };
     return trials_main(trials, sizeof trials / sizeof *trials, count > 1 ? words[1] : NULL);
 }

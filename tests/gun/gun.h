@@ -33,6 +33,9 @@ void switch_on(void);
 void turn(void);
 void turns(int count);
 
+/* So many bytes of noise come at once, a dropped message in every two. */
+void babble(size_t count);
+
 /* A command to the host; and what it is answered, behind whatever samples. */
 void say(const char *format, ...);
 void answers(const char *answer, const char *format, ...);
@@ -67,5 +70,6 @@ void trial_session(void); /* a whole session, with lists */
 void trial_damage(void);  /* the state's mark is written over, at any moment */
 void trial_keys(void);    /* after that, three more tries at a key */
 void trial_reader(void);  /* an interrupt reads while a tool writes */
+void trial_burst(void);   /* much comes at once, of which nothing is lost */
 
 #endif

@@ -66,6 +66,12 @@ void turn(void)
     heard_count += dma_moves(heard + heard_count, heard_count + AT_ONCE <= sizeof heard ? AT_ONCE : 0);
 }
 
+void babble(size_t count)
+{
+    for (size_t i = 0; i < count; i++)
+        gun.receive(i % 2 == 0 ? SYNC : 0x00);
+}
+
 void turns(int count)
 {
     while (count-- > 0)

@@ -160,6 +160,18 @@ void trial_reader(void)
     NUMBER("rows that were read half", 0, (uint32_t)rows.halves);
 }
 
+/* More noise than a round takes, up to what either ring holds, and the next command behind it, so that
+ * both begin at every place of the ring. */
+void trial_burst(void)
+{
+    switch_on();
+    connect_and_unlock();
+    for (size_t count = 1; count < 180; count += 3) {
+        babble(count);
+        ANSWERS("FE 00", "FC");
+    }
+}
+
 int trials_main(const struct trial *trials, size_t count, const char *name)
 {
     void (*chosen[16])(void);

@@ -17,7 +17,7 @@
 #include <termios.h>
 #include <unistd.h>
 
-volatile uint8_t rx_bytes[RX_SIZE];
+uint8_t rx_bytes[RX_SIZE];
 static uint32_t left = RX_SIZE, ticks, numbers;
 
 uint32_t rx_left(void) { return left; }
@@ -81,7 +81,8 @@ static int at_line(void)
 int main(int count, char **words)
 {
     static const struct trial trials[] = {
-        {"session", trial_session}, {"damage", trial_damage}, {"keys", trial_keys}, {"reader", trial_reader}};
+        {"session", trial_session}, {"damage", trial_damage}, {"keys", trial_keys}, {"reader", trial_reader},
+        {"burst", trial_burst}};
     if (count > 1 && strcmp(words[1], "line") == 0) {
         firmware_begin();
         return at_line();

@@ -6,7 +6,7 @@
 
 /* Receive DMA writes these in circles, by itself; its counter says how many are left to the end. */
 enum { RX_SIZE = 192 };
-extern volatile uint8_t rx_bytes[RX_SIZE];
+extern uint8_t rx_bytes[RX_SIZE];
 uint32_t rx_left(void);
 
 /* Send DMA reads the bytes while they go. */

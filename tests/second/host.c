@@ -32,19 +32,20 @@ static uint32_t after(uint32_t r)
     return r;
 }
 
-static uint32_t take_byte(uint8_t byte)
-{
-    irq_mask();
-    return after(xcp_receive_byte(slave, sizeof slave, (uint8_t *)&cal, sizeof cal, (const uint8_t *)&meas, sizeof meas,
-                                  byte));
-}
-
+/* What DMA has brought, run by run. At number 10 none of a run was taken: it comes again in the next round. */
 static void take_bytes(void)
 {
     uint32_t end = (RX_SIZE - rx_left()) % RX_SIZE;
-    for (; rx_at != end; rx_at = (rx_at + 1) % RX_SIZE)
-        if (XCP_NUMBER(take_byte(rx_bytes[rx_at])) == XCP_BAD_STATE)
-            take_byte(rx_bytes[rx_at]);
+    while (rx_at != end) {
+        uint32_t count = (end > rx_at ? end : RX_SIZE) - rx_at;
+        uint64_t r;
+        irq_mask();
+        r = xcp_receive(slave, sizeof slave, (uint8_t *)&cal, sizeof cal, (const uint8_t *)&meas, sizeof meas, rx_bytes + rx_at,
+                        count);
+        rx_at = (rx_at + XCP_TOOK(r)) % RX_SIZE;
+        if (XCP_NUMBER(after(XCP_RESULT(r))) == XCP_BAD_STATE)
+            break;
+    }
 }
 
 static void take_weight(void)
