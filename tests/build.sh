@@ -20,6 +20,8 @@ build_and_run() {
     mkdir -p "$folder" || exit 1
     [ -z "${XCP_CC-}" ] || read -ra compiler <<<"$XCP_CC"
     [ -z "${XCP_RUN-}" ] || read -ra run <<<"$XCP_RUN"
+    # What would take minutes under an emulator asks for this.
+    [ -z "${XCP_RUN-}${RUN_X86[*]}" ] || export XCP_EMULATED=yes
     if [ -n "$archive" ]; then
         libraries=(-lpthread -ldl -lm)
     else

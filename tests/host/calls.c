@@ -35,6 +35,10 @@ static void bad_state(const struct rig *r, uint8_t *state, size_t len)
     for (size_t i = 0; i < COUNT(bytes); i++)
         check_numbers("a byte", 655360, xcp_receive_byte(state, len, r->cal, r->cal_len, r->meas,
                                                          r->meas_len, bytes[i]));
+    for (size_t i = 0; i <= COUNT(bytes); i++)
+        check_numbers("a slice, of which none is taken", 1,
+                      xcp_receive(state, len, r->cal, r->cal_len, r->meas, r->meas_len, bytes, i) ==
+                          655360);
     for (size_t i = 0; i < COUNT(events); i++)
         check_numbers("an event", 655360, xcp_event(state, len, r->cal, r->cal_len, r->meas,
                                                     r->meas_len, events[i], 1));
@@ -241,6 +245,7 @@ static void no_memories(void)
     rig_end(&r);
     NUMBER("power-up lent NULL", 655360, xcp_power_up(NULL, 0, 1));
     NUMBER("a byte lent NULL", 655360, xcp_receive_byte(NULL, 0, NULL, 0, NULL, 0, SYNC));
+    NUMBER("a slice lent NULL", 1, xcp_receive(NULL, 0, NULL, 0, NULL, 0, NULL, 0) == 655360);
     NUMBER("an event lent NULL", 655360, xcp_event(NULL, 0, NULL, 0, NULL, 0, 2, 0));
     NUMBER("a slot lent NULL", 655360, xcp_slot(NULL, 0, NULL, 0));
 }

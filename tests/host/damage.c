@@ -107,20 +107,21 @@ static int hear(struct witness *w, uint8_t byte)
     return hear_message_byte(w, byte);
 }
 
-static void send_byte(struct rig *r, struct witness *w, uint8_t byte)
+/* The number that this byte must have; of a command it is known then that its answer waits. */
+static uint32_t number_of(struct witness *w, uint8_t byte)
 {
     int heard = hear(w, byte);
-    uint32_t number = feed(r, byte), expected = (uint32_t)heard;
-    if (heard == GOOD) {
-        int connect = w->message[0] >= 2 && w->message[2] == 0xFF && w->message[3] == 0;
-        expected = w->waits ? XCP_ANSWER_WAITS : w->open || connect ? XCP_TAKEN : XCP_NO_SESSION;
-    }
-    insist("the number of a byte", expected, number);
-    if (number == XCP_TAKEN) {
-        w->waits = 1;
-        w->command_len = w->message[0];
-        memcpy(w->command, w->message + 2, w->command_len);
-    }
+    if (heard != GOOD)
+        return (uint32_t)heard;
+    int connect = w->message[0] >= 2 && w->message[2] == 0xFF && w->message[3] == 0;
+    if (w->waits)
+        return XCP_ANSWER_WAITS;
+    if (!w->open && !connect)
+        return XCP_NO_SESSION;
+    w->waits = 1;
+    w->command_len = w->message[0];
+    memcpy(w->command, w->message + 2, w->command_len);
+    return XCP_TAKEN;
 }
 
 static void set_mta(struct witness *w, uint32_t behind)
@@ -183,10 +184,25 @@ static int one_slot(struct rig *r, struct witness *w)
     return 1;
 }
 
-static void send_bytes(struct rig *r, struct witness *w, const uint8_t *bytes, size_t count)
+typedef void sending(struct rig *r, struct witness *w, const uint8_t *bytes, size_t count);
+
+static void send_singly(struct rig *r, struct witness *w, const uint8_t *bytes, size_t count)
 {
     for (size_t i = 0; i < count; i++)
-        send_byte(r, w, bytes[i]);
+        insist("the number of a byte", number_of(w, bytes[i]), feed(r, bytes[i]));
+}
+
+/* All in one slice, and then what is left of it, up to each byte that has a number. */
+static void send_bytes(struct rig *r, struct witness *w, const uint8_t *bytes, size_t count)
+{
+    for (size_t at = 0, end = 0; at < count; at = end) {
+        uint32_t number = 0;
+        while (end < count && number == 0)
+            number = number_of(w, bytes[end++]);
+        uint64_t result = feed_slice(r, bytes + at, count - at);
+        insist("the number of a slice", number, XCP_NUMBER(result));
+        insist("the bytes that it took", (uint32_t)(end - at), XCP_TOOK(result));
+    }
 }
 
 static void send_packet(struct rig *r, struct witness *w, const char *hex)
@@ -238,20 +254,26 @@ static void go_back(struct rig *r, struct witness *w, const struct moment *m)
     memcpy(r->cal, m->cal, sizeof m->cal);
 }
 
-/* These bytes in place of a frame, from this moment on; then a command at once, and a session. */
+/* These bytes in place of a frame, from this moment on: by slices and by the byte call, which leave
+ * the same; then a command at once, and a session. */
 static void damaged(const struct moment *m, const uint8_t *bytes, size_t count)
 {
+    static sending *const ways[] = {send_bytes, send_singly};
+    uint8_t states[COUNT(ways)][XCP_STATE_SIZE];
     struct rig r;
     struct witness w;
-    go_back(&r, &w, m);
-    send_bytes(&r, &w, bytes, count);
-    fetch(&r, &w);
-    check_bytes("memory", w.cal, MEMORY, r.cal, MEMORY);
-    answered(&r, &w, w.open ? "FD" : "FF 00");
-    go_back(&r, &w, m);
-    send_bytes(&r, &w, bytes, count);
-    fetch(&r, &w);
-    new_session(&r, &w);
+    for (size_t way = 0; way < COUNT(ways); way++) {
+        go_back(&r, &w, m);
+        ways[way](&r, &w, bytes, count);
+        memcpy(states[way], r.state, XCP_STATE_SIZE);
+        fetch(&r, &w);
+        check_bytes("memory", w.cal, MEMORY, r.cal, MEMORY);
+        if (way == 0)
+            answered(&r, &w, w.open ? "FD" : "FF 00");
+        else
+            new_session(&r, &w);
+    }
+    insist("another state by slices", 0, memcmp(states[0], states[1], XCP_STATE_SIZE) != 0);
 }
 
 /* One way to damage a frame, at every place where it can be done. */

@@ -23,6 +23,9 @@ void test_state(void);          /* the state's bytes: how each value reads, what
 void test_started(void);        /* lists that say started, though no start would be done */
 void test_bench(void);          /* the bench sheet, byte for byte */
 void test_several(void);        /* several slaves in one program; a copy of a state is one too */
+void test_guns(void);           /* many guns at one host, by slices: none depends on another */
+void test_slices(void);         /* xcp_receive is xcp_receive_byte repeated, for every cut */
+void test_longest_slice(void);  /* and of more than 4 GB it takes so much */
 
 /* Situations, each from a power-up with the same memories. */
 void powered(struct rig *r);          /* no session */

@@ -27,6 +27,7 @@ void rig_start(struct rig *r, size_t cal_len, size_t meas_len, uint32_t start_nu
     r->cal = lend(cal_len, 0);
     r->meas = lend(meas_len, 0);
     r->out = lend(r->out_len, STALE);
+    r->shelf = lend(SHELF, 0);
     r->master_ctr = 0x96; /* soon 9A and 9B, which are sent as pairs */
     fill(r->cal, cal_len, 3);
     fill(r->meas, meas_len, 0x80);
@@ -39,6 +40,7 @@ void rig_end(struct rig *r)
     lend_end(r->cal, r->cal_len);
     lend_end(r->meas, r->meas_len);
     lend_end(r->out, r->out_len);
+    lend_end(r->shelf, SHELF);
 }
 
 static uint8_t *resized(uint8_t *old, size_t old_len, size_t len)
@@ -131,6 +133,17 @@ uint32_t feed(struct rig *r, uint8_t byte)
                                        r->meas_len, byte);
     insist("added to a byte's number", 0, XCP_SIZE(result));
     return XCP_NUMBER(result);
+}
+
+uint64_t feed_slice(struct rig *r, const uint8_t *bytes, size_t count)
+{
+    uint8_t *at = lend_edge == EDGE_AFTER ? r->shelf + SHELF - count : r->shelf;
+    memcpy(at, bytes, count);
+    uint64_t result = xcp_receive(r->state, XCP_STATE_SIZE, r->cal, r->cal_len, r->meas,
+                                  r->meas_len, at, count);
+    insist("added to a slice's number", 0, XCP_SIZE(result));
+    insist("bytes of a slice were written", 0, memcmp(at, bytes, count) != 0);
+    return result;
 }
 
 uint32_t give_bytes(struct rig *r, const uint8_t *packet, size_t len)

@@ -10,9 +10,11 @@
 enum { SYNC = 0x9A, ESC = 0x9B, CALIBRATION = 0x01, LISTS = 0x04 };
 enum { TEXT = 4 * PACKET }; /* a packet in words, with room to spare */
 enum { LONGEST = 8192 };    /* no test lends a longer memory */
+enum { SHELF = 4096 };      /* nor as many bytes to receive */
 
 struct rig {
     uint8_t *state, *cal, *meas, *out;
+    uint8_t *shelf; /* where a slice of bytes stands while it is lent, at its edge */
     size_t cal_len, meas_len, out_len;
     uint8_t master_ctr; /* of the next frame to the slave; it is not judged */
     uint8_t slave_ctr;  /* that the slave's next frame must carry */
@@ -44,6 +46,10 @@ size_t frame_of(uint8_t ctr, const uint8_t *packet, size_t len, uint8_t *frame);
 
 /* One byte to the slave; gives the number, and checks that nothing is added to it. */
 uint32_t feed(struct rig *r, uint8_t byte);
+
+/* Bytes to the slave as one slice; gives what the call returns, and checks that nothing is added to
+ * its number. */
+uint64_t feed_slice(struct rig *r, const uint8_t *bytes, size_t count);
 
 /* A packet as a whole frame; its last byte's number. Earlier bytes after SYNC must give 0. */
 uint32_t give_bytes(struct rig *r, const uint8_t *packet, size_t len);
