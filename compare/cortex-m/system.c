@@ -1,5 +1,5 @@
-/* What newlib asks of a system, for compare/driver.c on the emulated board: standard input and output are the emulator's own,
- * and a fault ends the program, so that the other end of the pipe knows of a crash.
+/* What newlib asks of a system, for compare/driver.c and tests/controller/slices.c on the emulated board: standard input and
+ * output are the emulator's own, and a fault ends the program, so that the other end of the pipe knows of a crash.
  *
  * With TRAP a word at an odd address is a fault from the start on; with TOUCH one is read then, to show that it is. The driver
  * is always code for Cortex-M0, so that neither it nor its C library uses such words itself; the slave's code is what it is. */

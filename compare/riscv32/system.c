@@ -1,6 +1,6 @@
-/* What compare/driver.c asks of a system, by Linux's calls: so code for riscv32 runs in qemu-riscv32, for which there is no C
- * library here. The declarations are newlib's. A crash ends the emulator, and the other end of the pipe knows of it. Compiled as
- * freestanding C: else a compiler makes calls to memcpy of that very loop. */
+/* What compare/driver.c and tests/controller/slices.c ask of a system, by Linux's calls: so code for riscv32 runs in
+ * qemu-riscv32, for which there is no C library here. The declarations are newlib's. A crash ends the emulator, and the other end
+ * of the pipe knows of it. Compiled as freestanding C: else a compiler makes calls to memcpy of that very loop. */
 #include <signal.h>
 #include <stddef.h>
 #include <stdint.h>
