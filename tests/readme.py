@@ -10,8 +10,8 @@ import sys
 # What the main loop leaves to the board.
 BOARD = """
 uint32_t number_that_differs(void);
-int bytes_that_have_come(void);
-uint8_t next_byte(void);
+uint32_t bytes_that_have_come(const uint8_t **bytes);
+void forget_bytes(uint32_t count);
 int new_weight_put_into(uint8_t *values);
 uint16_t milliseconds(void);
 int the_line_is_free(void);
