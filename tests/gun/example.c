@@ -77,10 +77,26 @@ static void trial_watchdog(void)
     NUMBER("times that a good one feeds it then", 6, feeds);
 }
 
+static const uint8_t synch[] = {SYNC, 0x01, 0x00, 0xFC, 0xFD};
+
+/* A command right behind another, both come at once: the first one's answer leaves in between. */
+static void trial_two(void)
+{
+    uint8_t packet[PACKET];
+    switch_on();
+    connect_and_unlock();
+    for (int i = 0; i < 100; i++) {
+        for (size_t at = 0; at < 2 * sizeof synch; at++)
+            uart_received(synch[at % sizeof synch]);
+        NUMBER("bytes of the answer to the first", 2, (uint32_t)next_packet(packet));
+        NUMBER("bytes of the answer to the second", 2, (uint32_t)next_packet(packet));
+        turns(3);
+    }
+}
+
 /* More comes at once than the ring holds, behind a whole command: what is lost is the last of it. */
 static void trial_full(void)
 {
-    static const uint8_t synch[] = {SYNC, 0x01, 0x00, 0xFC, 0xFD};
     uint8_t packet[PACKET];
     switch_on();
     connect_and_unlock();
@@ -223,7 +239,7 @@ int main(int count, char **words)
         {"session", trial_session}, {"damage", trial_damage},     {"keys", trial_keys},
         {"reader", trial_reader},   {"watchdog", trial_watchdog}, {"kept", trial_kept},
         {"lost", trial_lost},       {"broken", trial_broken},     {"cut", trial_cut},
-        {"burst", trial_burst},     {"full", trial_full},
+        {"burst", trial_burst},     {"two", trial_two},           {"full", trial_full},
     };
     return trials_main(trials, sizeof trials / sizeof *trials, count > 1 ? words[1] : NULL);
 }
