@@ -13,10 +13,10 @@
  *  - No call begins while another on the same state runs. An interrupt may make calls only if it is
  *    masked around every other one; let it fill a ring buffer instead, which the main loop drains.
  *  - While a call runs, nothing else (an interrupt, DMA, a second core) writes what it was lent,
- *    nor reads what it may write: the state, the room, and in both calls that receive cal. Of a
- *    ring that is being filled lend only what has come, and let nothing come over it before the
- *    call has returned. What an interrupt reads of cal it reads from a copy that the main loop
- *    makes between calls, or it is masked around each call.
+ *    nor reads what it may write: the state, the room, and cal in xcp_receive and
+ *    xcp_receive_byte. Of a ring that is being filled lend only what has come, and let nothing be
+ *    written over it before the call returns. What an interrupt reads of cal it reads from a copy
+ *    that the main loop makes between calls, or it is masked around each call.
  * All else may be anything: every call has a defined outcome, and each refusal its number (below).
  *
  * Seed and key are a guard against mistakes. They are no security: who listens can compute the key.
@@ -24,10 +24,10 @@
  * The longest call is xcp_event where it samples the whole pool, 512 bytes in 128 entries: on a
  * Cortex-M4 (-Os) it takes up to 7,267 instructions (lists of a few bytes, a sixth of that). The
  * last byte of BUILD_CHECKSUM, which reads 4,096 bytes of memory, takes up to 5,017; no other call
- * takes more than that, but that xcp_receive takes the time of all its bytes, of which the last
- * alone can end a command: how many it is lent is the host's. Let the ring buffer hold what can
- * arrive in that time. Bytes lost there are damage on the line like any other: the message is
- * dropped, as far as one checksum byte can tell.
+ * takes more than that. xcp_receive takes the time of all its bytes, of which only the last can end
+ * a command: how many they are is the host's choice. Let the ring buffer hold what can arrive in
+ * that time. Bytes lost there are damage on the line like any other: the message is dropped, as far
+ * as one checksum byte can tell.
  *
  * The main loop in short; examples/host.c has it whole, and docs/PORTING.md says why:
  *
@@ -72,7 +72,7 @@ extern "C" {
 #define XCP_SIZE(r) ((uint32_t)(r) & 0xFFFFu)         /* a slot: bytes of the frame, 0 for none */
 #define XCP_SAMPLED(r) (((uint32_t)(r) >> 8) & 0xFFu) /* an event: lists that sampled, up to 8 */
 #define XCP_MISSED(r) ((uint32_t)(r) & 0xFFu)         /* an event: lists that missed it, up to 8 */
-#define XCP_RESULT(r) ((uint32_t)(r))                 /* xcp_receive: as of its last byte's call */
+#define XCP_RESULT(r) ((uint32_t)(r))                 /* xcp_receive: as the byte call's result */
 #define XCP_TOOK(r) ((uint32_t)((uint64_t)(r) >> 32)) /* xcp_receive: how many bytes it took */
 
 /* The numbers. Only 1 takes a command; 2 to 7 drop a message; 8 to 10 change nothing at all. What
@@ -107,9 +107,9 @@ uint32_t xcp_receive_byte(uint8_t *state, uint64_t state_len, uint8_t *cal, uint
                           const uint8_t *meas, uint64_t meas_len, uint8_t byte);
 
 /* Takes bytes from the wire up to and with the first whose number is not 0, or all of them: the
- * call above repeated, in its result and in all that it leaves. Returns that number, and how many
- * bytes it took, 4,294,967,295 at most; the host goes on behind them. Number 10 takes none. No bytes
- * at all, NULL with length 0 too, change nothing: 0, or 10. */
+ * call above repeated, in its result and in all that it leaves. Returns that number and how many
+ * bytes it took, 4,294,967,295 at most; the host goes on behind them. Number 10 takes none. An
+ * empty slice, NULL with length 0 too, changes nothing: 0, or 10. */
 uint64_t xcp_receive(uint8_t *state, uint64_t state_len, uint8_t *cal, uint64_t cal_len,
                      const uint8_t *meas, uint64_t meas_len, const uint8_t *bytes,
                      uint64_t bytes_len);
