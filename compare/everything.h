@@ -1,6 +1,6 @@
 /* Frames for the slave, and a session in which everything happens that can take long or go deep. For programs that measure
  * calls: each has its own call(), which makes one and gives what it returned. With the call goes one number: the start, the
- * byte, the event; a slot needs none. */
+ * byte, the event, how many bytes of the slice; a slot needs none. */
 #ifndef EVERYTHING_H
 #define EVERYTHING_H
 
@@ -8,36 +8,63 @@
 #include <stdint.h>
 
 enum { SYNC = 0x9A, ESC = 0x9B };
-enum { POWER_UP, BYTE, EVENT, SLOT, CALLS };
+enum { POWER_UP, BYTE, EVENT, SLOT, SLICE, CALLS };
 
 static uint32_t call(int which, uint32_t with);
 
 /* The code of the command that is being sent. */
 static uint8_t command;
+/* Whether bytes go to the slave in slices, and not each by a call; where a slice begins, and how many of its bytes the call has
+ * taken. */
+static int in_slices;
+static const uint8_t *slice;
+static uint32_t took;
+/* A frame as it goes over the line: at most SYNC and 67 pairs. */
+static uint8_t line[135];
+static uint32_t on_line;
 
-static uint32_t send_byte(uint8_t byte)
+/* Bytes from the line; gives what the last of them returned. A slice ends early where a byte has a number to tell. */
+static uint32_t give(const uint8_t *bytes, uint32_t count)
 {
-    if (byte == SYNC || byte == ESC) {
-        call(BYTE, ESC);
-        byte = byte == SYNC ? 1 : 0;
+    uint32_t result = 0;
+    took = 1;
+    for (uint32_t at = 0; at < count && took > 0; at += took) {
+        slice = bytes + at;
+        result = in_slices ? call(SLICE, count - at) : call(BYTE, bytes[at]);
     }
-    return call(BYTE, byte);
+    return result;
 }
 
-/* A command, and behind its bytes so many of data, SYNC and ESC by turns; gives what its last byte returned. */
-static uint32_t tell(size_t data, const uint8_t *bytes, size_t count)
+static void spell(uint8_t byte)
+{
+    int pair = byte == SYNC || byte == ESC;
+    if (pair)
+        line[on_line++] = ESC;
+    line[on_line++] = pair ? byte == SYNC : byte;
+}
+
+/* A command, and behind its bytes so many of data, SYNC and ESC by turns, as a frame. */
+static void spell_frame(size_t data, const uint8_t *bytes, size_t count)
 {
     uint8_t sum = (uint8_t)(count + data);
     command = bytes[0];
-    call(BYTE, SYNC);
-    send_byte((uint8_t)(count + data));
-    send_byte(0);
+    line[0] = SYNC;
+    on_line = 1;
+    spell(sum);
+    spell(0);
     for (size_t i = 0; i < count + data; i++) {
         uint8_t byte = i < count ? bytes[i] : i % 2 ? ESC : SYNC;
-        send_byte(byte);
+        spell(byte);
         sum = (uint8_t)(sum + byte);
     }
-    return send_byte(sum);
+    spell(sum);
+}
+
+/* That frame sent; gives what its last byte returned. */
+static uint32_t tell(size_t data, const uint8_t *bytes, size_t count)
+{
+    spell_frame(data, bytes, count);
+    return give(line, on_line);
 }
 
 /* A command, alone or with the slot in which its answer leaves; the same with so many bytes of data. */
@@ -258,10 +285,7 @@ static void codes(void)
         if (value < 0xFE)
             ASK((uint8_t)value, 0, 0, 0, 0, 0, 0, 0);
         ASK((uint8_t)value, 1);
-        call(BYTE, SYNC);
-        call(BYTE, value);
-        call(BYTE, ESC);
-        call(BYTE, value);
+        give((const uint8_t[]){SYNC, (uint8_t)value, ESC, (uint8_t)value}, 4);
         open_session();
     }
     ASK(0xF8, 0, 1);
@@ -280,7 +304,7 @@ static void wrong_keys(void)
     ASK(0xFD);
 }
 
-static void everything(void)
+static void whole_session(void)
 {
     open_session();
     memory();
@@ -292,6 +316,14 @@ static void everything(void)
     allocations();
     codes();
     wrong_keys();
+}
+
+/* All of it, once by bytes and once in slices. */
+static void everything(void)
+{
+    for (in_slices = 0; in_slices < 2; in_slices++)
+        whole_session();
+    in_slices = 0;
 }
 
 #endif

@@ -18,8 +18,10 @@ typedef uint32_t byte_call(uint8_t *, uint64_t, uint8_t *, uint64_t, const uint8
 typedef uint32_t event_call(uint8_t *, uint64_t, const uint8_t *, uint64_t, const uint8_t *, uint64_t,
                             uint32_t, uint16_t);
 typedef uint32_t slot_call(uint8_t *, uint64_t, uint8_t *, uint64_t);
+typedef uint64_t slice_call(uint8_t *, uint64_t, uint8_t *, uint64_t, const uint8_t *, uint64_t, const uint8_t *,
+                            uint64_t);
 
-static const char *const names[CALLS] = {"xcp_power_up", "xcp_receive_byte", "xcp_event", "xcp_slot"};
+static const char *const names[CALLS] = {"xcp_power_up", "xcp_receive_byte", "xcp_event", "xcp_slot", "xcp_receive"};
 static _Alignas(16) uint8_t stack[STACK];
 static uint8_t state[XCP_STATE_SIZE], cal[4096], meas[4096], room[XCP_SLOT_ROOM];
 static ucontext_t here, there;
@@ -34,6 +36,7 @@ static power_up_call *volatile power_up;
 static byte_call *volatile receive_byte;
 static event_call *volatile event;
 static slot_call *volatile slot;
+static slice_call *volatile receive;
 static uint8_t *top; /* just above the return address */
 
 /* The frame's address is that of the saved frame pointer, and the return address stands above. */
@@ -60,6 +63,19 @@ static uint32_t note_slot(uint8_t *s, uint64_t n, uint8_t *o, uint64_t on)
     return (void)s, (void)n, (void)o, (void)on, NOTE();
 }
 
+static uint64_t note_slice(uint8_t *s, uint64_t n, uint8_t *c, uint64_t cn, const uint8_t *m, uint64_t mn,
+                           const uint8_t *b, uint64_t bn)
+{
+    return (void)s, (void)n, (void)c, (void)cn, (void)m, (void)mn, (void)b, (void)bn, NOTE();
+}
+
+static uint32_t receive_slice(uint32_t count)
+{
+    uint64_t r = receive(state, sizeof state, cal, sizeof cal, meas, sizeof meas, slice, count);
+    took = XCP_TOOK(r);
+    return XCP_RESULT(r);
+}
+
 static void on_painted_stack(void)
 {
     if (kind == POWER_UP)
@@ -68,6 +84,8 @@ static void on_painted_stack(void)
         result = receive_byte(state, sizeof state, cal, sizeof cal, meas, sizeof meas, (uint8_t)argument);
     else if (kind == EVENT)
         result = event(state, sizeof state, cal, sizeof cal, meas, sizeof meas, argument, 0x9A9B);
+    else if (kind == SLICE)
+        result = receive_slice(argument);
     else
         result = slot(state, sizeof state, room, sizeof room);
 }
@@ -87,10 +105,10 @@ static uint32_t call(int which, uint32_t with)
 {
     kind = which;
     argument = with;
-    power_up = note_power_up, receive_byte = note_byte, event = note_event, slot = note_slot;
+    power_up = note_power_up, receive_byte = note_byte, event = note_event, slot = note_slot, receive = note_slice;
     go();
     memset(stack, PAINT, (size_t)(top - stack));
-    power_up = xcp_power_up, receive_byte = xcp_receive_byte, event = xcp_event, slot = xcp_slot;
+    power_up = xcp_power_up, receive_byte = xcp_receive_byte, event = xcp_event, slot = xcp_slot, receive = xcp_receive;
     go();
     size_t untouched = 0;
     while (stack[untouched] == PAINT)
