@@ -13,6 +13,16 @@ extern "C" {
         meas_len: u64,
         byte: u8,
     ) -> u32;
+    fn xcp_receive(
+        state: *mut u8,
+        state_len: u64,
+        cal: *mut u8,
+        cal_len: u64,
+        meas: *const u8,
+        meas_len: u64,
+        bytes: *const u8,
+        bytes_len: u64,
+    ) -> u64;
     fn xcp_event(
         state: *mut u8,
         state_len: u64,
@@ -72,6 +82,24 @@ pub fn receive_byte(state: &mut [u8], cal: &mut [u8], meas: &[u8], byte: u8) -> 
             front(meas),
             length(meas),
             byte,
+        )
+    }
+}
+
+/// As the byte call's result in the lower half, how many bytes it took in the upper.
+#[inline]
+pub fn receive(state: &mut [u8], cal: &mut [u8], meas: &[u8], bytes: &[u8]) -> u64 {
+    let (state_len, cal_len) = (length(state), length(cal));
+    unsafe {
+        xcp_receive(
+            front_mut(state),
+            state_len,
+            front_mut(cal),
+            cal_len,
+            front(meas),
+            length(meas),
+            front(bytes),
+            length(bytes),
         )
     }
 }

@@ -71,6 +71,24 @@ impl Slave {
         }
     }
 
+    /// Takes bytes up to and with the first whose number is not 0, or all: that number, and how many it took.
+    #[inline(never)]
+    pub fn receive(&mut self, cal: &mut [u8], meas: &[u8], bytes: &[u8]) -> (u32, usize) {
+        self.receive_inlined(cal, meas, bytes)
+    }
+
+    /// The same as `receive`, for a caller that wants its loop inside its own.
+    #[inline(always)]
+    pub fn receive_inlined(&mut self, cal: &mut [u8], meas: &[u8], bytes: &[u8]) -> (u32, usize) {
+        for (before, byte) in bytes.iter().enumerate() {
+            let number = self.receive_byte_inlined(cal, meas, *byte);
+            if number != 0 {
+                return (number, before + 1);
+            }
+        }
+        (0, bytes.len())
+    }
+
     /// Judges a message whose checksum was right: 6, then 2, then taken.
     fn judge(&mut self, cal: &mut [u8], meas: &[u8]) -> u32 {
         let packet = self.reader.packet();

@@ -8,6 +8,7 @@ mod bench_sheet;
 mod events_and_slots;
 mod seeds;
 mod sizes;
+mod slices;
 mod table;
 mod wire;
 mod wrong_keys;
@@ -157,6 +158,11 @@ impl Bench {
 
     pub fn receive(&mut self, byte: u8) -> u32 {
         self.slave.receive_byte(&mut self.cal, &self.meas, byte)
+    }
+
+    /// A slice: the number that ended it, and how many bytes it took.
+    pub fn slice(&mut self, bytes: &[u8]) -> (u32, usize) {
+        self.slave.receive(&mut self.cal, &self.meas, bytes)
     }
 
     /// The numbers that the bytes return, one by one.
