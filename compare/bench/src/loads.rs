@@ -56,21 +56,26 @@ fn ready() -> Master<Called> {
     master
 }
 
-/// Commands one after another, each answered before the next.
-fn clean_of(command: fn(&mut Dice) -> Vec<u8>) -> Load {
-    let (mut master, mut dice) = (ready(), Dice(1));
-    while master.load.bytes.len() < BYTES {
+/// Commands one after another, each answered before the next, until there are so many bytes.
+fn clean_of(command: fn(&mut Dice) -> Vec<u8>, seed: u32, bytes: usize) -> Load {
+    let (mut master, mut dice) = (ready(), Dice(seed));
+    while master.load.bytes.len() < bytes {
         master.ask(&command(&mut dice));
     }
     master.load
 }
 
 pub fn clean() -> Load {
-    clean_of(command)
+    clean_of(command, 1, BYTES)
+}
+
+/// So many bytes for one of many guns, or for a log: other ones for each seed.
+pub fn clean_wire(seed: u32, bytes: usize) -> Load {
+    clean_of(command, seed, bytes)
 }
 
 pub fn clean_and_long() -> Load {
-    clean_of(long_command)
+    clean_of(long_command, 1, BYTES)
 }
 
 /// Damage of every kind among the commands, and noise between them.

@@ -1,11 +1,16 @@
 //! Times the proved slave and the plain one on the same input, and prints rows of a table: what, the
 //! proved slave's nanoseconds, how many times the Rust call's, how many times the inlined loop's.
 //! Asserts no time.
+//!   bench                        those rows
+//!   bench guns                   the rows of many slaves in one loop: bytes a second
+//!   bench replay LOG WORDS...    the row of the replay program that these words run, on a log that is written to LOG
 
 #![forbid(unsafe_code)]
 
+mod guns;
 mod loads;
 mod master;
+mod replay;
 mod single;
 mod subject;
 mod timing;
@@ -15,7 +20,7 @@ use single::Times;
 use std::ops::Range;
 use std::slice::from_ref;
 use subject::{Called, Inlined, Proved};
-use timing::{median, trace, Run};
+use timing::{median, trace, trace_by_slices, Bytes, Run, Slices, Way};
 
 const RUNS: usize = 51;
 /// Slots to a part of a run: short enough that most parts go by without a disturbance.
@@ -35,27 +40,28 @@ fn print_row(what: &str, times: &Times) {
 }
 
 /// The three slaves take turns at each part of the load, so that all meet the same disturbance.
-fn one_run(load: &Load, parts: &[Range<usize>], times: &mut [[Vec<f64>; 3]]) {
+fn one_run<W: Way>(load: &Load, parts: &[Range<usize>], times: &mut [[Vec<f64>; 3]]) {
     let (mut proved, mut called, mut inlined) = (
         Run::<Proved>::new(),
         Run::<Called>::new(),
         Run::<Inlined>::new(),
     );
     for (part, times) in parts.iter().zip(times) {
-        times[0].push(proved.go(load, part.clone()));
-        times[1].push(called.go(load, part.clone()));
-        times[2].push(inlined.go(load, part.clone()));
+        times[0].push(proved.go::<W>(load, part.clone()));
+        times[1].push(called.go::<W>(load, part.clone()));
+        times[2].push(inlined.go::<W>(load, part.clone()));
     }
     assert!(called.sum == inlined.sum && proved.sum > 0);
 }
 
 /// For each slave the sum of its parts' medians over the runs, for a byte.
-fn bytes(load: &Load) -> Times {
-    let ends = (0..load.slots.len()).step_by(PART);
-    let parts: Vec<_> = ends.map(|s| s..load.slots.len().min(s + PART)).collect();
+fn bytes<W: Way>(load: &Load) -> Times {
+    let slots = W::slots(load).len();
+    let ends = (0..slots).step_by(PART);
+    let parts: Vec<_> = ends.map(|s| s..slots.min(s + PART)).collect();
     let mut times = vec![[Vec::new(), Vec::new(), Vec::new()]; parts.len()];
     for _ in 0..RUNS {
-        one_run(load, &parts, &mut times);
+        one_run::<W>(load, &parts, &mut times);
     }
     let mut each = |which: usize| {
         let medians = times.iter_mut().map(|part| median(&mut part[which]));
@@ -68,11 +74,18 @@ fn bytes(load: &Load) -> Times {
     }
 }
 
-/// Both slaves must do the same, and the input must be what it is meant to be.
+/// Both slaves must do the same, by bytes and by slices, and the input must be what it is meant to be.
 fn checked(load: Load, wanted: &[u32]) -> Load {
     let proved = trace::<Proved>(&load);
     assert!(proved == trace::<Called>(&load), "the slaves differ");
     assert!(proved == trace::<Inlined>(&load), "the plain slaves differ");
+    for sliced in [
+        trace_by_slices::<Proved>(&load),
+        trace_by_slices::<Called>(&load),
+        trace_by_slices::<Inlined>(&load),
+    ] {
+        assert!(proved == sliced, "slices differ from bytes");
+    }
     for number in 0..8 {
         let met = proved.0.contains(&number);
         assert_eq!(met, wanted.contains(&number), "number {}", number);
@@ -82,21 +95,29 @@ fn checked(load: Load, wanted: &[u32]) -> Load {
 
 /// The rows of a million bytes.
 fn received() {
-    let clean = checked(loads::clean(), &[0, 1]);
-    print_row(
-        "a byte of a million clean ones, slots between",
-        &bytes(&clean),
-    );
-    let long = checked(loads::clean_and_long(), &[0, 1]);
-    print_row(
-        "a byte of a million clean ones in long packets, slots between",
-        &bytes(&long),
-    );
-    let dirty = checked(loads::dirty(), &[0, 1, 2, 3, 4, 5, 6, 7]);
-    print_row(
-        "a byte of a million damaged ones, slots between",
-        &bytes(&dirty),
-    );
+    let loads = [
+        ("clean ones", checked(loads::clean(), &[0, 1])),
+        (
+            "clean ones in long packets",
+            checked(loads::clean_and_long(), &[0, 1]),
+        ),
+        (
+            "damaged ones",
+            checked(loads::dirty(), &[0, 1, 2, 3, 4, 5, 6, 7]),
+        ),
+    ];
+    for (what, load) in &loads {
+        print_row(
+            &format!("a byte of a million {}, slots between", what),
+            &bytes::<Bytes>(load),
+        );
+    }
+    for (what, load) in &loads {
+        print_row(
+            &format!("a byte of a million {} by slices, slots between", what),
+            &bytes::<Slices>(load),
+        );
+    }
 }
 
 /// The rows of the bytes that end a command, with the extension that the address is set in before.
@@ -189,10 +210,24 @@ fn slots() {
     }
 }
 
-fn main() {
+/// All rows beside the plain slave.
+fn beside() {
     received();
     commands();
     allocations();
     events();
     slots();
+}
+
+fn main() {
+    let words: Vec<String> = std::env::args().skip(1).collect();
+    match words.iter().map(String::as_str).collect::<Vec<_>>()[..] {
+        [] => beside(),
+        ["guns"] => guns::rows(),
+        ["replay", log, program, ref rest @ ..] => replay::row(log, program, rest),
+        _ => {
+            eprintln!("usage: bench [guns | replay LOG WORDS...]");
+            std::process::exit(2);
+        }
+    }
 }

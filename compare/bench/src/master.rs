@@ -50,6 +50,8 @@ impl Shape {
 pub struct Load {
     pub bytes: Vec<u8>,
     pub slots: Vec<usize>,
+    /// Of these slots the ones in which an answer waits, each right behind the last byte before it whose number is not 0.
+    pub answers: Vec<usize>,
 }
 
 pub struct Master<S: Subject> {
@@ -57,6 +59,8 @@ pub struct Master<S: Subject> {
     pub memories: Memories,
     pub load: Load,
     ctr: u8,
+    /// The place behind the last byte whose number was not 0.
+    heard: usize,
 }
 
 impl<S: Subject> Master<S> {
@@ -66,6 +70,7 @@ impl<S: Subject> Master<S> {
             memories: Memories::new(),
             load: Load::default(),
             ctr: 0,
+            heard: 0,
         }
     }
 
@@ -89,9 +94,12 @@ impl<S: Subject> Master<S> {
     /// Sends bytes as they are.
     pub fn wire(&mut self, bytes: &[u8]) {
         for byte in bytes {
-            self.slave.byte(&mut self.memories, *byte);
+            let result = self.slave.byte(&mut self.memories, *byte);
+            self.load.bytes.push(*byte);
+            if S::number(result) != 0 {
+                self.heard = self.load.bytes.len();
+            }
         }
-        self.load.bytes.extend_from_slice(bytes);
     }
 
     /// One slot; the packet that it sent, or nothing.
@@ -99,6 +107,9 @@ impl<S: Subject> Master<S> {
         let mut out = [0; ROOM];
         let size = self.slave.slot(&mut out) as usize & 0xFFFF;
         self.load.slots.push(self.load.bytes.len());
+        if size > 0 {
+            self.load.answers.push(self.heard);
+        }
         let mut message = Vec::new();
         let mut rest = out[..size].iter().skip(1);
         while let Some(byte) = rest.next() {

@@ -23,9 +23,11 @@ impl Memories {
     }
 }
 
-pub trait Subject: Clone {
+pub trait Subject: Clone + Send {
     fn power_up(start: u32) -> Self;
     fn byte(&mut self, memories: &mut Memories, byte: u8) -> u32;
+    /// A slice: the paper's number, and how many bytes it took.
+    fn slice(&mut self, memories: &mut Memories, bytes: &[u8]) -> (u32, usize);
     fn event(&mut self, memories: &Memories, event: u32, clock: u16) -> u32;
     fn slot(&mut self, out: &mut [u8]) -> u32;
     /// The paper's number in what `byte` has returned.
@@ -49,6 +51,12 @@ impl Subject for Proved {
     }
 
     #[inline(always)]
+    fn slice(&mut self, memories: &mut Memories, bytes: &[u8]) -> (u32, usize) {
+        let took = ffi::receive(&mut self.0, &mut memories.cal, &memories.meas, bytes);
+        (took as u32 >> 16, (took >> 32) as usize)
+    }
+
+    #[inline(always)]
     fn event(&mut self, memories: &Memories, event: u32, clock: u16) -> u32 {
         ffi::event(&mut self.0, &memories.cal, &memories.meas, event, clock)
     }
@@ -63,7 +71,7 @@ impl Subject for Proved {
     }
 }
 
-/// The plain slave: each byte is a call, or the loop over the bytes has its reader inside.
+/// The plain slave: each byte or slice is a call, or the host's loop has the slave's reader inside.
 #[derive(Clone)]
 pub struct Plain<const INLINED: bool>(Slave);
 
@@ -82,6 +90,16 @@ impl<const INLINED: bool> Subject for Plain<INLINED> {
                 .receive_byte_inlined(&mut memories.cal, &memories.meas, byte)
         } else {
             self.0.receive_byte(&mut memories.cal, &memories.meas, byte)
+        }
+    }
+
+    #[inline(always)]
+    fn slice(&mut self, memories: &mut Memories, bytes: &[u8]) -> (u32, usize) {
+        if INLINED {
+            self.0
+                .receive_inlined(&mut memories.cal, &memories.meas, bytes)
+        } else {
+            self.0.receive(&mut memories.cal, &memories.meas, bytes)
         }
     }
 
