@@ -10,11 +10,14 @@ pub const UNTOUCHED: u8 = 0xEE;
 #[derive(Clone, Debug, Default, PartialEq, Eq)]
 pub struct Effect {
     pub result: u32,
+    /// Of a slice: how many of its bytes were taken.
+    pub taken: u32,
     /// The room up to the last byte that the call changed.
     pub wrote: Vec<u8>,
     pub cal: Change,
     pub meas: Change,
-    /// A byte beside what was lent has changed, or the state in a call that was refused.
+    /// A byte beside what was lent has changed, or the state in a call that was refused; or a slice did
+    /// other than its bytes one by one.
     pub strayed: bool,
 }
 
@@ -80,6 +83,9 @@ impl Effect {
             self.result >> 16,
             self.result & 0xFFFF
         );
+        if self.taken > 0 {
+            words += &format!(", took {}", self.taken);
+        }
         if !self.wrote.is_empty() {
             words += &format!(", wrote {}", hex(&self.wrote));
         }

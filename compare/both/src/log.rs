@@ -94,7 +94,7 @@ pub fn print(proved: &mut dyn Proved, steps: &[Step], words: &str) {
 fn print_steps(steps: &[Step]) {
     let mut lent = (STATE, REPLAYED, REPLAYED);
     let mut wire = Vec::new();
-    for step in steps {
+    for (step, effect) in steps.iter().zip(expected(steps)) {
         let now = (step.state, step.cal, step.meas);
         let on_wire = matches!(step.call, Call::Byte(_));
         if !on_wire || now != lent || wire.len() == MOST {
@@ -109,10 +109,22 @@ fn print_steps(steps: &[Step]) {
         }
         match &step.call {
             Call::Byte(byte) => wire.push(*byte),
+            Call::Slice(bytes) => print_slice(bytes, effect.taken as usize),
             other => println!("{}", words(other)),
         }
     }
     flush(&mut wire);
+}
+
+/// Prints a slice: what is taken of it as records, so that the replay program takes the same bytes.
+fn print_slice(bytes: &[u8], taken: usize) {
+    println!("# in one slice of {} bytes:", bytes.len());
+    for part in bytes[..taken].chunks(MOST) {
+        println!("{}", record(1, part));
+    }
+    if taken < bytes.len() {
+        println!("# and behind these, not taken: {}", hex(&bytes[taken..]));
+    }
 }
 
 /// Prints the wire bytes gathered so far as one record.
@@ -129,6 +141,7 @@ fn words(call: &Call) -> String {
         Call::PowerUp(1) => "# power-up".to_string(),
         Call::PowerUp(start) => format!("# power-up with start number {:08X}", start),
         Call::Byte(byte) => record(1, &[*byte]),
+        Call::Slice(bytes) => record(1, bytes),
         Call::Event(event, clock) if *event < 256 => {
             let clock = clock.to_le_bytes();
             record(2, &[*event as u8, clock[0], clock[1]])

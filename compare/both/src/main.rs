@@ -6,6 +6,7 @@
 #![forbid(unsafe_code)]
 
 mod built;
+mod cuts;
 mod dice;
 mod effect;
 mod lent;

@@ -97,7 +97,7 @@ impl Proved for Piped {
         for step in steps {
             match step.call {
                 Call::Measure(..) => effects.push(Effect::default()),
-                _ => match decode(&mut rest) {
+                _ => match decode(&step.call, &mut rest) {
                     Some(effect) => effects.push(effect),
                     None => {
                         self.end();
@@ -126,6 +126,11 @@ fn encode(step: &Step, to: &mut Vec<u8>) {
             kind(1);
             to.push(*byte);
         }
+        Call::Slice(bytes) => {
+            kind(5);
+            to.extend_from_slice(&(bytes.len() as u16).to_le_bytes());
+            to.extend_from_slice(bytes);
+        }
         Call::Event(event, clock) => {
             kind(2);
             to.extend_from_slice(&event.to_le_bytes());
@@ -144,10 +149,14 @@ fn encode(step: &Step, to: &mut Vec<u8>) {
     }
 }
 
-/// Takes one effect off the reply; none if it is not there whole.
-fn decode(rest: &mut &[u8]) -> Option<Effect> {
+/// Takes one effect of this call off the reply; none if it is not there whole.
+fn decode(call: &Call, rest: &mut &[u8]) -> Option<Effect> {
     Some(Effect {
         result: take_number(rest, 4)? as u32,
+        taken: match call {
+            Call::Slice(_) => take_number(rest, 4)? as u32,
+            _ => 0,
+        },
         strayed: take_number(rest, 1)? != 0,
         wrote: {
             let count = take_number(rest, 1)?;

@@ -54,7 +54,8 @@ fn turn(rig: &mut Rig) {
             rig.slot(room);
         }
         33 => damaged(rig),
-        34 => noise(rig),
+        34 if rig.dice.once_in(2) => noise(rig),
+        34 => burst(rig),
         35 => open(rig),
         36 | 37 => measure(rig),
         38 => rig.wrong_size(),
@@ -354,6 +355,7 @@ fn damaged(rig: &mut Rig) {
 
 fn noise(rig: &mut Rig) {
     let plain = rig.dice.once_in(2);
+    let mut bytes = Vec::new();
     for _ in 0..rig.dice.below(30) {
         let byte = if plain {
             rig.dice.any_byte()
@@ -362,6 +364,14 @@ fn noise(rig: &mut Rig) {
             rig.dice
                 .one_of(&[SYNC, ESC, 0, 1, 1, 2, 64, 65, 0xFC, 0xFD, 0xFF])
         };
-        rig.byte(byte);
+        bytes.push(byte);
     }
+    rig.wire(&bytes);
+}
+
+/// Commands that have come in one ring buffer: each is answered before the rest is handed on, or not.
+fn burst(rig: &mut Rig) {
+    let packets: Vec<_> = (0..2 + rig.dice.below(3)).map(|_| command(rig)).collect();
+    let answered = !rig.dice.once_in(4);
+    rig.burst(&packets, answered);
 }

@@ -34,14 +34,15 @@ impl Reference {
         }
         let powers_up = matches!(step.call, Call::PowerUp(_));
         let mut room = [UNTOUCHED; ROOM];
-        let result = if step.state != STATE || !(self.powered || powers_up) {
-            NO_STATE
+        let (result, taken) = if step.state != STATE || !(self.powered || powers_up) {
+            (NO_STATE, 0)
         } else {
             self.powered = true;
             self.call(step, &mut room)
         };
         Effect {
             result,
+            taken,
             wrote: written(&room),
             cal: self.cal.change(),
             meas: self.meas.change(),
@@ -49,10 +50,14 @@ impl Reference {
         }
     }
 
-    /// What the plain slave makes of it, in the form that C gets.
-    fn call(&mut self, step: &Step, room: &mut [u8; ROOM]) -> u32 {
+    /// What the plain slave makes of it, in the form that C gets, and how many bytes of a slice it took.
+    fn call(&mut self, step: &Step, room: &mut [u8; ROOM]) -> (u32, u32) {
         let (cal, meas) = (&mut self.cal.now[..step.cal], &self.meas.now[..step.meas]);
-        match &step.call {
+        let result = match &step.call {
+            Call::Slice(bytes) => {
+                let (number, taken) = self.slave.receive(cal, meas, bytes);
+                return (65_536 * number, taken as u32);
+            }
             Call::PowerUp(start) => {
                 self.slave = Slave::power_up(*start);
                 0
@@ -61,7 +66,8 @@ impl Reference {
             Call::Event(event, clock) => self.slave.event(cal, meas, *event, *clock),
             Call::Slot(len) => self.slave.slot(&mut room[..*len]),
             Call::Measure(..) => 0,
-        }
+        };
+        (result, 0)
     }
 }
 

@@ -1,5 +1,6 @@
 //! Makes calls to the pair and keeps the log of them.
 
+use crate::cuts::{self, Handed};
 use crate::dice::Dice;
 use crate::effect::Effect;
 use crate::lent::{LENGTHS, ROOMS, WRONG_SIZES};
@@ -78,6 +79,8 @@ impl Rig {
         self.lend(4096, 4096);
         if vary {
             self.call(Call::Byte(wire::SYNC));
+            self.call(Call::Slice(vec![wire::SYNC]));
+            self.call(Call::Slice(Vec::new()));
             self.call(Call::Event(2, 0));
             self.call(Call::Slot(0));
         }
@@ -145,9 +148,40 @@ impl Rig {
         self.call(Call::Byte(byte)).result >> 16
     }
 
-    /// All bytes; the number of the last.
+    /// A slice: its number, and how many bytes it took.
+    pub fn slice(&mut self, bytes: &[u8]) -> (u32, usize) {
+        let effect = self.call(Call::Slice(bytes.to_vec()));
+        (effect.result >> 16, effect.taken as usize)
+    }
+
+    /// All bytes, handed over one by one or in slices as chance has it; the number of the last.
     pub fn wire(&mut self, bytes: &[u8]) -> u32 {
-        bytes.iter().fold(0, |_, byte| self.byte(*byte))
+        let cuts = cuts::by_chance(&mut self.dice, bytes.len());
+        let (mut number, mut at) = (0, 0);
+        for (handed, end) in cuts {
+            number = match handed {
+                Handed::OneByOne => bytes[at..end].iter().fold(number, |_, b| self.byte(*b)),
+                Handed::Sliced => self.slices(&bytes[at..end]).unwrap_or(number),
+            };
+            at = end;
+        }
+        number
+    }
+
+    /// These bytes in a slice, which is handed on behind what was taken until all are: the number of the last byte.
+    pub fn slices(&mut self, bytes: &[u8]) -> Option<u32> {
+        let (mut last, mut at) = (None, 0);
+        loop {
+            let (number, taken) = self.slice(&bytes[at..]);
+            // None is taken of no bytes, and none by slaves to which no more calls are made.
+            if taken > 0 {
+                last = Some(number);
+            }
+            at += taken;
+            if taken == 0 || at == bytes.len() {
+                return last;
+            }
+        }
     }
 
     /// A whole message; the number of its last byte.
@@ -155,10 +189,15 @@ impl Rig {
         let ctr = self.dice.byte();
         let number = self.wire(&wire::frame(ctr, packet));
         if number == 1 {
-            let lent = self.reference.lent(self.cal, self.meas);
-            self.seen.taken(packet, lent);
+            self.taken(packet);
         }
         number
+    }
+
+    /// The command that was taken last is this one.
+    pub fn taken(&mut self, packet: &[u8]) {
+        let lent = self.reference.lent(self.cal, self.meas);
+        self.seen.taken(packet, lent);
     }
 
     pub fn event(&mut self, event: u32, clock: u16) {
@@ -206,9 +245,10 @@ impl Rig {
     /// A call with a state of the wrong size, which only the proved slave can be given.
     pub fn wrong_size(&mut self) {
         let size = self.dice.one_of(&WRONG_SIZES);
-        let call = match self.dice.below(4) {
+        let call = match self.dice.below(5) {
             0 => Call::PowerUp(self.dice.number()),
             1 => Call::Byte(self.dice.byte()),
+            3 => Call::Slice(vec![wire::SYNC; self.dice.below(3)]),
             // 10 comes before 8 and 9.
             2 => Call::Event(self.dice.below(3) as u32, self.dice.number() as u16),
             _ => Call::Slot(self.dice.one_of(&ROOMS)),

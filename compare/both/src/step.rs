@@ -7,6 +7,8 @@ pub const MEMORY: usize = 5000;
 pub enum Call {
     PowerUp(u32),
     Byte(u8),
+    /// A slice of received bytes in one call.
+    Slice(Vec<u8>),
     Event(u32, u16),
     /// A slot with that much room.
     Slot(usize),

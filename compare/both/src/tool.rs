@@ -4,7 +4,7 @@ use crate::packet::{
     alloc_entries, alloc_lists, alloc_odts, key, unlock_packet, with_address, CALIBRATION, LISTS,
 };
 use crate::rig::Rig;
-use crate::wire::FRAME;
+use crate::wire::{frame, FRAME};
 
 /// Lists for most of what lists do, by the entries of each ODT: four of two ODTs of sixteen entries.
 pub const FOUR: [[u8; 2]; 4] = [[16, 16]; 4];
@@ -30,6 +30,27 @@ impl Rig {
         let seed = self.seed(resource).unwrap_or(0);
         let bit = self.dice.below(32);
         self.ask(&unlock_packet(key(resource, seed) ^ 1 << bit));
+    }
+
+    /// Several commands in one slice, which is handed on behind what was taken, after a slot if they are to be answered.
+    pub fn burst(&mut self, packets: &[Vec<u8>], answered: bool) {
+        let (mut wire, mut ends) = (Vec::new(), Vec::new());
+        for packet in packets {
+            wire.extend(frame(self.dice.byte(), packet));
+            ends.push(wire.len());
+        }
+        let mut at = 0;
+        while at < wire.len() && !self.over() {
+            let (number, taken) = self.slice(&wire[at..]);
+            at += taken;
+            let ended = ends.iter().position(|end| *end == at);
+            if let (1, Some(which)) = (number, ended) {
+                self.taken(&packets[which]);
+            }
+            if answered {
+                self.slot(FRAME);
+            }
+        }
     }
 
     pub fn connect(&mut self) {

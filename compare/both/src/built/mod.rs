@@ -7,6 +7,7 @@ mod lists;
 mod session;
 mod shapes;
 mod sizes;
+mod slices;
 mod wire;
 mod wrong_keys;
 
@@ -22,6 +23,7 @@ pub fn run(rig: &mut Rig) {
     shapes::run(rig);
     allocation::run(rig);
     wire::run(rig);
+    slices::run(rig);
     commands::run(rig);
 }
 

@@ -9,6 +9,7 @@ mod past;
 mod pool;
 mod samples;
 mod setup;
+mod slices;
 
 use crate::effect::Effect;
 use crate::lent::{LENGTHS, ROOMS, WRONG_SIZES};
@@ -22,6 +23,7 @@ use past::{Asked, Past};
 use pool::Pool;
 use samples::Samples;
 use setup::{Emptied, Setup};
+use slices::Slices;
 
 /// A LEN that is refused.
 const BAD_LENS: [u8; 4] = [0, 65, 128, 255];
@@ -45,6 +47,8 @@ pub struct Seen {
     /// The command whose answer waits, where it is known.
     asked: Option<Asked>,
     byte: [u64; 11],
+    slice: [u64; 11],
+    slices: Slices,
     bad_len: [u64; BAD_LENS.len()],
     event: [u64; 11],
     slot: [u64; 11],
@@ -82,6 +86,7 @@ impl Seen {
             Call::Measure(..) => return,
             Call::PowerUp(_) => self.power_up[number] += 1,
             Call::Byte(_) => self.byte[number] += 1,
+            Call::Slice(_) => self.slice[number] += 1,
             Call::Event(..) => self.event[number] += 1,
             Call::Slot(room) => {
                 self.slot[number] += 1;
@@ -90,6 +95,7 @@ impl Seen {
                 }
             }
         }
+        self.slices.call(&step.call, number, effect.taken as usize);
         match (&step.call, number) {
             (call, 10) => {
                 match WRONG_SIZES.iter().position(|size| *size == step.state) {
@@ -106,13 +112,10 @@ impl Seen {
                 self.keys.power_up();
                 self.setup.end(Emptied::PoweredUp);
             }
-            (Call::Byte(len), 3) => {
-                if let Some(at) = BAD_LENS.iter().position(|l| l == len) {
-                    self.bad_len[at] += 1;
-                }
-            }
+            (Call::Byte(len), 3) => self.refused_len(*len),
+            (Call::Slice(bytes), 3) => self.refused_len(bytes[effect.taken as usize - 1]),
             // Which command that was is known only where a whole packet was sent.
-            (Call::Byte(_), 1) => self.asked = None,
+            (Call::Byte(_) | Call::Slice(_), 1) => self.asked = None,
             (Call::Event(event, _), 0) => {
                 self.samples
                     .event(&mut self.setup, *event, effect.result as usize);
@@ -120,6 +123,12 @@ impl Seen {
             }
             (Call::Slot(_), 0) => self.no_frame += u64::from(effect.result == 0),
             _ => {}
+        }
+    }
+
+    fn refused_len(&mut self, len: u8) {
+        if let Some(at) = BAD_LENS.iter().position(|l| *l == len) {
+            self.bad_len[at] += 1;
         }
     }
 
@@ -265,6 +274,12 @@ impl Seen {
                 "Numbers of a received byte",
                 numbers(&self.byte, &[0, 1, 2, 3, 4, 5, 6, 7, 10]),
             ),
+            (
+                "Numbers of a slice",
+                numbers(&self.slice, &[0, 1, 2, 3, 4, 5, 6, 7, 10]),
+            ),
+            ("Slices ended by a number", self.slices.ends()),
+            ("Slices", self.slices.cells()),
             ("LEN refused", named(&BAD_LENS, &self.bad_len)),
             ("Numbers of an event", numbers(&self.event, &[0, 8, 10])),
             ("Lists that sampled and that missed", self.samples.counts()),
