@@ -4,7 +4,7 @@ help:
 	@echo 'make run             the slave at work: a controller with it inside, and a tool at its line'
 	@echo 'make controller      an archive for a controller: CPU=cortex-m4 (or -m0, -m0+, -m3, -m7, -m33; riscv32) OPT=-Os UNALIGNED=yes'
 	@echo 'make run-controller  the same work by a Cortex-M4, in an emulator'
-	@echo 'make bench           times beside a plain slave in Rust, sizes, stack; instructions and cycles on a Cortex-M4'
+	@echo 'make bench           times beside a plain slave in Rust, many guns, replay, sizes, stack; instructions and cycles on a Cortex-M4'
 	@echo 'make test            the gate: layout, proofs, must-fail edits, programs, host tests'
 	@echo 'make install         header, archive and a pkg-config file: PREFIX=/usr/local; with CPU= for a controller, beside others'
 	@echo 'make clean           removes all that was built, the proofs too'
