@@ -34,6 +34,9 @@ const INSIDE: usize = 0;
 const NOT_INSIDE: usize = 1;
 const SAMPLED: usize = 2;
 
+/// A name, and what must have come by its own name, with its count.
+type Group = (&'static str, Vec<(String, u64)>);
+
 #[derive(Default)]
 pub struct Seen {
     answers: Answers,
@@ -81,20 +84,11 @@ impl Seen {
     }
 
     pub fn call(&mut self, step: &Step, effect: &Effect) {
-        let number = (effect.result >> 16) as usize;
-        match &step.call {
-            Call::Measure(..) => return,
-            Call::PowerUp(_) => self.power_up[number] += 1,
-            Call::Byte(_) => self.byte[number] += 1,
-            Call::Slice(_) => self.slice[number] += 1,
-            Call::Event(..) => self.event[number] += 1,
-            Call::Slot(room) => {
-                self.slot[number] += 1;
-                if let Some(at) = ROOMS.iter().position(|r| r == room) {
-                    self.room[at] += 1;
-                }
-            }
+        if let Call::Measure(..) = step.call {
+            return;
         }
+        let number = (effect.result >> 16) as usize;
+        self.number(&step.call, number);
         self.slices.call(&step.call, number, effect.taken as usize);
         match (&step.call, number) {
             (call, 10) => {
@@ -123,6 +117,23 @@ impl Seen {
             }
             (Call::Slot(_), 0) => self.no_frame += u64::from(effect.result == 0),
             _ => {}
+        }
+    }
+
+    /// The number of a call.
+    fn number(&mut self, call: &Call, number: usize) {
+        match call {
+            Call::Measure(..) => {}
+            Call::PowerUp(_) => self.power_up[number] += 1,
+            Call::Byte(_) => self.byte[number] += 1,
+            Call::Slice(_) => self.slice[number] += 1,
+            Call::Event(..) => self.event[number] += 1,
+            Call::Slot(room) => {
+                self.slot[number] += 1;
+                if let Some(at) = ROOMS.iter().position(|r| r == room) {
+                    self.room[at] += 1;
+                }
+            }
         }
     }
 
@@ -264,23 +275,22 @@ impl Seen {
         blocks
     }
 
-    /// Everything else that must be covered, by name.
-    fn groups(&self) -> Vec<(&'static str, Vec<(String, u64)>)> {
-        let numbers = |all: &[u64; 11], which: &[usize]| -> Vec<(String, u64)> {
-            which.iter().map(|n| (n.to_string(), all[*n])).collect()
-        };
-        let mut groups = vec![
-            (
-                "Numbers of a received byte",
-                numbers(&self.byte, &[0, 1, 2, 3, 4, 5, 6, 7, 10]),
-            ),
-            (
-                "Numbers of a slice",
-                numbers(&self.slice, &[0, 1, 2, 3, 4, 5, 6, 7, 10]),
-            ),
+    /// What was received, by bytes and by slices.
+    fn received(&self) -> Vec<Group> {
+        let which = [0, 1, 2, 3, 4, 5, 6, 7, 10];
+        vec![
+            ("Numbers of a received byte", numbers(&self.byte, &which)),
+            ("Numbers of a slice", numbers(&self.slice, &which)),
             ("Slices ended by a number", self.slices.ends()),
             ("Slices", self.slices.cells()),
             ("LEN refused", named(&BAD_LENS, &self.bad_len)),
+        ]
+    }
+
+    /// Everything else that must be covered, by name.
+    fn groups(&self) -> Vec<Group> {
+        let mut groups = self.received();
+        groups.extend(vec![
             ("Numbers of an event", numbers(&self.event, &[0, 8, 10])),
             ("Lists that sampled and that missed", self.samples.counts()),
             ("Packets of a sample sent whole", self.samples.packets()),
@@ -304,10 +314,15 @@ impl Seen {
                 "Calls before any power-up",
                 vec![("refused".to_string(), self.never_powered)],
             ),
-        ];
+        ]);
         groups.extend(self.pool.groups());
         groups
     }
+}
+
+/// The counts of these numbers.
+fn numbers(all: &[u64; 11], which: &[usize]) -> Vec<(String, u64)> {
+    which.iter().map(|n| (n.to_string(), all[*n])).collect()
 }
 
 /// The number at byte 4.
