@@ -14,6 +14,7 @@ use Rattle.demands.proofs.ListsLocked.{lists-locked}
 use Rattle.demands.proofs.Conserved.{nothing-lost}
 use Rattle.demands.proofs.Pool.{whole-pool}
 use Rattle.demands.proofs.StaysShut.{stays-shut}
+use Rattle.demands.proofs.Slices.{takes-slices}
 use Rattle.demands.proofs.Shows.{ours-shows}
 use Rattle.demands.proofs.NoChoice.{only-ours}
 
@@ -39,6 +40,7 @@ letter = record {
   request9 = whole-pool;
   request9Next = demand3 .next;
   request10 = stays-shut;
+  request12 = takes-slices;
 }
 
 -- whatever stands of ours stands of every slave that meets the first two demands

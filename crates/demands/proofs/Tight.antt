@@ -18,6 +18,7 @@ use Rattle.line.proofs.Outcome.number.Reads as outcome-number
 use Rattle.line.proofs.Written.number.Reads as written-number
 use Rattle.session.proofs.power_up.Reads as power-up
 use Rattle.session.proofs.receive_byte.Reads as receive-byte
+use Rattle.session.proofs.receive_bytes.Reads as receive-bytes
 use Rattle.session.proofs.event.Reads as event
 use Rattle.session.proofs.slot.Reads as slot
 use Rattle.session.proofs.state_size.Reads as state-size
@@ -29,6 +30,7 @@ use Rattle.state.proofs.Generator.new.Reads as generator-new
 use Rattle.state.proofs.Generator.next.Reads as generator-next
 use Rattle.slave.proofs.xcp_power_up.Reads as xcp-power-up
 use Rattle.slave.proofs.xcp_receive_byte.Reads as xcp-receive-byte
+use Rattle.slave.proofs.xcp_receive.Reads as xcp-receive
 use Rattle.slave.proofs.xcp_event.Reads as xcp-event
 use Rattle.slave.proofs.xcp_slot.Reads as xcp-slot
 use Rattle.slave.proofs.xcp_state_size.Reads as xcp-state-size
@@ -69,6 +71,10 @@ power-up-tight l a r r′ e e′ h h′ i = (same (h .result) (h′ .result) i, 
 pub receive-byte-tight : TightCall {O = Received × List ℕ × List ℕ} receive-byte.Post (λ l r e. (r, now (e .0), now (e .1 .0)))
 receive-byte-tight l a r r′ e e′ h h′ i = (same (h .result) (h′ .result) i, same (h .state) (h′ .state) i, same (h .memory) (h′ .memory) i)
 
+pub receive-bytes-tight : TightCall {O = Received × ℕ × List ℕ × List ℕ} receive-bytes.Post (λ l r e. (r .received, r .taken, now (e .0), now (e .1 .0)))
+receive-bytes-tight l a r r′ e e′ h h′ i =
+    (same (h .result) (h′ .result) i, same (h .taken) (h′ .taken) i, same (h .state) (h′ .state) i, same (h .memory) (h′ .memory) i)
+
 pub event-tight : TightCall {O = Evented × List ℕ} event.Post (λ l r e. (r, now (e .0)))
 event-tight l a r r′ e e′ h h′ i = (same (h .result) (h′ .result) i, same (h .state) (h′ .state) i)
 
@@ -102,6 +108,9 @@ xcp-power-up-tight l a r r′ e e′ h h′ i = (same (h .result) (h′ .result)
 
 pub xcp-receive-byte-tight : TightCall {O = ℕ × List ℕ × List ℕ} xcp-receive-byte.Post (λ l r e. (r, now (e .0), now (e .1 .0)))
 xcp-receive-byte-tight l a r r′ e e′ h h′ i = (same (h .result) (h′ .result) i, same (h .state) (h′ .state) i, same (h .memory) (h′ .memory) i)
+
+pub xcp-receive-tight : TightCall {O = ℕ × List ℕ × List ℕ} xcp-receive.Post (λ l r e. (r, now (e .0), now (e .1 .0)))
+xcp-receive-tight l a r r′ e e′ h h′ i = (same (h .result) (h′ .result) i, same (h .state) (h′ .state) i, same (h .memory) (h′ .memory) i)
 
 pub xcp-event-tight : TightCall {O = ℕ × List ℕ} xcp-event.Post (λ l r e. (r, now (e .0)))
 xcp-event-tight l a r r′ e e′ h h′ i = (same (h .result) (h′ .result) i, same (h .state) (h′ .state) i)

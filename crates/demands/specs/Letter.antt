@@ -17,6 +17,7 @@ use Rattle.demands.specs.Memory.{Memory}
 use Rattle.demands.specs.Demand3.{AnsweredBy, NextBy, SampledBy}
 use Rattle.demands.specs.Pool.{WholePool}
 use Rattle.demands.specs.Kept.{NothingLost}
+use Rattle.demands.specs.Slices.{TakesSlices}
 
 pub record Letter (v : AnySlave) : Type 0 where
   -- 1. "Any bytes, at any moment, with any lent memory, get a defined outcome and never a fault. No entry point leans on its caller."
@@ -56,3 +57,5 @@ pub record Letter (v : AnySlave) : Type 0 where
   pub request9Next : NextBy (λ L. 2 * L) v
   -- request 10: three wrong keys and it stays shut
   pub request10 : StaysShut v
+  -- request 12: keep up with the fast wire; bytes are taken by slices, and each slice is the byte call repeated
+  pub request12 : TakesSlices v

@@ -1,4 +1,4 @@
--- The customer's letter, of any slave. `Slave`: what a slave is; `Runs`: calls in any order; `Life`: power-ups among them, and one memory. `Waiting`: what
+-- The customer's letter, of any slave. `Slave`: what a slave is; `Runs`: calls in any order; `Life`: power-ups among them, and one memory; `Slices`: many bytes at once. `Waiting`: what
 -- waits, and what a sample is; `Heard`: what a received byte means; `Between`: what may come between two commands. `Letter`: the letter at a glance, a part for each sentence. Its parts: `Outcomes`,
 -- `CallNumbers`, `Checked` and `Refusals` of the first demand; `Obeyed` and `Shows`, `Memory`, `Keys`, `ListsLocked`, `Wire` and `CalibrationLocked` of the
 -- second; `Kept`: that nothing is lost and nothing invented; `Pool`: that the whole pool can be had; `StaysShut`: what three wrong keys come to. `Demand1`,
@@ -7,6 +7,7 @@
 pub mod Slave
 pub mod Runs
 pub mod Life
+pub mod Slices
 pub mod Waiting
 pub mod Heard
 pub mod Between

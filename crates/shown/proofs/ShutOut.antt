@@ -27,7 +27,7 @@ use Rattle.model.specs.Calls.{turnIn, packetFor}
 use Rattle.model.specs.Model.{byte, hasAnswer}
 use Rattle.model.specs.View.{sessionOf, viewOf}
 use Rattle.views.specs.Commands.{Part, TheGenerator, TheWrongKeys, Whether-open, TheLocks, TheSeed, TheMta, ThePointer, Whether-freed, HowManyLists, TheRound, TheLists, Obeys}
-use Rattle.demands.specs.Slave.{AnySlave}
+use Rattle.demands.specs.Slave.{AnySlave, ours}
 use Rattle.demands.specs.Runs.{Byte, Event, SendingSlot}
 use Rattle.demands.specs.Heard.{packetEnded}
 use Rattle.demands.specs.Demand1.{Demand1}
@@ -41,7 +41,9 @@ use Rattle.views.specs.OnTheLine.{comesTo}
 use Rattle.demands.specs.CallNumbers.{CallNumbers}
 use Rattle.demands.specs.Shows.{Shows}
 use Rattle.demands.specs.StaysShut.{StaysShut}
-use Rattle.shown.specs.Wrong.{refusesAlways, silent, onlyConnects, alwaysFF, storesNothing, obeysDamaged, readsEscaped, allAtOnce, slotsUpTo, sumsEscaped, neverSamples, inventsCounts, inventsMissed, stampsEach, keepsFreed, beginsBehind, movesAfterRefusal, leavesMta, loadLeavesMta, loadsAtMta, readsLate, opensBoth, connectClears, shutsFirst}
+use Rattle.demands.specs.Slices.{BySlices}
+use Rattle.session.specs.Slice.{receiveBytesOf}
+use Rattle.shown.specs.Wrong.{refusesAlways, silent, onlyConnects, alwaysFF, storesNothing, obeysDamaged, readsEscaped, allAtOnce, slotsUpTo, sumsEscaped, neverSamples, inventsCounts, inventsMissed, stampsEach, keepsFreed, beginsBehind, movesAfterRefusal, leavesMta, loadLeavesMta, loadsAtMta, readsLate, opensBoth, connectClears, shutsFirst, dropsBehind}
 use Rattle.shown.specs.Exchange.{slot, says, asks, askAll, begun, lastByte, device, answering, reached, connect, synch, seedOfCalibration, keyOfCalibration, tries, mtaTo, upload, uploadFirst, downloadOne, downloadFirst, downloading, uploading, pair, loadingFirst, fetchingFirst, readingOn, listable, freeLists, allocLists, allocEntries, measuring, freedAgain}
 use Rattle.shown.proofs.Computed.{computed, told}
 use Rattle.shown.proofs.Taken.{low, asked, heardSo, done-so, refused-so, took, takenSo, left, taken-so}
@@ -305,3 +307,10 @@ unfolding computed told asked heardSo
 shutsFirst-fails d =
     let s : List ℕ = reached shutsFirst (askAll [] [] (tries 3 ++ connect ∷ []) ++ begun [] [] (0xF8 ∷ [])) in
     let e : _≡_ {A = ℕ} 0x25 0x21 = ap (λ a. getD a 1 0) (refused-so shutsFirst s [] (0xF8 ∷ []) (some 0x21) (0xFE ∷ 0x25 ∷ []) refl 0x21 refl d) in omega arith
+
+-- ---- slices
+-- CONNECT and a byte behind it are lent: seven bytes count as taken, and the byte call ended the command with the sixth
+pub dropsBehind-fails : BySlices ours dropsBehind → ⊥
+unfolding computed receiveBytesOf
+dropsBehind-fails d =
+    let e : _≡_ {A = ℕ} 1 0 = ap (λ r. getD (r .numbers) 5 0) (d .same (powered 1) [] [] (0x9A ∷ 2 ∷ 0 ∷ 0xFF ∷ 0 ∷ 1 ∷ 0 ∷ []) refl) in omega arith

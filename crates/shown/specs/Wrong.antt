@@ -21,7 +21,7 @@ use Rattle.lists.specs.Event.{Happened, samplingOf, stored, eventOf}
 use Rattle.model.specs.Calls.{blocksIn, contentsIn, packetFor}
 use Rattle.model.specs.View.{odtOf, viewOf}
 use Rattle.lists.specs.Slot.{Slot, turnOf, slotOf}
-use Rattle.words.specs.Number.{slottedValue}
+use Rattle.words.specs.Number.{receivedNumber, slottedValue}
 use Rattle.session.specs.PowerUp.{powerUpOf}
 use Rattle.model.specs.declared.Deed.the-variants.{Refuse}
 use Rattle.model.specs.declared.Sampling.{Sampling}
@@ -34,7 +34,9 @@ use Rattle.words.specs.declared.Evented.{Evented}
 use Rattle.words.specs.declared.Evented.the-variants.{Done, BadEvent, NoState as EventNoState}
 use Rattle.words.specs.declared.Slotted.{Slotted}
 use Rattle.words.specs.declared.Slotted.the-variants.{Idle, Sent, NoRoom, NoState as SlotNoState}
+use Rattle.session.specs.Slice.{Slice, taking, receiveBytesOf}
 use Rattle.demands.specs.Slave.{AnySlave}
+use Rattle.demands.specs.Slices.{SliceCall}
 use Rattle.demands.specs.Heard.{packetEnded, readBy}
 use Rattle.demands.specs.Waiting.{packetInside}
 
@@ -283,3 +285,11 @@ asksInVain p s = cond (eqb (getD p 0 0) 0xF8) (cond (openOf s) (staysShut (wrong
 
 abbrev pub shutsFirst : AnySlave
 shutsFirst = heeding (λ p s cal meas. cond (asksInVain p s) (obeyed (Refuse Locked) p s cal meas) (heeded p s cal meas))
+
+-- ---- ours, but for the slice call
+-- a slice that took a command counts as taken whole: what came behind that command is lost
+abbrev pub lostBehind : ℕ → Slice → Slice
+lostBehind n o = cond (eqb (receivedNumber (o .received)) 1) (taking (o .received) n (o .state) (o .cal)) o
+
+abbrev pub dropsBehind : SliceCall
+dropsBehind s cal meas bs = lostBehind (length bs) (receiveBytesOf s cal meas bs)
