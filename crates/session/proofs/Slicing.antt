@@ -3,7 +3,7 @@ use mathlib.Core.Path.{_≡_, refl, sym, ap, ap₂, subst, _∙_}
 use mathlib.Core.Logic.{_≢_}
 use mathlib.Core.Bool.{Bool, true, false, cond}
 use mathlib.Core.List.{List, [], _∷_, _++_}
-use Prim.Native.Nat.{ℕ, suc, _+_, _%_, _≤_, _<_}
+use Prim.Native.Nat.{ℕ, zero, suc, _+_, _%_, _≤_, _<_}
 use native.Mathlib.Omega.{arith}
 use borrow.Author.Tests.{lt-ltb, le-ltb, eq-eqb, ne-eqb, ltb-true, ltb-false}
 use lib.Dec.{eqb, ltb}
@@ -20,6 +20,7 @@ use Rattle.line.specs.declared.Outcome.the-variants as line
 use Rattle.line.proofs.Laws.{cond-ind, false-true}
 use Rattle.line.proofs.Begun.{begun-right}
 use Rattle.state.specs.Layout.{placeAt, countAt, messageAt, answerAt, size}
+use Rattle.state.proofs.Ranges.{by-lt}
 use Rattle.state.specs.Bytes.{block}
 use Rattle.state.specs.State.{consistent, setPlace, messageOf, setMessage, waits}
 use Rattle.model.specs.Heed.{Heeding, Dropped, Obeyed, Ignored, heedingIn}
@@ -27,8 +28,8 @@ use Rattle.model.specs.View.{sessionOf}
 use Rattle.session.specs.Receive.{Step, Receives, only, heeded, heededBy, meant, readOn, fedOf, receivedBy}
 use Rattle.session.specs.Slice.{Slice, taking, then, bytesOf, takenMost, receiveBytesOf, ReceivesBytes}
 use Rattle.session.specs.declared.Took.{Took}
-use Rattle.session.specs.Quiet.{ReadsOn, Quiet, ends, placed, lenOf, readsAs, Stands, Steps, from, Leads, Fits, Runs, Turns, Passes}
-use Rattle.session.proofs.Reading.{placeIn, fed, len-there, placed-there, plain-goes, len-stays}
+use Rattle.session.specs.Quiet.{ReadsOn, Quiet, ends, placed, lenOf, readsAs, Stands, from, Leads, Fits, Runs, Skips, Passes}
+use Rattle.session.proofs.Reading.{placeIn, fed, len-there, placed-there, outside-other, plain-goes, len-stays}
 use Rattle.words.specs.Number.{receivedNumber}
 use Rattle.words.specs.declared.Received.{Received}
 use Rattle.words.specs.declared.Received.the-variants.{Nothing, NoState}
@@ -206,23 +207,40 @@ run-next bs s t k i j n b h f short fits r e x y = record {
     g : begunOf ((k + j) + 1) (lenOf t) ≡ true
     g = begun-right byteForm ((k + j) + 1) (lenOf t) (omega (arith, r .len, f .some)) (omega (arith, r .len, f .few)) (omega (arith, r .len, f .short))
 
--- ---- a turn
-pub turn-run : (bs s t : List ℕ) (tag k i n r : ℕ) → Fits s tag k n → 0 < r → r ≤ n → i + n ≤ length bs → Runs bs s k i r t → Turns bs s tag k i 1 (k + r) (i + r) t
-turn-run bs s t tag k i n r f some few fits x = record {
-  left = λ (z : _≡_ {A = ℕ} 1 3). absurd (omega arith);
-  went = λ _. (
-    subst (λ (y : ℕ). Leads bs (placed s y k) i (placed t 1 (k + r)) (i + r)) (sym (f .inside)) (x .leads),
-    record { few = omega arith; begun = λ _. begun-right byteForm (k + r) (lenOf t) (omega (arith, x .len, f .some)) (omega (arith, x .len, f .few)) (omega (arith, x .len, f .short)) },
-    omega arith,
-    omega arith,
-  );
-}
+pub run-leads : (bs s t : List ℕ) (tag k i n r : ℕ) → Stands s tag k → (0 < n → Fits s tag k n) → r ≤ n → Runs bs s k i r t
+    → Leads bs (placed s tag k) i (placed t tag (k + r)) (i + r) × Stands t tag (k + r)
+run-leads bs s t tag k i n zero d f few x =
+    let e : s ≡ t = sym (x .none refl) in
+    let z : k ≡ k + 0 = omega arith in
+    let y : i ≡ i + 0 = omega arith in (
+      λ (cal meas : List ℕ). ap (λ (u : List ℕ). from bs (placed u tag k) i cal meas) e ∙ ap₂ (λ (a b : ℕ). from bs (placed t tag a) b cal meas) z y,
+      subst (λ (a : ℕ). Stands t tag a) z (subst (λ (u : List ℕ). Stands u tag k) e d),
+    )
+run-leads bs s t tag k i n (suc r) d f few x =
+    let g : Fits s tag k n = f (omega arith) in (
+      subst (λ (y : ℕ). Leads bs (placed s y k) i (placed t y (k + suc r)) (i + suc r)) (sym (g .inside)) (x .leads),
+      record { few = d .few; begun = λ _. begun-right byteForm (k + suc r) (lenOf t) (omega (arith, x .len, g .some)) (omega (arith, x .len, g .few)) (omega (arith, x .len, g .short)) },
+    )
 
-pub turn-step : (bs s u t : List ℕ) (tag k i tag′ k′ : ℕ) → u ≡ s → i < length bs → Steps u tag k (getD bs i 0) tag′ k′ t → Turns bs s tag k i tag′ k′ (i + 1) t
-turn-step bs s u t tag k i tag′ k′ e h x = subst (λ (y : List ℕ). Turns bs y tag k i tag′ k′ (i + 1) t) e (record {
-  left = x .left;
-  went = λ (n : tag′ ≢ 3). (leads-one bs (placed u tag k) (placed t tag′ k′) i h (x .went n .0), x .went n .1, omega arith, omega arith);
-})
+-- it stays within the message
+module _ (s : List ℕ) (tag k n r : ℕ) (f : 0 < n → Fits s tag k n) (few : r ≤ n) where
+  pub run-few : r ≤ 66
+  run-few = by-lt 0 n (λ some. omega (arith, f some .short, f some .few)) (λ none. omega arith)
+
+  pub run-sum : k < 256 → k + r < 256
+  run-sum h = by-lt 0 n (λ some. omega (arith, f some .short, f some .few)) (λ none. omega arith)
+
+-- ---- bytes outside a message
+pub skip-none : (bs : List ℕ) (tag i : ℕ) → i ≤ length bs → Skips bs tag i i
+skip-none bs tag i h = record { begun = omega arith; most = h; leads = λ (s : List ℕ) (k : ℕ) _ (cal meas : List ℕ). refl }
+
+pub skip-next : (bs : List ℕ) (i j : ℕ) → j < length bs → Skips bs 0 i j → getD bs j 0 ≢ SYNC → Skips bs 0 i (j + 1)
+skip-next bs i j h x n = record {
+  begun = omega (arith, x .begun);
+  most = omega arith;
+  leads = λ (s : List ℕ) (k : ℕ) (e : length s ≡ size). leads-on bs (placed s 0 k) (placed s 0 k) (placed s 0 k) i j (j + 1) (x .leads s k e)
+      (leads-one bs (placed s 0 k) (placed s 0 k) j h (outside-other s k (getD bs j 0) e n));
+}
 
 -- ---- all bytes before one that ends something
 pub pass-none : (bs s : List ℕ) → length bs ≡ 0 → Passes bs s 0 s

@@ -9,7 +9,7 @@ use lib.ListN.{getD, set, drop, length}
 use Rattle.line.specs.Reader.{begunOf}
 use Rattle.line.specs.declared.Outcome.{Outcome}
 use Rattle.line.specs.declared.Outcome.the-variants.{Nothing, Good, BadLength, BadEscape, BadChecksum, CutOff, ShortBuffer}
-use Rattle.state.specs.Layout.{packetMost, placeAt, countAt, messageAt}
+use Rattle.state.specs.Layout.{packetMost, placeAt, countAt, messageAt, size}
 use Rattle.session.specs.Receive.{fedOf, readOn}
 use Rattle.session.specs.Slice.{Slice, taking, bytesOf}
 
@@ -77,10 +77,11 @@ pub record Runs (bs s : List ℕ) (k i r : ℕ) (t : List ℕ) : Type 0 where
   pub len : lenOf t ≡ lenOf s
   pub leads : Leads bs (placed s 1 k) i (placed t 1 (k + r)) (i + r)
 
--- the slice goes on at byte j, or its byte i ends something
-pub record Turns (bs s : List ℕ) (tag k i tag′ k′ j : ℕ) (t : List ℕ) : Type 0 where
-  pub left : tag′ ≡ 3 → (t ≡ s) × (ends (fedOf (placed s tag k) (getD bs i 0) .taken .outcome) ≡ true)
-  pub went : tag′ ≢ 3 → Leads bs (placed s tag k) i (placed t tag′ k′) j × Stands t tag′ k′ × (i < j) × (j ≤ length bs)
+-- from byte i to byte j the place stays as it is
+pub record Skips (bs : List ℕ) (tag i j : ℕ) : Type 0 where
+  pub begun : i ≤ j
+  pub most : j ≤ length bs
+  pub leads : (s : List ℕ) (k : ℕ) → length s ≡ size → Leads bs (placed s tag k) i (placed s tag k) j
 
 -- r bytes end nothing and lead to t, and the next one, if there is one, ends something
 pub record Passes (bs s : List ℕ) (r : ℕ) (t : List ℕ) : Type 0 where

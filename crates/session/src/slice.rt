@@ -6,7 +6,7 @@ ghost use lib.ListN.{length};
 ghost use Rattle.line.specs.Stuffing.{SYNC as sync, ESC as esc};
 ghost use Rattle.state.specs.Layout.{size};
 ghost use Rattle.session.specs.Slice.{ReceivesBytes, bytesOf, takenMost};
-ghost use Rattle.session.specs.Quiet.{placed, readsAs, Stands, Steps, Fits, Runs, Turns, Passes};
+ghost use Rattle.session.specs.Quiet.{placed, readsAs, Stands, Steps, Fits, Runs, Skips, Passes};
 use crate::Took;
 use crate::receive::receive;
 use line::ESC;
@@ -21,13 +21,6 @@ const ENDS: u8 = 3;
 struct At {
     tag: u8,
     k: u8,
-}
-
-// The same, and the next byte of the slice.
-struct Turned {
-    tag: u8,
-    k: u8,
-    next: u32,
 }
 
 // The tag as it reads: a place that no message can have is outside.
@@ -166,26 +159,22 @@ fn run(s: &mut [u8], k: u8, bytes: &[u8], from: u32, most: u32) -> u32
     i
 }
 
-// From byte i on: a run, or a single byte where none goes.
-fn turn(s: &mut [u8], tag: u8, k: u8, bytes: &[u8], i: u32, n: u32) -> Turned
-    requires { ⌜ (length (now s) ≡ size) × Stands (now s) tag k × (i < n) × (n ≡ length (now bytes)) × (length (now bytes) ≤ takenMost) ⌝ }
-    ensures { λ r. ⌜ Turns (now (bytes .entry)) (now (s .entry)) tag k i (r .tag) (r .k) (r .next) (now (s .exit)) ⌝ }
+// Where the next SYNC stands, or the end: outside a message nothing else is looked at. Inside, and behind ESC, it is here.
+fn skip(tag: u8, bytes: &[u8], from: u32, n: u32) -> u32
+    requires { ⌜ (from ≤ n) × (n ≡ length (now bytes)) ⌝ }
+    ensures { λ r. ⌜ Skips (now (bytes .entry)) tag from r ⌝ }
 {
-    let most = room(s, tag, k, n - i);
-    let went = run(s, k, bytes, i, most);
-    if 0 < went {
-        return Turned {
-            tag: 1,
-            k: k + went as u8,
-            next: i + went,
-        };
+    if tag != 0 {
+        return from;
     }
-    let at = step(s, tag, k, bytes[i as usize]);
-    Turned {
-        tag: at.tag,
-        k: at.k,
-        next: i + 1,
+    let mut i = from;
+    while i < n {
+        if bytes[i as usize] == SYNC {
+            return i;
+        }
+        i += 1;
     }
+    i
 }
 
 // Puts the reader's place into the state.
@@ -210,14 +199,23 @@ fn pass(s: &mut [u8], bytes: &[u8]) -> u32
     let mut tag = reads(s, s[layout::PLACE], k);
     let mut i: u32 = 0;
     while i < n {
-        let turned = turn(s, tag, k, bytes, i, n);
-        if turned.tag == ENDS {
+        i = skip(tag, bytes, i, n);
+        let most = room(s, tag, k, n - i);
+        let went = run(s, k, bytes, i, most);
+        k += went as u8;
+        i += went;
+        if i == n {
             settle(s, tag, k);
             return i;
         }
-        tag = turned.tag;
-        k = turned.k;
-        i = turned.next;
+        let at = step(s, tag, k, bytes[i as usize]);
+        if at.tag == ENDS {
+            settle(s, tag, k);
+            return i;
+        }
+        tag = at.tag;
+        k = at.k;
+        i += 1;
     }
     settle(s, tag, k);
     i
