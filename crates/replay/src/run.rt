@@ -21,12 +21,15 @@ pub struct Ran {
     pub filled: usize,
 }
 
-// Wire bytes go to the slave one by one.
+// Wire bytes go to the slave in slices: a call takes them up to one that ends something, or none if the state is not consistent.
 fn wire(bytes: &[u8], state: &mut [u8; STATE_SIZE], cal: &mut [u8; 4096], meas: &[u8; 4096]) {
     let mut i = 0;
     while i < bytes.len() {
-        session::receive_byte(state, cal, meas, bytes[i]);
-        i += 1;
+        let took = session::receive_bytes(state, cal, meas, &bytes[i..]);
+        if took.taken == 0 {
+            return;
+        }
+        i += took.taken as usize;
     }
 }
 

@@ -7,7 +7,7 @@ use Prim.Native.Nat.{ℕ, zero, suc, _+_, _%_, _≤_, _<_}
 use native.Mathlib.Omega.{arith}
 use borrow.Author.Tests.{lt-ltb, le-ltb, eq-eqb, ne-eqb, ltb-true, ltb-false}
 use lib.Dec.{eqb, ltb}
-use lib.ListN.{length, getD, set, take, drop, length-set}
+use lib.ListN.{length, getD, set, take, drop, length-set, length-take}
 use lib.Seq.{set-set, set-comm, set-append-left, take-set-lt, drop-set-lt, drop-cons, drop-length, length-take-le, take-all}
 use Rattle.line.specs.Stuffing.{SYNC, ESC}
 use Rattle.line.specs.Message.{byteForm}
@@ -304,3 +304,20 @@ pub bytes-so : (s cal meas bs : List ℕ) (n : ℕ) (k : Took) (t c : List ℕ) 
     → ReceivesBytes (bytesOf s cal meas (take n bs)) k t c → ReceivesBytes (receiveBytesOf s cal meas bs) k t c
 unfolding receiveBytesOf
 bytes-so s cal meas bs = bytes-by s cal meas bs takenMost
+
+-- ---- a slice takes no more than it has
+bytes-within : (s cal meas bs : List ℕ) → bytesOf s cal meas bs .taken ≤ length bs
+bytes-within s cal meas [] = omega arith
+bytes-within s cal meas (b ∷ bs) =
+    let x = receivedBy (fedOf s b) s cal meas in
+    let h : bytesOf (x .state) (x .cal) meas bs .taken ≤ length bs = bytes-within (x .state) (x .cal) meas bs in
+    cond-ind (λ (o : Slice). o .taken ≤ suc (length bs)) (eqb (receivedNumber (x .received)) 0) (λ _. omega (arith, h)) (λ _. omega arith)
+
+within-by : (s cal meas bs : List ℕ) (most : ℕ) → cond (consistent s) (bytesOf s cal meas (take most bs)) (taking NoState 0 s cal) .taken ≤ length bs
+within-by s cal meas bs most =
+    let few : length (take most bs) ≤ length bs = omega (arith, length-take most bs) in
+    cond-ind (λ (o : Slice). o .taken ≤ length bs) (consistent s) (λ _. omega (arith, bytes-within s cal meas (take most bs), few)) (λ _. omega arith)
+
+pub taken-most : (s cal meas bs : List ℕ) → receiveBytesOf s cal meas bs .taken ≤ length bs
+unfolding receiveBytesOf
+taken-most s cal meas bs = within-by s cal meas bs takenMost
