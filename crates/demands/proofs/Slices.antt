@@ -1,16 +1,17 @@
 -- A slice is the byte call repeated, however the wire is cut. Assumes nothing.
-use Prim.Native.Nat.{ℕ, zero, suc, _+_, _≤_, _<_}
-use mathlib.Core.Path.{_≡_, refl, sym, ap, ap₂, subst, _∙_}
+use Prim.Native.Nat.{ℕ, zero, suc, _+_, _≤_}
+use mathlib.Core.Path.{_≡_, refl, sym, ap, subst, _∙_}
 use mathlib.Core.Bool.{Bool, true, false, cond}
-use mathlib.Core.List.{List, [], _∷_, _++_, append-assoc}
+use mathlib.Core.List.{List, [], _∷_, _++_}
 use native.Mathlib.Omega.{arith}
 use borrow.Author.Tests.{eqb-true, eqb-false}
 use lib.Dec.{eqb}
-use lib.ListN.{length, take, drop, replicate, length-take}
+use lib.ListN.{length, take, drop, length-take}
 use lib.Seq.{take-all, take-add}
 use Rattle.state.specs.State.{consistent}
 use Rattle.session.specs.Receive.{Step, fedOf, receivedBy, receiveOf}
 use Rattle.session.specs.Slice.{Slice, taking, then, bytesOf, takenMost, receiveBytesOf}
+use Rattle.session.proofs.Slicing.{bytes-within}
 use Rattle.fields.proofs.Kept.{receive-kept}
 use Rattle.words.specs.Number.{receivedNumber}
 use Rattle.words.specs.declared.Received.the-variants.{Nothing, NoState}
@@ -46,13 +47,6 @@ bytes-some : (s cal meas : List ℕ) (b : ℕ) (bs : List ℕ) → 1 ≤ bytesOf
 bytes-some s cal meas b bs =
     let t = receivedBy (fedOf s b) s cal meas in
     by-first (λ (o : Slice). 1 ≤ o .taken) t (bytesOf (t .state) (t .cal) meas bs) (λ _. omega arith) (λ _. omega arith)
-
-bytes-most : (s cal meas bs : List ℕ) → bytesOf s cal meas bs .taken ≤ length bs
-bytes-most s cal meas [] = omega arith
-bytes-most s cal meas (b ∷ bs) =
-    let t = receivedBy (fedOf s b) s cal meas in
-    let m = bytes-most (t .state) (t .cal) meas bs in
-    by-first (λ (o : Slice). o .taken ≤ suc (length bs)) t (bytesOf (t .state) (t .cal) meas bs) (λ _. omega (arith, m)) (λ _. omega arith)
 
 bytes-whole : (s cal meas bs : List ℕ) → receivedNumber (bytesOf s cal meas bs .received) ≡ 0 → bytesOf s cal meas bs .taken ≡ length bs
 bytes-whole s cal meas [] = λ _. refl
@@ -126,11 +120,6 @@ take-none : (n : ℕ) → _≡_ {A = List ℕ} (take n []) []
 take-none zero = refl
 take-none (suc n) = refl
 
-take-short : (n : ℕ) (l : List ℕ) → (length (take n l) ≤ n) × (length (take n l) ≤ length l)
-take-short zero l = (omega arith, omega arith)
-take-short (suc n) [] = (omega arith, omega arith)
-take-short (suc n) (x ∷ l) = (omega (arith, take-short n l .0), omega (arith, take-short n l .1))
-
 abbrev calls : ℕ → SliceCall
 calls n s cal meas bs = cond (consistent s) (bytesOf s cal meas (take n bs)) (taking NoState 0 s cal)
 
@@ -156,7 +145,7 @@ module _ (n : ℕ) (s cal meas : List ℕ) where
   done-most bs = go (consistent s)
     where
       go : (x : Bool) → (cond x (bytesOf s cal meas (take n bs)) (taking NoState 0 s cal) .taken ≤ length bs) × (cond x (bytesOf s cal meas (take n bs)) (taking NoState 0 s cal) .taken ≤ n)
-      go true = (omega (arith, bytes-most s cal meas (take n bs), take-short n bs .1), omega (arith, bytes-most s cal meas (take n bs), take-short n bs .0))
+      go true = (omega (arith, bytes-within s cal meas (take n bs), length-take n bs), omega (arith, bytes-within s cal meas (take n bs), length-take n bs))
       go false = (omega arith, omega arith)
 
   done-whole : (bs : List ℕ) → consistent s ≡ true → length bs ≤ n → receivedNumber (calls n s cal meas bs .received) ≡ 0 → calls n s cal meas bs .taken ≡ length bs
@@ -167,7 +156,7 @@ module _ (n : ℕ) (s cal meas : List ℕ) where
   done-same : (bs : List ℕ) → consistent s ≡ true → repeated ours s cal meas (take (calls n s cal meas bs .taken) bs) ≡ told (calls n s cal meas bs)
   done-same bs e =
       subst (λ (o : Slice). repeated ours s cal meas (take (o .taken) bs) ≡ told o) (sym (done bs e))
-      (ap (repeated ours s cal meas) (sym (take-within (bytesOf s cal meas (take n bs) .taken) n bs (omega (arith, bytes-most s cal meas (take n bs), take-short n bs .0))))
+      (ap (repeated ours s cal meas) (sym (take-within (bytesOf s cal meas (take n bs) .taken) n bs (omega (arith, bytes-within s cal meas (take n bs), length-take n bs))))
       ∙ bytes-same s cal meas (take n bs) e)
 
 -- a slice of m bytes, and then those behind what it took
@@ -188,7 +177,7 @@ done-cuts n s cal meas bs (m ∷ ns) e =
     d = drained (calls n) (o .state) (o .cal) meas (drop (o .taken) bs) ns
 
     few : o .taken ≤ m
-    few = omega (arith, done-most n s cal meas (take m bs) .0, take-short m bs .0)
+    few = omega (arith, done-most n s cal meas (take m bs) .0, length-take m bs)
 
     first : repeated ours s cal meas (take (o .taken) bs) ≡ told o
     first = ap (repeated ours s cal meas) (sym (take-within (o .taken) m bs few)) ∙ done-same n s cal meas (take m bs) e

@@ -2,22 +2,22 @@
 use mathlib.Core.Path.{_≡_, refl, sym, ap, ap₂, subst, _∙_}
 use mathlib.Core.Logic.{_≢_}
 use mathlib.Core.Bool.{Bool, true, false, cond}
-use mathlib.Core.List.{List, _∷_, _++_}
+use mathlib.Core.List.{List, _++_}
 use Prim.Native.Nat.{ℕ, zero, suc, _+_, _-_, _%_, _≤_, _<_}
 use native.Mathlib.Omega.{arith}
-use borrow.Author.Tests.{eq-eqb, ne-eqb, lt-ltb, le-ltb, ltb-true, ltb-false}
+use borrow.Author.Tests.{eq-eqb, ne-eqb, lt-ltb, ltb-true, ltb-false}
 use lib.Dec.{eqb, ltb}
 use lib.ListN.{length, getD, set, take, drop, length-set, take-append-drop}
-use lib.Seq.{getD-set-same, getD-set-other, set-set, set-comm, set-getD, set-append-left, take-set-le, take-set-lt, drop-set-lt, drop-set-add, getD-take, getD-drop, drop-drop, length-take-le}
+use lib.Seq.{getD-set-same, getD-set-other, set-set, set-comm, set-getD, take-set-le, take-set-lt, drop-set-lt, drop-set-add, getD-take, getD-drop, drop-drop}
 use Rattle.line.specs.Stuffing.{SYNC, ESC}
 use Rattle.line.specs.Form.{numberAt}
 use Rattle.line.specs.Message.{byteForm, checksumAt, most, longest}
-use Rattle.line.specs.Unstuffing.{Fed, on, over, placeBy, takeBy}
+use Rattle.line.specs.Unstuffing.{Fed, on, over, takeBy}
 use Rattle.line.specs.Reader.{lenIn, begunOf, judgedOf, putOf, messages, takeOf}
 use Rattle.line.specs.declared.Place.{Place}
 use Rattle.line.specs.declared.Place.the-variants.{Outside, Inside, Escaped}
 use Rattle.line.specs.declared.Outcome.{Outcome}
-use Rattle.line.specs.declared.Outcome.the-variants.{Nothing, Good, BadLength, BadEscape, BadChecksum, CutOff}
+use Rattle.line.specs.declared.Outcome.the-variants.{BadLength, BadEscape}
 use Rattle.line.proofs.Laws.{cond-ind}
 use Rattle.line.proofs.Begun.{Begun, begun-known, begun-right, begun-ended}
 use Rattle.line.proofs.Steps.{put-rest, put-len, put-within, take-long}
@@ -26,7 +26,7 @@ use Rattle.state.specs.Bytes.{block}
 use Rattle.state.specs.State.{placeOf, setPlace, messageOf, setMessage}
 use Rattle.state.proofs.Sets.{block-length}
 use Rattle.session.specs.Receive.{fedOf, readOn}
-use Rattle.session.specs.Quiet.{ReadsOn, Quiet, ends, placed, lenOf, readsAs, Stands, Steps}
+use Rattle.session.specs.Quiet.{ReadsOn, ends, placed, lenOf, Steps}
 
 -- ---- the message buffer in the state
 pub message-long : (s : List ℕ) → length s ≡ size → length (messageOf s) ≡ longest

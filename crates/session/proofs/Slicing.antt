@@ -5,13 +5,13 @@ use mathlib.Core.Bool.{Bool, true, false, cond}
 use mathlib.Core.List.{List, [], _∷_, _++_}
 use Prim.Native.Nat.{ℕ, zero, suc, _+_, _%_, _≤_, _<_}
 use native.Mathlib.Omega.{arith}
-use borrow.Author.Tests.{lt-ltb, le-ltb, eq-eqb, ne-eqb, ltb-true, ltb-false}
+use borrow.Author.Tests.{ne-eqb, ltb-true, ltb-false}
 use lib.Dec.{eqb, ltb}
 use lib.ListN.{length, getD, set, take, drop, length-set, length-take}
 use lib.Seq.{set-set, set-comm, set-append-left, take-set-lt, drop-set-lt, drop-cons, drop-length, length-take-le, take-all}
 use Rattle.line.specs.Stuffing.{SYNC, ESC}
 use Rattle.line.specs.Message.{byteForm}
-use Rattle.line.specs.Unstuffing.{Fed, takeBy, placeBy, insideBy, cutOf}
+use Rattle.line.specs.Unstuffing.{Fed, placeBy, insideBy, cutOf}
 use Rattle.line.specs.Reader.{begunOf, messages}
 use Rattle.line.specs.declared.Place.{Place}
 use Rattle.line.specs.declared.Place.the-variants.{Outside, Inside, Escaped}
@@ -306,7 +306,7 @@ unfolding receiveBytesOf
 bytes-so s cal meas bs = bytes-by s cal meas bs takenMost
 
 -- ---- a slice takes no more than it has
-bytes-within : (s cal meas bs : List ℕ) → bytesOf s cal meas bs .taken ≤ length bs
+pub bytes-within : (s cal meas bs : List ℕ) → bytesOf s cal meas bs .taken ≤ length bs
 bytes-within s cal meas [] = omega arith
 bytes-within s cal meas (b ∷ bs) =
     let x = receivedBy (fedOf s b) s cal meas in

@@ -1,9 +1,8 @@
 use native.Mathlib.Omega.{arith}
-use mathlib.Core.Path.{_≡_, refl, sym, ap, _∙_}
+use mathlib.Core.Path.{_≡_, sym, ap, _∙_}
 use mathlib.Core.List.{List}
-use Prim.Native.Nat.{ℕ, _+_, _-_}
+use Prim.Native.Nat.{ℕ, _-_}
 use lib.ListN.{getD, set}
-use lib.Seq.{getD-set-other}
 use Rattle.state.specs.Layout.{placeAt, countAt, messageAt}
 use Rattle.session.proofs.Reading.{quiet-so, placed-there, sync-again, len-comes, set-there, tag-stays}
 use borrow.Author.Needs.{needs}

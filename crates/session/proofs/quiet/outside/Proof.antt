@@ -1,4 +1,3 @@
-use native.Mathlib.Omega.{arith}
 use mathlib.Core.Path.{refl, sym}
 use Rattle.session.proofs.Reading.{quiet-so, placed-there, outside-sync, outside-other}
 use borrow.Author.Needs.{needs}
