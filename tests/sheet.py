@@ -28,7 +28,7 @@ def status(sheet):
 
 def changed(line):
     """The line with another last byte in each of its lists to expect."""
-    if len(line) <= BYTES or line[0] not in "><UERW" or line[1] != " ":
+    if len(line) <= BYTES or line[0] not in "><UERWS" or line[1] != " ":
         return
     # A slot's line expects its first list too.
     pattern = LIST if line[0] == "<" else "= " + LIST
@@ -113,6 +113,10 @@ LINES = [
     ("wire bytes without numbers", step("W", "9A 01"), 37, "W takes"),
     ("wire bytes with too few numbers", step("W", "9A 01 = 00"), 37, "W takes"),
     ("wire bytes with too many numbers", step("W", "9A 01 = 00 00 00"), 37, "W takes"),
+    ("a slice without its number", step("S", "9A 01"), 37, "S takes"),
+    ("a slice without a count", step("S", "9A 01 = 00"), 37, "S takes"),
+    ("a slice with a third number", step("S", "9A 01 = 00 02 00"), 37, "S takes"),
+    ("a - for a slice", step("S", "- = 00 00"), 31, "not used"),
     ("a command that is too long", step(">", some(MOST + 1)), 31, f"> takes a command of 1 to {MOST} bytes\n"),
     ("a packet that is too long", step("<", some(MOST + 1)), 31, f"< takes a packet of 1 to {MOST} bytes, or - alone\n"),
     ("a frame of nothing", step("<", "- = 9A 01 00 FF 00"), 31, "< takes"),
@@ -157,6 +161,8 @@ RIGHT = [
     ("CR LF at some lines, and none at the end", f"{TITLE}\r\n{GOOD}\n{CONNECT}\r\n\n{TITLE}\n{ANSWER}", "as expected: 2 cases, 3 steps"),
     ("an event that is refused", f"{TITLE}\n{GOOD}\n{step('E', '02 00 00 = 08')}\n", "as expected: 1 case, 2 steps"),
     ("the longest line", f"{TITLE}\n{GOOD}\n{step('W', some(ROOM) + ' = ' + some(ROOM))}\n", "as expected: 1 case, 2 steps"),
+    ("the longest slice", f"{TITLE}\n{GOOD}\n{step('S', some(ROOM) + f' = 00 {ROOM:02X}')}\n", "as expected: 1 case, 2 steps"),
+    ("a slice before the power-up", f"{TITLE}\n{step('S', '9A 01 = 0A 00')}\n", "as expected: 1 case, 1 step"),
     ("the longest command", f"{TITLE}\n{GOOD}\n{step('>', some(MOST, '9A') + ' = 9A 40 00 ' + some(MOST, '9B 01') + ' C0')}\n",
      "as expected: 1 case, 2 steps"),
     ("the longest answer", f"{SESSION}{step('>', UPLOAD)}\n{step('<', PAIRS + FRAMED)}\n", "as expected: 1 case, 6 steps"),

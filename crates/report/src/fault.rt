@@ -39,6 +39,9 @@ fn tell_step(step: Step) {
         Step::Event => tell(
             b"E takes a number and 2 bytes of clock, and after = the lists to sample and the lists to miss it, or the number of a refusal",
         ),
+        Step::Slice => tell(
+            b"S takes wire bytes, and after = the number to expect and how many bytes are to be taken",
+        ),
     }
 }
 
@@ -55,7 +58,7 @@ fn tell_fault(fault: Fault) {
             b"only printable ASCII can stand in a sheet, no tab, and no carriage return but before a line feed",
         ),
         Fault::Kind => tell(
-            b"neither a step (P M W > < U R E and a space), nor a title (# and a space), nor empty",
+            b"neither a step (P M W S > < U R E and a space), nor a title (# and a space), nor empty",
         ),
         Fault::Name => tell(
             b"a step's name ends here with a space, and its bytes begin in the next column",

@@ -39,6 +39,7 @@ fn run_step(
         Step::Unlock => steps::unlock(bytes, expected, was, state, cal, meas),
         Step::Repeat => steps::repeat(bytes, expected, was, state, cal, meas),
         Step::Event => steps::event(bytes, expected, was, state, cal, meas),
+        Step::Slice => steps::slice(bytes, expected, was, state, cal, meas),
     }
 }
 

@@ -92,6 +92,25 @@ pub fn wire(
     was.judged(show::check(gave, expected))
 }
 
+// Bytes on the wire, lent as one slice; the number that it is to give, and how many of them it is to
+// take. The tool's own CTR stays.
+pub fn slice(
+    bytes: &[u8],
+    expected: &[u8],
+    was: Tool,
+    state: &mut [u8; STATE_SIZE],
+    cal: &mut [u8; 4096],
+    meas: &[u8; 4096],
+) -> Tool {
+    show::print_bytes(bytes);
+    show::print(b"\n    number, bytes taken       ");
+    let took = session::receive_bytes(state, cal, meas, bytes);
+    let received = took.received;
+    let came = [(received.number() % 256) as u8, (took.taken % 256) as u8];
+    show::print_bytes(&came);
+    was.judged(show::check(&came, expected))
+}
+
 // A slot: the packet that is to come, and the frame that it is to be in.
 pub fn slot(
     expected: &[u8],

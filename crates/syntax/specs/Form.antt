@@ -8,7 +8,7 @@ use lib.ListN.{length, getD, drop}
 use Rattle.line.specs.Message.{most, room}
 use Rattle.state.specs.Layout.{addressable}
 use Rattle.syntax.specs.declared.Step.{Step}
-use Rattle.syntax.specs.declared.Step.the-variants.{PowerUp, Measured, Wire, Command, Slot, Unlock, Repeat, Event}
+use Rattle.syntax.specs.declared.Step.the-variants.{PowerUp, Measured, Wire, Command, Slot, Unlock, Repeat, Event, Slice}
 use Rattle.syntax.specs.declared.form.Kind.{Kind}
 use Rattle.syntax.specs.declared.form.Kind.the-variants as kind
 use Rattle.syntax.specs.declared.Fault.{Fault}
@@ -55,7 +55,8 @@ kindOf c =
     (cond (eqb c 85) (kind.Does Unlock)
     (cond (eqb c 82) (kind.Does Repeat)
     (cond (eqb c 69) (kind.Does Event)
-    kind.Neither))))))))
+    (cond (eqb c 83) (kind.Does Slice)
+    kind.Neither)))))))))
 
 -- measured bytes have a place, two bytes, and one of them at least; all lie in the memory
 unfoldable pub placedOf : List ℕ → ℕ → Bool
@@ -81,6 +82,7 @@ bytesFit Slot s n = leb n most
 bytesFit Unlock s n = cond (eqb n 1) (resourceOf s) false
 bytesFit Repeat s n = timesOf s n
 bytesFit Event s n = eqb n 3
+bytesFit Slice s n = true
 
 -- at least one, and at most k
 unfoldable pub someUpTo : ℕ → ℕ → Bool
@@ -96,6 +98,7 @@ expectedFits Slot n m = cond (eqb n 0) (eqb m 0) true
 expectedFits Unlock n m = eqb m 4
 expectedFits Repeat n m = someUpTo m most
 expectedFits Event n m = someUpTo m 2
+expectedFits Slice n m = eqb m 2
 
 -- a step that is used up to its end
 unfoldable pub fittedOf : Step → List ℕ → ℕ → ℕ → Line
@@ -113,6 +116,7 @@ dashes Slot = true
 dashes Unlock = false
 dashes Repeat = false
 dashes Event = false
+dashes Slice = false
 
 -- where the first list ends: behind its last digit, or behind the - of a slot that is to send nothing
 unfoldable pub firstEnd : Step → List ℕ → ℕ → ℕ

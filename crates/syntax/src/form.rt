@@ -94,6 +94,7 @@ fn kind_of(sign: u8) -> Kind
         b'U' => Kind::Does(Step::Unlock),
         b'R' => Kind::Does(Step::Repeat),
         b'E' => Kind::Does(Step::Event),
+        b'S' => Kind::Does(Step::Slice),
         _ => Kind::Neither,
     }
 }
@@ -147,6 +148,7 @@ fn bytes_fit(step: Step, text: &[u8], n: usize) -> bool
         Step::Unlock => if n == 1 { resource(text) } else { false },
         Step::Repeat => times(text, n),
         Step::Event => n == 3,
+        Step::Slice => true,
     }
 }
 
@@ -171,6 +173,7 @@ fn expected_fits(step: Step, n: usize, m: usize) -> bool
         Step::Unlock => m == 4,
         Step::Repeat => some_up_to(m, MOST),
         Step::Event => some_up_to(m, 2),
+        Step::Slice => m == 2,
     }
 }
 
@@ -200,6 +203,7 @@ fn takes_dash(step: Step) -> bool
         Step::Unlock => false,
         Step::Repeat => false,
         Step::Event => false,
+        Step::Slice => false,
     }
 }
 

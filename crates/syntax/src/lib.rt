@@ -21,6 +21,7 @@ pub enum Step {
     Unlock,
     Repeat,
     Event,
+    Slice,
 }
 
 pub enum Fault {

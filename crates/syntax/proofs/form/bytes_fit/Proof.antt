@@ -37,6 +37,9 @@ times-requires c κs = search needs
 enum-told-8 : tie.Need-enum-told-8
 enum-told-8 c = search needs
 
+enum-told-9 : tie.Need-enum-told-9
+enum-told-9 c = search needs
+
 returns : tie.Need-returns
 unfolding bytesFit
 returns c = rw (c .enum-told .given .1)
@@ -73,6 +76,10 @@ returns-9 : tie.Need-returns-9
 unfolding bytesFit
 returns-9 c = rw (c .enum-told8 .given .1)
 
+returns-10 : tie.Need-returns-10
+unfolding bytesFit
+returns-10 c = rw (c .enum-told9 .given .1)
+
 pub bytes-fit-spec : {M : Type 1} → statement M
 bytes-fit-spec =
     tie.close
@@ -88,6 +95,7 @@ bytes-fit-spec =
     enum-told-7
     times-requires
     enum-told-8
+    enum-told-9
     returns
     returns-2
     returns-3
@@ -96,4 +104,5 @@ bytes-fit-spec =
     returns-6
     returns-7
     returns-8
-    returns-9)
+    returns-9
+    returns-10)

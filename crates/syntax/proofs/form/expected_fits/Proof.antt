@@ -34,6 +34,9 @@ enum-told-8 c = search needs
 some-up-to-requires-2 : tie.Need-some-up-to-requires-2
 some-up-to-requires-2 c κs = search needs
 
+enum-told-9 : tie.Need-enum-told-9
+enum-told-9 c = search needs
+
 returns : tie.Need-returns
 unfolding expectedFits
 returns c = rw (c .enum-told .given .1)
@@ -70,6 +73,10 @@ returns-9 : tie.Need-returns-9
 unfolding expectedFits
 returns-9 c = rw (c .before .enum-told8 .given .1) (c .some-up-to2 .ensures)
 
+returns-10 : tie.Need-returns-10
+unfolding expectedFits
+returns-10 c = rw (c .enum-told9 .given .1)
+
 pub expected-fits-spec : {M : Type 1} → statement M
 expected-fits-spec =
     tie.close
@@ -84,6 +91,7 @@ expected-fits-spec =
     some-up-to-requires
     enum-told-8
     some-up-to-requires-2
+    enum-told-9
     returns
     returns-2
     returns-3
@@ -92,4 +100,5 @@ expected-fits-spec =
     returns-6
     returns-7
     returns-8
-    returns-9)
+    returns-9
+    returns-10)
