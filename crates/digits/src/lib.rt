@@ -1,4 +1,6 @@
 // A byte in capital hex: io::print_hex writes small digits.
+#![tactic(auto)]
+
 ghost use Rattle.std.specs.Prelude.{◌≡◌, ◌<◌};
 ghost use Rattle.digits.specs.Digits.{digit_of, pair_of};
 

@@ -1,5 +1,5 @@
 -- A field of the state reads as it was set; what a closed session and a fresh one hold. Assumes nothing.
-use Prim.Native.Nat.{ℕ, zero, suc, ◌+◌, ◌*◌, ◌-◌, ◌%◌, ◌^◌, ◌≤◌, ◌<◌}
+use Prim.Native.Nat.{ℕ, zero, suc, ◌+◌, ◌*◌, ◌%◌, ◌^◌, ◌≤◌, ◌<◌}
 use mathlib.Core.Path.{◌≡◌, refl, sym, ap, subst, ◌∙◌}
 use mathlib.Core.Logic.{◌≢◌}
 use mathlib.Core.Bool.{Bool, true, false, cond}
@@ -188,6 +188,8 @@ kind_as_it_is n b = go (eqb b 0xFF) (eqb b 0xFE) (eqb n 2) (eqb n 8) refl refl w
   go true false two eight p q o = sym (eqb-true b 0xFF p)
   go false true true eight p q o = sym (eqb-true b 0xFE q)
   go false true false true p q o = sym (eqb-true b 0xFE q)
+  go false true false false p q o = elim o [ ]
+  go false false two eight p q o = elim o [ ]
 
 first_answered : (s bs : List ℕ) → length s ≡ size → 1 ≤ length bs → length bs ≤ packet_most → get_or (answered s bs) answer_bytes_at 0 ≡ get_or bs 0 0
 unfolding answered

@@ -1,1 +1,2 @@
 // No code: laws of the session's state, in proofs/.
+#![tactic(auto)]

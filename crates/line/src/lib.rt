@@ -1,4 +1,6 @@
 // The line: XCP packets to frames of an SxI wire and back. It keeps no state of its own.
+#![tactic(auto)]
+
 ghost use Rattle.std.specs.Prelude.{◌≡◌};
 ghost use Rattle.line.specs.Number.{outcome_number, written_number};
 
@@ -13,7 +15,7 @@ pub use writer::{next_ctr, write};
 
 // Where the reader stands. Inside a message it has k unescaped bytes of it, which lie at the front of
 // the lent buffer.
-#[derive(Drop)]
+#[derive(Clone, Copy)]
 pub enum Place {
     Outside,
     Inside(usize),
@@ -21,7 +23,7 @@ pub enum Place {
 }
 
 // What a received byte ends.
-#[derive(Drop)]
+#[derive(Clone, Copy)]
 pub enum Outcome {
     Nothing,
     // A good message, whole in the lent buffer: its packet is the len bytes from at.
@@ -34,14 +36,14 @@ pub enum Outcome {
     ShortBuffer,
 }
 
-#[derive(Drop)]
+#[derive(Clone, Copy)]
 pub struct Taken {
     pub place: Place,
     pub outcome: Outcome,
 }
 
 // What became of a packet to send.
-#[derive(Drop)]
+#[derive(Clone, Copy)]
 pub enum Written {
     // Its frame is the first size bytes.
     Frame { size: usize },

@@ -8,7 +8,7 @@ use crate::Written;
 use crate::limits::{ESC, MOST, ROOM, SYNC};
 
 // Where the packet's bytes end on the wire, and their sum.
-#[derive(Drop)]
+#[derive(Clone, Copy)]
 struct Summed {
     at: u32,
     sum: u8,

@@ -2,7 +2,7 @@
 use Rattle.std.proofs.Common.{◌≡◌, ℕ, zero, suc, ◌+◌, ◌-◌, ◌%◌, ◌<◌, Bool, true, false, cond, not, eqb, ltb, List, sym, refl, ap, ◌∙◌, ap₂, mod-lt, add-one, arith, ltb-false, ltb-true, lt-ltb, ne_eqb}
 use native.Mathlib.Nat.{add-mod_left}
 use Rattle.line.proofs.Laws.{cond_ind}
-use Rattle.model.specs.Model.{DaqList, Session, Slave, runs, runs_in, has_answer, has_packet}
+use Rattle.model.specs.Model.{DaqList, Session, Slave, runs, has_answer, has_packet}
 use Rattle.model.specs.Calls.{first_packet, packet_in, or_else, round_from, round_in, list_after, turn_in}
 use Rattle.model.specs.View.{session_of}
 use Rattle.state.specs.Layout.{all_odts}

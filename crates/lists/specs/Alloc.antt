@@ -1,5 +1,5 @@
 -- What FREE_DAQ and the three allocations write. Each allocation writes what lies below it empty, so that no old byte comes to life.
-use Rattle.std.specs.Prelude.{ℕ, ◌+◌, ◌-◌, ◌*◌, ◌%◌, List, set, slice_set}
+use Rattle.std.specs.Prelude.{ℕ, ◌+◌, ◌-◌, ◌*◌, ◌%◌, List, slice_set}
 use Rattle.state.specs.Layout.{lists, all_odts, round_at, phase_at, odts_at, counts_at, mode_at, entry_size, entries_at}
 use Rattle.state.specs.Bytes.{copied, cleared}
 use Rattle.state.specs.Pool.{first_entry, entry_total}

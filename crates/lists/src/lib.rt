@@ -1,5 +1,7 @@
 // The lists over the lent state: how they read, how commands change them, and the two calls that are about them, an
 // event and a sending slot. No function leans on its caller.
+#![tactic(auto)]
+
 pub mod alloc;
 pub mod asked;
 pub mod changes;
@@ -12,7 +14,7 @@ mod word;
 pub use events::event;
 pub use slots::slot;
 
-#[derive(Drop)]
+#[derive(Clone, Copy)]
 pub struct Counted {
     pub sampled: u8,
     pub missed: u8,

@@ -1,5 +1,7 @@
 // What the command in the message buffer leads to. Of packet and state each command's checks look at what they need, and at no more.
 // No function leans on its caller: a byte that is not there reads 0.
+#![tactic(auto)]
+
 ghost use Rattle.std.specs.Prelude.{◌≡◌};
 ghost use Rattle.state.specs.Pool.{freed_of, list_count, odt_total, entry_total};
 ghost use Rattle.state.specs.State.{generator_of, seed_of, pointer_of};

@@ -1,13 +1,13 @@
 -- How many entries a packet has room for: as many as its bytes allow, and all where all fit. Assumes nothing.
 use Prim.Native.Nat.{ℕ, zero, suc, ◌+◌, ◌-◌, ◌≤◌, ◌<◌}
-use mathlib.Core.Path.{◌≡◌, refl, ap, ap₂, subst, ◌∙◌}
+use mathlib.Core.Path.{◌≡◌, refl, ap₂, subst}
 use mathlib.Core.Bool.{Bool, true, false, cond}
 use native.Mathlib.Nat.{add-zero, add-suc}
 use native.Mathlib.Omega.{arith}
-use borrow.Author.Tests.{leb-true, leb-false, le-leb, lt-leb}
+use borrow.Author.Tests.{leb-true, leb-false, le-leb}
 use lib.Dec.{leb}
 use Rattle.line.proofs.Laws.{cond_ind}
-use Rattle.model.specs.Model.{Odt, sizes_of, Entry}
+use Rattle.model.specs.Model.{Odt, sizes_of}
 use Rattle.model.specs.Calls.{taken}
 use Rattle.model.proofs.Fits.{sizes_same}
 

@@ -11,7 +11,7 @@ use Rattle.model.specs.declared.Deed.TheVariants.{Connect}
 use Rattle.model.specs.Heed.{Dropped, Obeyed, Ignored, good_connect, heeding_in}
 use Rattle.model.specs.View.{session_of}
 use Rattle.look.specs.Look.{judge_of}
-use Rattle.session.specs.Receive.{Step, only, obeyed, heeded_by, heeded}
+use Rattle.session.specs.Receive.{only, obeyed, heeded_by, heeded}
 
 module _ (p s cal meas : List ℕ) where
   by_three : (d : Deed) (w o g : Bool)

@@ -3,7 +3,7 @@ use Prim.Native.Nat.{ℕ}
 use mathlib.Core.Path.{◌≡◌}
 use mathlib.Core.List.{List}
 use native.Mathlib.Omega.{arith}
-use lib.ListN.{length, set, length-set}
+use lib.ListN.{length, set}
 use lib.Seq.{get_or-set_same, get_or-set_other}
 use Rattle.state.specs.Layout.{calibration_at, lists_at, seed_at, size}
 use Rattle.state.specs.State.{flag_of, lock_at, unlocked_of, mask_by, mask_of, set_seed}

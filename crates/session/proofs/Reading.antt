@@ -22,7 +22,6 @@ use Rattle.line.proofs.Laws.{cond_ind}
 use Rattle.line.proofs.Begun.{Begun, begun_known, begun_right, begun_ended}
 use Rattle.line.proofs.Steps.{put_rest, put_len, put_within, take_long}
 use Rattle.state.specs.Layout.{place_at, count_at, message_at, answer_at, size}
-use Rattle.state.specs.Bytes.{block}
 use Rattle.state.specs.State.{place_of, set_place, message_of, set_message}
 use Rattle.state.proofs.Sets.{block_length}
 use Rattle.session.specs.Receive.{fed_of, read_on}

@@ -11,7 +11,6 @@ use Rattle.words.specs.declared.Extension.TheVariants.{Calibration}
 use Rattle.words.specs.declared.Seed.TheVariants.{None, For}
 use Rattle.words.specs.declared.Mta.TheVariants.{At}
 use Rattle.words.specs.declared.Pointer.TheVariants.{At as Entry}
-use Rattle.words.specs.declared.Reason.TheVariants as reason
 use Rattle.model.specs.declared.Deed.{Deed}
 use Rattle.model.specs.declared.Deed.TheVariants.{Refuse, RefuseSize, WrongKey, Connect, Disconnect, Status, Synch, NoSeed, GiveSeed, Unlock, SetMta, Upload, Checksum, Download, ClearList, SetPointer, ClearEntry, WriteEntry, SetMode, Stop, Start, KeepRunning, Select, StopAll, StartSelected, StopSelected, ProcessorInfo, ResolutionInfo, FreeLists, AllocLists, AllocOdts, AllocEntries}
 use Rattle.model.specs.Step.{next_entry}

@@ -1,5 +1,7 @@
 // An XCP slave over one lent state buffer: commands, memory access, lists, events, slots. No call
 // leans on its caller: any bytes at any moment with any lent memory get a defined answer.
+#![tactic(auto)]
+
 ghost use Rattle.std.specs.Prelude.{◌≡◌, ◌≤◌, cond, ltb};
 ghost use Rattle.state.specs.Layout.{size};
 ghost use Rattle.lists.specs.Event.{Happens, event_of};
@@ -27,7 +29,7 @@ mod slice;
 pub const STATE_SIZE: usize = state::layout::STATE;
 
 // What became of a slice: the answer to its last byte taken, and how many were.
-#[derive(Drop)]
+#[derive(Clone, Copy)]
 pub struct Took {
     pub received: Received,
     pub taken: u32,

@@ -15,7 +15,7 @@ use words::Received;
 const ENDS: u8 = 3;
 
 // The reader's place, as PLACE and COUNT have it.
-#[derive(Drop)]
+#[derive(Clone, Copy)]
 struct At {
     tag: u8,
     k: u8,

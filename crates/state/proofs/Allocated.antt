@@ -1,5 +1,5 @@
 -- Any bytes read as lists inside the pool: their ODTs and entries lie one behind the other. Assumes nothing, not even the length.
-use Rattle.std.proofs.Common.{◌≡◌, ℕ, suc, ◌+◌, ◌-◌, ◌<◌, ◌≤◌, ltb, List, get_or, ap, ◌∙◌, arith, ltb-false, ltb-true}
+use Rattle.std.proofs.Common.{◌≡◌, ℕ, suc, ◌+◌, ◌<◌, ◌≤◌, ltb, List, get_or, ap, ◌∙◌, arith, ltb-false, ltb-true}
 use Rattle.line.proofs.Laws.{cond_ind}
 use Rattle.state.specs.Layout.{lists, all_odts, all_entries, round_at, phase_at, odts_at, counts_at, mode_at}
 use Rattle.state.specs.Pool.{phase_of, list_count, round_of, odts_in, first_odt, odt_count, odt_total, entries_in, first_entry, entry_count, entry_total}

@@ -1,5 +1,7 @@
 // The sum of a block's bytes, modulo 65,536: what BUILD_CHECKSUM answers. Words of four bytes are summed in lanes (lanes.rt),
 // the few bytes behind the last word one by one. Nothing is kept from call to call: lent memory may change between them.
+#![tactic(auto)]
+
 ghost use Rattle.std.specs.Prelude.{◌≡◌, ◌*◌, ◌/◌, ◌%◌, ◌<◌, ◌≤◌, min, length, take, drop};
 ghost use Rattle.line.specs.Message.{sum};
 ghost use Rattle.state.specs.Memory.{block_sum};

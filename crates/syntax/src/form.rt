@@ -20,7 +20,7 @@ pub const BYTES: usize = 30;
 // From the end of a step's bytes to those to expect: a space, an = sign and a space.
 const SIGN: usize = 3;
 
-#[derive(Drop)]
+#[derive(Clone, Copy)]
 enum Kind {
     Title,
     Does(Step),

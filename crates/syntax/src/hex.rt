@@ -11,7 +11,7 @@ use state::bytes::get;
 const NO_DIGIT: u8 = 16;
 
 // Two digits, with a space behind them or not.
-#[derive(Drop)]
+#[derive(Clone, Copy)]
 enum Pair {
     Nothing,
     Last,

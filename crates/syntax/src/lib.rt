@@ -1,4 +1,6 @@
 // The text of a sheet: what a line of it is, what that asks for, and the bytes that stand in it. Any text gets a defined answer.
+#![tactic(auto)]
+
 mod cases;
 mod form;
 mod hex;
@@ -6,7 +8,7 @@ mod hex;
 pub use cases::turn_of;
 pub use form::{BYTES, NAME, bytes, ending, expected, line_end, line_of};
 
-#[derive(Drop)]
+#[derive(Clone, Copy)]
 pub enum Step {
     PowerUp,
     Measured,
@@ -19,7 +21,7 @@ pub enum Step {
     Slice,
 }
 
-#[derive(Drop)]
+#[derive(Clone, Copy)]
 pub enum Fault {
     // A byte that is no printable ASCII: a tab, a carriage return that ends no line.
     Sign,
@@ -38,7 +40,7 @@ pub enum Fault {
     Untitled,
 }
 
-#[derive(Drop)]
+#[derive(Clone, Copy)]
 pub enum Line {
     Empty,
     Title,
@@ -48,7 +50,7 @@ pub enum Line {
     Bad(Fault, usize),
 }
 
-#[derive(Drop)]
+#[derive(Clone, Copy)]
 pub enum Case {
     // No case has begun since the last one ended.
     Closed,
@@ -57,7 +59,7 @@ pub enum Case {
     Stepped,
 }
 
-#[derive(Drop)]
+#[derive(Clone, Copy)]
 pub enum Turn {
     // An empty line between cases.
     Pass,

@@ -17,7 +17,7 @@ use Rattle.line.specs.Writer.{at_front, Sent, write_in, write_of}
 use Rattle.line.specs.declared.Outcome.{Outcome}
 use Rattle.line.specs.declared.Outcome.TheVariants as line
 use Rattle.line.proofs.Laws.{cond_ind}
-use Rattle.state.specs.Layout.{size, lists, is_first, events, stored_most, mark, mark_at, ctr_at, round_at, last_at, phase_at, answer_at, answer_bytes_at, sample_at}
+use Rattle.state.specs.Layout.{size, is_first, events, stored_most, mark, mark_at, ctr_at, round_at, last_at, phase_at, answer_at, answer_bytes_at, sample_at}
 use Rattle.state.specs.Pool.{list_count, first_odt, odt_count, entry_count}
 use Rattle.state.proofs.Allocated.{lists_most, first_most_lem, odt_most_lem}
 use Rattle.state.specs.Bytes.{put32, bytes32, block}

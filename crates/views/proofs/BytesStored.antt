@@ -13,7 +13,6 @@ use lib.Seq.{sets}
 use Rattle.line.specs.Unstuffing.{Fed}
 use Rattle.line.specs.declared.Place.{Place}
 use Rattle.line.specs.declared.Place.TheVariants.{Outside, Inside, Escaped}
-use Rattle.line.specs.declared.Outcome.TheVariants as line
 use Rattle.line.proofs.Laws.{cond_ind}
 use Rattle.state.specs.Layout.{lists, all_odts, list_size, entry_size, packet_most, wrong_most, generator_at, wrong_keys_at, place_at, count_at, message_at, answer_at, session_at, session_size, open_at, seed_at, mta_at, address_at, pointer_at, pointer_entry_at, phase_at, odts_at, counts_at, mode_at, selected_at, running_at, round_at, entries_at, sample_at}
 use Rattle.state.specs.Pool.{first_odt, odt_count, first_entry, entry_count, entry_total, entry_at}
@@ -33,7 +32,6 @@ use Rattle.words.specs.declared.Mta.{Mta}
 use Rattle.words.specs.declared.Mta.TheVariants.{Unset, At}
 use Rattle.words.specs.declared.Pointer.{Pointer}
 use Rattle.words.specs.declared.Pointer.TheVariants.{Unset as NoEntry, At as Points}
-use Rattle.words.specs.declared.Reason.TheVariants as reason
 use Rattle.model.specs.Model.{Bytes}
 use Rattle.lists.specs.Lists.{runs_of, tag_of, switched, stopped, list_cleared, mode_set, head_of, entry_set, stop_each, start_one, start_selected, stop_one, stop_selected}
 use Rattle.lists.specs.Alloc.{lists_allocated, odts_allocated, room_made, entries_allocated}

@@ -1,45 +1,47 @@
 // What the protocol's numbers mean: commands, their fewest bytes and locks, the reasons of a refusal, the
 // number of each answer. Values only.
+#![tactic(auto)]
+
 pub mod commands;
 pub mod numbers;
 pub mod reasons;
 
 // What a lock guards.
-#[derive(Drop)]
+#[derive(Clone, Copy)]
 pub enum Resource {
     Calibration,
     Lists,
 }
 
 // Extension 0 and extension 1.
-#[derive(Drop)]
+#[derive(Clone, Copy)]
 pub enum Extension {
     Calibration,
     Measured,
 }
 
 // The transfer address.
-#[derive(Drop)]
+#[derive(Clone, Copy)]
 pub enum Mta {
     Unset,
     At(Extension, u32),
 }
 
 // The entry that WRITE_DAQ writes next.
-#[derive(Drop)]
+#[derive(Clone, Copy)]
 pub enum Pointer {
     Unset,
     At { list: u8, odt: u8, entry: u8 },
 }
 
 // The resource of the seed that is out; its value is the generator's state.
-#[derive(Drop)]
+#[derive(Clone, Copy)]
 pub enum Seed {
     None,
     For(Resource),
 }
 
-#[derive(Drop)]
+#[derive(Clone, Copy)]
 pub enum Command {
     Unknown,
     Connect,
@@ -69,14 +71,14 @@ pub enum Command {
 }
 
 // The lock that must be open for a command.
-#[derive(Drop)]
+#[derive(Clone, Copy)]
 pub enum Needs {
     Nothing,
     Unlocked(Resource),
 }
 
 // Why a command is refused.
-#[derive(Drop)]
+#[derive(Clone, Copy)]
 pub enum Reason {
     Unknown,
     TooShort,
@@ -93,7 +95,7 @@ pub enum Reason {
 }
 
 // What a received byte comes to.
-#[derive(Drop)]
+#[derive(Clone, Copy)]
 pub enum Received {
     Nothing,
     Answered,
@@ -107,7 +109,7 @@ pub enum Received {
 }
 
 // What an event comes to.
-#[derive(Drop)]
+#[derive(Clone, Copy)]
 pub enum Evented {
     Done { sampled: u8, missed: u8 },
     BadEvent,
@@ -115,7 +117,7 @@ pub enum Evented {
 }
 
 // What a slot comes to.
-#[derive(Drop)]
+#[derive(Clone, Copy)]
 pub enum Slotted {
     Idle,
     Sent { size: usize },
@@ -123,7 +125,7 @@ pub enum Slotted {
     NoState,
 }
 
-#[derive(Drop)]
+#[derive(Clone, Copy)]
 pub enum PoweredUp {
     Done,
     NoState,

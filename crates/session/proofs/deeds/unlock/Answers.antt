@@ -1,0 +1,10 @@
+use mathlib.Core.Path.{◌∙◌}
+use Rattle.model.specs.Answers.{reply_in}
+use Rattle.model.specs.View.{session_of}
+use Rattle.session.specs.Perform.{effect}
+use Rattle.session.proofs.Masks.{unlocked_mask}
+use Rattle.session.proofs.deeds.unlock.Goals as goal
+
+pub returns : goal.returns
+unfolding effect reply_in session_of
+returns c = c.two.ensures ∙ rw (c.mask-mask.ensures, c.set_seed.ensures, c.unlock.ensures, unlocked_mask c.args.s.now c.args.resource c.requires)

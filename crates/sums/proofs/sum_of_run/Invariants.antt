@@ -1,0 +1,10 @@
+use Rattle.std.proofs.Common.{◌-◌, ◌≤◌}
+use Rattle.sums.specs.Run.{run_words}
+use Rattle.sums.proofs.InLanes.{Lanes}
+use Rattle.sums.proofs.sum_of_run.Given as goal
+
+abbrev pub invariant-loop-i : goal.invariant-loop-i
+invariant-loop-i l = (l.i ≤ run_words) × Lanes l.part l.i l.evens l.uppers
+
+abbrev pub decreases-loop-i : goal.decreases-loop-i
+decreases-loop-i l = run_words - l.i
