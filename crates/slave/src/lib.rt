@@ -1,6 +1,8 @@
-// The C interface: thin functions over lent bytes. Each is one call of the session and one number:
+// The C interface: thin functions over lent bytes, which the crate slave_c exports. Each is one call of the session and one number:
 // 65,536 times the paper's number, plus a slot's size, or 256 times the sampled lists plus the missed,
 // or 2^32 times the bytes taken of a slice.
+#![tactic(auto)]
+
 ghost use Rattle.std.specs.Prelude.{◌≡◌, ◌+◌, ◌*◌};
 ghost use Rattle.state.specs.Layout.{size};
 ghost use Rattle.session.specs.Receive.{receive_of};
@@ -69,49 +71,37 @@ fn powered_up(r: PoweredUp) -> u32
     }
 }
 
-#[unsafe(no_mangle)]
-pub extern "C" fn xcp_power_up(state: &mut [u8], start: u32) -> u32
+pub fn xcp_power_up(state: &mut [u8], start: u32) -> u32
     ensures { PowersUpC (power_up_of state.old start) result state.new }
 {
     powered_up(session::power_up(state, start))
 }
 
-#[unsafe(no_mangle)]
-pub extern "C" fn xcp_receive_byte(state: &mut [u8], cal: &mut [u8], meas: &[u8], byte: u8) -> u32
+pub fn xcp_receive_byte(state: &mut [u8], cal: &mut [u8], meas: &[u8], byte: u8) -> u32
     ensures { ReceivesC (receive_of state.old cal.old meas.now byte) result state.new cal.new }
 {
     received(session::receive_byte(state, cal, meas, byte))
 }
 
-#[unsafe(no_mangle)]
-pub extern "C" fn xcp_receive(state: &mut [u8], cal: &mut [u8], meas: &[u8], bytes: &[u8]) -> u64
+pub fn xcp_receive(state: &mut [u8], cal: &mut [u8], meas: &[u8], bytes: &[u8]) -> u64
     ensures { TakesC (receive_bytes_of state.old cal.old meas.now bytes.now) result state.new cal.new }
 {
     took(session::receive_bytes(state, cal, meas, bytes))
 }
 
-#[unsafe(no_mangle)]
-pub extern "C" fn xcp_event(
-    state: &mut [u8],
-    cal: &[u8],
-    meas: &[u8],
-    event: u32,
-    clock: u16,
-) -> u32
+pub fn xcp_event(state: &mut [u8], cal: &[u8], meas: &[u8], event: u32, clock: u16) -> u32
     ensures { HappensC (event_of state.old cal.now meas.now event clock) result state.new }
 {
     evented(session::event(state, cal, meas, event, clock))
 }
 
-#[unsafe(no_mangle)]
-pub extern "C" fn xcp_slot(state: &mut [u8], out: &mut [u8]) -> u32
+pub fn xcp_slot(state: &mut [u8], out: &mut [u8]) -> u32
     ensures { SendsC (slot_of state.old out.old) result state.new out.new }
 {
     slotted(session::slot(state, out))
 }
 
-#[unsafe(no_mangle)]
-pub extern "C" fn xcp_state_size() -> u32
+pub fn xcp_state_size() -> u32
     ensures { result ≡ size }
 {
     session::state_size() as u32
