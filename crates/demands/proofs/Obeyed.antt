@@ -96,7 +96,7 @@ module _ (s : List ℕ) (b : ℕ) (c : consistent s ≡ true) (w : Bytes s) (low
   does_shown d p cal meas does =
       ap (λ (x : Deed). shown (after x (read_by s b) cal meas) (written x p cal)) (does_judged s cal meas b d p does) ∙ command_done p cal meas (ended_bytes p does.ended)
 
-  taken_by : {o : Step} {x : Option Deed} (p cal meas : List ℕ) → packet_ended s b ≡ some p → received_number o.received ≡ 1 → Reads s cal meas b o x → shown o.state o.cal ≡ command_in p (session_of s) cal meas
+  taken_by : (p cal meas : List ℕ) {o : Step} {x : Option Deed} → packet_ended s b ≡ some p → received_number o.received ≡ 1 → Reads s cal meas b o x → shown o.state o.cal ≡ command_in p (session_of s) cal meas
   taken_by p cal meas e one (rests r n few) = absurd (n one)
   taken_by p cal meas e one (acts d q does) =
       let same : q ≡ p = some_same (sym does.ended ∙ e) in

@@ -1,5 +1,5 @@
 -- A slice is the byte call repeated, however the wire is cut. Assumes nothing.
-use Prim.Native.Nat.{ℕ, zero, suc, ◌+◌, ◌≤◌}
+use Prim.Native.Nat.{ℕ, zero, suc, ◌≤◌}
 use mathlib.Core.Path.{◌≡◌, refl, sym, ap, subst, ◌∙◌}
 use mathlib.Core.Bool.{Bool, true, false, cond}
 use mathlib.Core.List.{List, [], ◌∷◌, ◌++◌}
@@ -16,8 +16,8 @@ use Rattle.fields.proofs.Kept.{receive_kept}
 use Rattle.words.specs.Number.{received_number}
 use Rattle.words.specs.declared.Received.TheVariants.{Nothing, NoState}
 use Rattle.demands.specs.Slave.{AnySlave, ours}
-use Rattle.demands.specs.Runs.{Call, Byte, run}
-use Rattle.demands.specs.Slices.{SliceCall, Repeated, before, repeated, by_bytes, told_of, told, Drained, behind, drained, BySlices, TakesSlices}
+use Rattle.demands.specs.Runs.{run}
+use Rattle.demands.specs.Slices.{SliceCall, Repeated, before, repeated, by_bytes, told_of, told, Drained, drained, BySlices, TakesSlices}
 
 -- ---- one byte in a consistent state
 byte_so : (s cal meas : List ℕ) (b : ℕ) → consistent s ≡ true → receive_of s cal meas b ≡ received_by (fed_of s b) s cal meas

@@ -1,10 +1,9 @@
 -- What ties a slave to our own bytes: each call leaves just what the definitions say, in every byte of the state. From this, with the first demand, it
 -- follows that a slave that meets it is ours, in every call; no sentence of the letter asks for it by itself.
 use Rattle.std.specs.Prelude.{ℕ, ◌≤◌, ◌<◌, ◌*◌, ◌≡◌, ◌≢◌, true, List, length}
-use Rattle.line.specs.Message.{room, frame}
+use Rattle.line.specs.Message.{room}
 use Rattle.state.specs.Layout.{size, sample_size, sample_at}
 use Rattle.state.specs.State.{consistent}
-use Rattle.model.specs.Model.{byte}
 use Rattle.model.specs.View.{session_of, view_of}
 use Rattle.demands.specs.Slave.{AnySlave}
 use Rattle.demands.specs.Waiting.{SameOutside}
@@ -17,7 +16,6 @@ use Rattle.session.specs.PowerUp.{powered}
 use Rattle.model.specs.declared.Sampling.TheVariants.{Sampled}
 use Rattle.model.specs.Calls.{turn_in, sampling_in}
 use Rattle.model.specs.Whole.{counted_in}
-use Rattle.demands.specs.Runs.{run, sends}
 
 -- the bytes of t in which the packets of list l are stored, which s has
 abbrev pub stores_of : List ℕ → List ℕ → ℕ → List ℕ

@@ -1,7 +1,7 @@
 -- While calibration is locked no calibration byte changes.
 use Rattle.std.specs.Prelude.{ℕ, ◌≡◌, true, false, Bool, cond, List}
 use Rattle.state.specs.State.{consistent}
-use Rattle.model.specs.Model.{byte, Session}
+use Rattle.model.specs.Model.{Session}
 use Rattle.model.specs.View.{session_of}
 use Rattle.demands.specs.Slave.{AnySlave}
 use Rattle.demands.specs.Life.{Device, Moment, lived, OfBytes}

@@ -1,7 +1,6 @@
 -- Seeds and keys: the right key to the seed last given opens its lock, and nothing else opens one.
 use Rattle.std.specs.Prelude.{ℕ, ◌<◌, ◌+◌, ◌%◌, ◌^◌, ◌≡◌, true, false, List, [], ◌∷◌, ◌++◌, length, take, drop}
 use Rattle.state.specs.State.{consistent, bit_of}
-use Rattle.model.specs.Model.{byte}
 use Rattle.model.specs.View.{session_of, view_of}
 use Rattle.demands.specs.Slave.{AnySlave}
 use Rattle.demands.specs.Heard.{Commands, brings_key, key_matches}

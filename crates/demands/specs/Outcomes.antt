@@ -1,6 +1,6 @@
 -- Any bytes, at any moment, with any lent memory, get a defined outcome and never a fault. No entry point leans on its caller.
 use Rattle.std.specs.Prelude.{ℕ, ◌≤◌, ◌<◌, ◌≡◌, ◌≢◌, true, false, List, length}
-use Rattle.line.specs.Message.{room, longest, frame}
+use Rattle.line.specs.Message.{room}
 use Rattle.state.specs.Layout.{size}
 use Rattle.state.specs.State.{consistent}
 use Rattle.words.specs.Number.{received_number, evented_number, slotted_number, powered_up_number}

@@ -1,7 +1,7 @@
 -- The whole pool can be had: after FREE_DAQ, from any state in which lists are unlocked, every allocation of at most 8 lists, 16 ODTs and 128 entries in
 -- all goes through, in any order of the lists and of the ODTs; whatever lists there were, whether they ran, and whatever commands come between that
 -- neither allocate nor free nor start a list nor end or renew the session.
-use Rattle.std.specs.Prelude.{ℕ, ◌+◌, ◌≤◌, ◌<◌, ◌≡◌, ◌⊎◌, true, List, [], ◌∷◌, ◌++◌, map, length}
+use Rattle.std.specs.Prelude.{ℕ, ◌≤◌, ◌<◌, ◌≡◌, ◌⊎◌, true, List, [], ◌∷◌, ◌++◌, map, length}
 use Rattle.words.specs.declared.Resource.TheVariants.{Lists}
 use Rattle.state.specs.State.{consistent}
 use Rattle.model.specs.Model.{byte, Bytes, Session}

@@ -1,5 +1,7 @@
 // The customer's three demands, as theorems over every run of calls. Here each public call of the session
 // is tied to `ours`, the slave of which they are proved.
+#![tactic(auto)]
+
 ghost use Rattle.session.specs.Receive.{Receives};
 ghost use Rattle.lists.specs.Event.{Happens};
 ghost use Rattle.lists.specs.Slot.{Sends};

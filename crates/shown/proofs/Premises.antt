@@ -6,9 +6,8 @@ use mathlib.Core.Bool.{true}
 use mathlib.Core.Option.{Option, none, some}
 use mathlib.Core.List.{List, [], ◌∷◌, ◌++◌}
 use Rattle.state.specs.State.{consistent}
-use Rattle.model.specs.Model.{byte, has_answer}
+use Rattle.model.specs.Model.{has_answer}
 use Rattle.model.specs.View.{session_of, view_of}
-use Rattle.views.specs.Commands.{two}
 use Rattle.words.specs.declared.Received.TheVariants.{Unread}
 use Rattle.demands.specs.Slave.{ours}
 use Rattle.demands.specs.Runs.{Call}

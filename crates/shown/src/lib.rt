@@ -1,1 +1,2 @@
 // No code: computed runs, in proofs/.
+#![tactic(auto)]
