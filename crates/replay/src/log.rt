@@ -6,9 +6,10 @@ ghost use Rattle.replay.specs.Text.{line_room};
 use crate::record::LONGEST_BODY;
 use crate::{record, run};
 use session::STATE_SIZE;
+use std::io::{Read, Stdin};
 
 // How many records of the log were run, and how many bytes they have.
-#[derive(Drop)]
+#[derive(Clone, Copy)]
 struct Far {
     records: u64,
     bytes: u64,
@@ -25,7 +26,7 @@ impl Far {
 }
 
 // Whether there is more to read, how many bytes of a record are kept for it, and what was run.
-#[derive(Drop)]
+#[derive(Clone, Copy)]
 enum Progress {
     Over,
     On { kept: usize, far: Far },
@@ -68,13 +69,14 @@ fn say_none(far: Far) {
 
 // Reads once, after the kept bytes, and answers how many bytes there are then. A read error counts
 // as end of input.
-fn read_after(input: &mut [u8], kept: usize) -> usize
+fn read_after(stdin: &mut Stdin, input: &mut [u8], kept: usize) -> usize
     requires { kept ≤ length input.old }
     ensures { (kept ≤ result) × (result ≤ length input.old) }
 {
-    let part = &mut input[kept..];
-    let got = libc::read(0, part);
-    kept + io::count(got, part)
+    match stdin.read(&mut input[kept..]) {
+        Ok(got) => kept + got,
+        Err(_) => kept,
+    }
 }
 
 // Moves the bytes from..end to the front and answers how many they are.
@@ -93,6 +95,7 @@ fn keep(input: &mut [u8], from: usize, end: usize) -> usize
 
 // One read, and the records that are then whole.
 fn take_chunk(
+    stdin: &mut Stdin,
     input: &mut [u8],
     kept: usize,
     far: Far,
@@ -104,7 +107,7 @@ fn take_chunk(
     requires { (kept ≤ length input.old) × (line_room ≤ length output.old) }
     ensures { Keeps (length input.old) result }
 {
-    let end = read_after(input, kept);
+    let end = read_after(stdin, input, kept);
     if end == kept {
         // What is left of the input is a cut record.
         if 0 < kept {
@@ -129,7 +132,12 @@ fn take_chunk(
 
 // Replays the whole log. Nothing says that input ends, and a proved loop has to: it counts its
 // reads, of at least a byte each, down from a number that no log uses up.
-pub fn replay(state: &mut [u8; STATE_SIZE], cal: &mut [u8; 4096], meas: &mut [u8; 4096]) {
+pub fn replay(
+    stdin: &mut Stdin,
+    state: &mut [u8; STATE_SIZE],
+    cal: &mut [u8; 4096],
+    meas: &mut [u8; 4096],
+) {
     let mut input = io::large_buffer();
     let mut output = io::large_buffer();
     let mut kept = 0;
@@ -139,7 +147,7 @@ pub fn replay(state: &mut [u8; STATE_SIZE], cal: &mut [u8; 4096], meas: &mut [u8
     };
     let mut reads = u64::MAX;
     while 0 < reads {
-        let progress = take_chunk(&mut input, kept, far, state, cal, meas, &mut output);
+        let progress = take_chunk(stdin, &mut input, kept, far, state, cal, meas, &mut output);
         match progress {
             Progress::Over => return,
             Progress::On { kept: k, far: f } => {

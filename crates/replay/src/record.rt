@@ -10,7 +10,7 @@ pub const LONGEST_BODY: usize = 256;
 
 const MEMORY: usize = 4096;
 
-#[derive(Drop)]
+#[derive(Clone, Copy)]
 pub enum Record {
     // The bytes end where a record would begin.
     End,

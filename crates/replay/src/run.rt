@@ -14,7 +14,7 @@ use words::Slotted;
 const LINE: usize = 3 * ROOM + 2;
 
 // How far the records of a chunk were run, how many they were, and how much of the output they fill.
-#[derive(Drop)]
+#[derive(Clone, Copy)]
 pub struct Ran {
     pub at: usize,
     pub count: usize,

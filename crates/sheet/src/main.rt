@@ -1,5 +1,7 @@
 // Runs a bench sheet against the slave, as a tool at the other end of the wire would. The sheet
 // comes by standard input; for each step it prints what came, and whether that was expected.
+#![tactic(auto)]
+
 mod bytes;
 mod keys;
 mod run;

@@ -4,7 +4,7 @@ ghost use Rattle.sheet.specs.Tool.{one_more, first_of, differing, fresh, next_li
 
 use syntax::Case;
 
-#[derive(Drop)]
+#[derive(Clone, Copy)]
 pub struct Tool {
     // Of its next message.
     pub ctr: u8,
