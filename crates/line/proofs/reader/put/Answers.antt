@@ -15,9 +15,6 @@ returns-then-byte-gt-MOST_U8 c = does_so (put_len c.args.k c.args.message.now c.
 pub returns-then-k-lt-WIDTH : goal.returns-then-k-lt-WIDTH
 returns-then-k-lt-WIDTH c = does_so (put_len c.args.k c.args.message.now c.args.byte c.if-k-lt-WIDTH.true c.requires.0 ∙ simp (begun_right byte_form byte_form.width c.args.byte (omega (arith, c.if-byte-eq0.false)) c.if-byte-gt-MOST_U8.false (omega arith))) (record { result = refl; bytes = refl })
 
-pub overflow_cast-len : goal.overflow_cast-len
-overflow_cast-len c = omega (arith, c.slice_known-2-1.given 0)
-
 pub bounds-message-k : goal.bounds-message-k
 bounds-message-k c = omega (arith, put_within c.args.k (len_in byte_form c.args.message.now) c.requires.1)
 

@@ -16,7 +16,7 @@ pub overflow_cast-len : goal.overflow_cast-len
 overflow_cast-len c = omega (arith, good-where _ _ _ _ _ _ (ap (λ (t : Taken). t.outcome) (sym c.take-taken.ensures.result) ∙ c.in-Good.is))
 
 pub heed-requires : goal.heed-requires
-heed-requires c = let g = good-where _ _ _ _ _ _ (ap (λ (t : Taken). t.outcome) (sym c.take-taken.ensures.result) ∙ c.in-Good.is) in (c.set_place-2.auto.s ∙ c.s-1.given.1 ∙ c.requires, g.1, g.2)
+heed-requires c = let g = good-where _ _ _ _ _ _ (ap (λ (t : Taken). t.outcome) (sym c.take-taken.ensures.result) ∙ c.in-Good.is) in (omega (arith, c.set_place-2.auto.s, c.requires), g.1, g.2)
 
 pub returns-in-Nothing-outcome : goal.returns-in-Nothing-outcome
 unfolding meant

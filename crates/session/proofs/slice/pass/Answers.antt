@@ -1,3 +1,4 @@
+use Rattle.std.proofs.Common.{rules}
 use Prim.Native.Nat.{ℕ, ◌+◌, ◌<◌}
 use mathlib.Core.Path.{refl, sym, ap, subst, ◌∙◌}
 use mathlib.Core.List.{List}
@@ -18,7 +19,7 @@ pub reads-tag-requires : goal.reads-tag-requires
 reads-tag-requires c = c.requires.0
 
 pub loop-i-init : goal.loop-i-init
-loop-i-init c = (omega arith, refl, subst (λ (y : ℕ). Stands c.args.s.now y (get_or c.args.s.now count_at 0)) (sym c.reads-tag.ensures) (stands_so c.args.s.now (get_or c.args.s.now place_at 0) (get_or c.args.s.now count_at 0) c.requires.0), subst (λ (y : ℕ). Leads c.args.bytes.now c.args.s.now 0 (placed c.args.s.now y (get_or c.args.s.now count_at 0)) 0) (sym c.reads-tag.ensures) (leads_start c.args.bytes.now c.args.s.now (get_or c.args.s.now place_at 0) (get_or c.args.s.now count_at 0) c.requires.0 (omega (arith, c.if-n-eq0.false)) refl refl), omega (arith, c.slice_known-2-1.given count_at))
+loop-i-init c = (omega arith, refl, subst (λ (y : ℕ). Stands c.args.s.now y (get_or c.args.s.now count_at 0)) (sym c.reads-tag.ensures) (stands_so c.args.s.now (get_or c.args.s.now place_at 0) (get_or c.args.s.now count_at 0) c.requires.0), subst (λ (y : ℕ). Leads c.args.bytes.now c.args.s.now 0 (placed c.args.s.now y (get_or c.args.s.now count_at 0)) 0) (sym c.reads-tag.ensures) (leads_start c.args.bytes.now c.args.s.now (get_or c.args.s.now place_at 0) (get_or c.args.s.now count_at 0) c.requires.0 (omega (arith, c.if-n-eq0.false)) refl refl), search rules)
 
 pub skip-i-requires : goal.skip-i-requires
 skip-i-requires c = (c.loop-i.invariant.0, refl)
@@ -72,7 +73,7 @@ pub loop-i-smaller : goal.loop-i-smaller
 loop-i-smaller c = omega (arith, c.if-i-n.false, c.run-went.ensures.0, c.room-most.ensures.0, c.skip-i.ensures.most, c.skip-i.ensures.begun, c.requires.1)
 
 pub loop-i-preserved : goal.loop-i-preserved
-loop-i-preserved c = ((omega (arith, c.if-i-n.false, c.run-went.ensures.0, c.room-most.ensures.0, c.skip-i.ensures.most)), c.step-at.auto.s ∙ c.run-went.auto.s ∙ c.loop-i.invariant.1, (c.step-at.ensures.went c.if-at-eq-ENDS.false).1, leads_on c.args.bytes.now c.args.s.now (placed c.run-went.new.s c.loop-i.tag (c.loop-i.k + c.run-went.result)) _ 0 (c.skip-i.result + c.run-went.result) _ (leads_on c.args.bytes.now c.args.s.now (placed c.loop-i.s c.loop-i.tag c.loop-i.k) (placed c.run-went.new.s c.loop-i.tag (c.loop-i.k + c.run-went.result)) 0 c.loop-i.i (c.skip-i.result + c.run-went.result) c.loop-i.invariant.3 (leads_on c.args.bytes.now (placed c.loop-i.s c.loop-i.tag c.loop-i.k) (placed c.loop-i.s c.loop-i.tag c.loop-i.k) (placed c.run-went.new.s c.loop-i.tag (c.loop-i.k + c.run-went.result)) c.loop-i.i c.skip-i.result (c.skip-i.result + c.run-went.result) (c.skip-i.ensures.leads c.loop-i.s c.loop-i.k (c.loop-i.invariant.1 ∙ c.requires.0)) (run_leads c.args.bytes.now c.loop-i.s c.run-went.new.s c.loop-i.tag c.loop-i.k c.skip-i.result c.room-most.result c.run-went.result c.loop-i.invariant.2 c.room-most.ensures.1 c.run-went.ensures.0 c.run-went.ensures.1).0)) (leads_one c.args.bytes.now (placed c.run-went.new.s c.loop-i.tag (c.loop-i.k + c.run-went.result)) _ (c.skip-i.result + c.run-went.result) (omega (arith, c.if-i-n.false, c.run-went.ensures.0, c.room-most.ensures.0, c.skip-i.ensures.most)) (c.step-at.ensures.went c.if-at-eq-ENDS.false).0), omega (arith, c.struct_known-1.given.1))
+loop-i-preserved c = ((omega (arith, c.if-i-n.false, c.run-went.ensures.0, c.room-most.ensures.0, c.skip-i.ensures.most)), c.step-at.auto.s ∙ c.run-went.auto.s ∙ c.loop-i.invariant.1, (c.step-at.ensures.went c.if-at-eq-ENDS.false).1, leads_on c.args.bytes.now c.args.s.now (placed c.run-went.new.s c.loop-i.tag (c.loop-i.k + c.run-went.result)) _ 0 (c.skip-i.result + c.run-went.result) _ (leads_on c.args.bytes.now c.args.s.now (placed c.loop-i.s c.loop-i.tag c.loop-i.k) (placed c.run-went.new.s c.loop-i.tag (c.loop-i.k + c.run-went.result)) 0 c.loop-i.i (c.skip-i.result + c.run-went.result) c.loop-i.invariant.3 (leads_on c.args.bytes.now (placed c.loop-i.s c.loop-i.tag c.loop-i.k) (placed c.loop-i.s c.loop-i.tag c.loop-i.k) (placed c.run-went.new.s c.loop-i.tag (c.loop-i.k + c.run-went.result)) c.loop-i.i c.skip-i.result (c.skip-i.result + c.run-went.result) (c.skip-i.ensures.leads c.loop-i.s c.loop-i.k (c.loop-i.invariant.1 ∙ c.requires.0)) (run_leads c.args.bytes.now c.loop-i.s c.run-went.new.s c.loop-i.tag c.loop-i.k c.skip-i.result c.room-most.result c.run-went.result c.loop-i.invariant.2 c.room-most.ensures.1 c.run-went.ensures.0 c.run-went.ensures.1).0)) (leads_one c.args.bytes.now (placed c.run-went.new.s c.loop-i.tag (c.loop-i.k + c.run-went.result)) _ (c.skip-i.result + c.run-went.result) (omega (arith, c.if-i-n.false, c.run-went.ensures.0, c.room-most.ensures.0, c.skip-i.ensures.most)) (c.step-at.ensures.went c.if-at-eq-ENDS.false).0), search rules)
 
 pub settle-requires-2 : goal.settle-requires-2
 settle-requires-2 c = (c.loop-i.invariant.1 ∙ c.requires.0)
