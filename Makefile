@@ -35,5 +35,5 @@ install:
 	@tools/install
 
 clean:
-	rm -rf build target compare/*/target compare/*/Cargo.lock
+	rm -rf build target crates/*/out compare/*/target compare/*/Cargo.lock
 	find . -name __pycache__ -type d -prune -exec rm -rf {} +
