@@ -21,7 +21,9 @@ DECLARED = re.compile(
     r"^( *)((?:(?:pub|abbrev|unfoldable|opaque|data|record)\s+)*)([^\s(){}:.]+(?: [^\s(){}:.]+)*)"
     r"((?: \{[^{}]*\}| \([^()]*(?:\([^()]*\)[^()]*)*\))*) : (.*)$"
 )
-LET = re.compile(r"\b(?:let|λ|in|then|else|where|use)\b")
+LET = re.compile(r"(?:^|\s)(?:let|λ|in|then|else|where|use)(?:\s|$)")
+WALKS = ("/Proof.antt", "/Answers.antt", "/Invariants.antt")
+ALIAS = re.compile(r"(?m)^use \S+ as ([a-z]\S*)$")
 
 
 def snake(name):
@@ -37,12 +39,14 @@ def declared(top):
     """Each declared name, with the files that declare it and whether a specs/ file does, or an abbrev, data or record."""
     found = collections.defaultdict(lambda: [set(), False])
     for path in antt(top):
-        of_walk = path.endswith("/Proof.antt")
-        for line in open(path, encoding="utf-8"):
+        with open(path, encoding="utf-8") as f:
+            text = f.read()
+        for line in text.splitlines():
             m = DECLARED.match(line)
             if not m or line.lstrip().startswith("--") or LET.search(m[3]):
                 continue
-            if of_walk and ("tie." in m[5] or "statement" in m[5]):
+            # A function's own proof has the names of its goals, which are the prover's.
+            if path.endswith(WALKS) and re.search(r"\b(?:tie|goal)\.|statement", m[5]):
                 continue
             for name in m[3].split():
                 found[name][0].add(path)
@@ -119,15 +123,22 @@ def main(argv):
     code = glob.glob(f"{top}/crates/*/src/**/*.rt", recursive=True)
     for path in antt(top) + sorted(code) + sorted(p for p in edits if os.path.isfile(p)) + sorted(pages):
         with open(path, encoding="utf-8") as f:
-            text = f.read()
+            before = text = f.read()
         if path.endswith(".antt"):
+            # What a module is called in one file; where a word there has that name, the module is what one reads there.
+            words = set(NAME.findall(text))
+            for alias in ALIAS.findall(text):
+                plainly = snake(alias)
+                if plainly != alias:
+                    plainly += "_reads" * (plainly in words | {new_of.get(it, it) for it in words})
+                    text = re.sub(rf"(?<![^\s(){{}},;.]){re.escape(alias)}(?![^\s(){{}},;.])", plainly, text)
             scoped = imports(text) | {n for n, (files, _) in found.items() if path in files}
-            new = spelled(text, scoped, path.endswith("/Proof.antt"))
+            new = spelled(text, scoped, path.endswith(WALKS))
         elif path.endswith(".md"):
             new = re.sub(r"`[^`\n]+`", lambda m: spelled(m[0], set()), text)
         else:
             new = spelled(text, set())
-        if new != text:
+        if new != before:
             changed += 1
             with open(path, "w", encoding="utf-8") as f:
                 f.write(new)

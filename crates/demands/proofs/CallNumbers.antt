@@ -42,7 +42,7 @@ use Rattle.views.specs.OnTheLine.{Comes, Quiet, Whole, Lost}
 use Rattle.views.proofs.FaultWords.{at_most}
 use Rattle.views.proofs.Listed.{listed}
 use Rattle.views.proofs.Receiving.{message_long}
-use Rattle.views.proofs.EventLaws.{event-leaves-in}
+use Rattle.views.proofs.EventLaws.{event_leaves_in}
 use Rattle.views.proofs.OnTheLine.{Agrees, quiet, whole, bad_length, bad_escape, bad_checksum, cut_off, agrees}
 use Rattle.demands.specs.Slave.{ours}
 use Rattle.demands.specs.Runs.{SendingSlot, frame_sent, sends}
@@ -223,7 +223,7 @@ eight_lists_lem s test = omega (arith, few_lists (session_of s).lists test, list
 event_told : (s cal meas : List ℕ) (number clock : ℕ) → consistent s ≡ true → number ≤ 1
     → EventTells (ours.event s cal meas number clock).evented 0 (256 * how_many_of (session_of s) (takes_sample (session_of s) number) + how_many_of (session_of s) (misses_sample (session_of s) number))
 event_told s cal meas number clock c h =
-    let e = tells_counts_lem s cal meas number clock c h ∙ (event-leaves-in (session_of s) (listed s) number clock cal meas).told in
+    let e = tells_counts_lem s cal meas number clock c h ∙ (event_leaves_in (session_of s) (listed s) number clock cal meas).told in
     event_tells _ _ _ (ap evented_number e) (ap evented_value e)
 
 -- ---- a slot

@@ -34,7 +34,7 @@ use Rattle.model.specs.Answers.{reply_in}
 use Rattle.model.specs.View.{session_of}
 use Rattle.fields.proofs.Frames.{only_generator, only_seed, only_mta}
 use Rattle.views.specs.Locked.{ends_session}
-use Rattle.views.proofs.Parts.{in-generator, in-seed, in-mta}
+use Rattle.views.proofs.Parts.{in_generator, in_seed, in_mta}
 use Rattle.views.proofs.Fit.{Fit, entry_low}
 use Rattle.views.proofs.Effect.{session_effect}
 use Rattle.views.proofs.Coded.{Coded, coded}
@@ -170,11 +170,11 @@ module _ (p t cal meas : List ℕ) (h : length t ≡ size) where
   given r e =
       let u : List ℕ = set_generator t (next_of (generator_of t)) in
       let is : session_of (set_seed u (For r)) ≡ with_seed (with_generator c (generator_of u)) (seed_of (set_seed u (For r))) =
-      in-seed (only_seed u (For r)) ∙ ap (λ (x : Session). with_seed x (seed_of (set_seed u (For r)))) (in-generator (only_generator t (next_of (generator_of t)))) in
+      in_seed (only_seed u (For r)) ∙ ap (λ (x : Session). with_seed x (seed_of (set_seed u (For r)))) (in_generator (only_generator t (next_of (generator_of t)))) in
       subst (Leaves p (reply_in (deed.GiveSeed r) c cal meas) c) (sym is) (seeds p _ c (generator_of u) (seed_of (set_seed u (For r))) e)
 
   moved : (m : Mta) (a : List ℕ) → changes_mta p a ≡ true → Leaves p a c (session_of (set_mta t m))
-  moved m a e = subst (Leaves p a c) (sym (in-mta (only_mta t m))) (places p a c (mta_of (set_mta t m)) e)
+  moved m a e = subst (Leaves p a c) (sym (in_mta (only_mta t m))) (places p a c (mta_of (set_mta t m)) e)
 
   by_verdict : (x : Command) (d : Deed) → Coded (byte p 0) x → Verdict (numbers_of p) (seen_in (u16_at p 2) (byte p 4) c) (length cal) (length meas) x d
       → Doable d c (length p) (length cal) (length meas) → Left d

@@ -20,7 +20,7 @@ use Rattle.demands.specs.Slave.{ours}
 use Rattle.demands.specs.Runs.{Call, Byte, Event, SendingSlot, Elsewhere, after_call, run, sends, each, frames}
 use Rattle.demands.specs.Heard.{stops_at}
 use Rattle.demands.specs.Waiting.{waiting_answer, waiting_of, is_answer, is_of, carried, answers_in}
-use Rattle.demands.specs.Kept.{accepts, gains, goes as goesOf, NothingLost}
+use Rattle.demands.specs.Kept.{accepts, gains, goes as goes_of, NothingLost}
 use Rattle.demands.proofs.Reached.{after_kept}
 use Rattle.demands.proofs.Turns.{Fair, nobody, answer, list, fair}
 use Rattle.demands.proofs.Sends.{next_low, turned, frames_of, slot_shows, slot_stays, slot_sends, slot_silent}
@@ -100,7 +100,7 @@ stopped_or_kept : (t : Bool) (w : List (List ℕ)) → cond t w [] ++ cond t [] 
 stopped_or_kept true w = refl
 stopped_or_kept false w = sym (append-nil w)
 
-packets_step : (l : ℕ) (s : List ℕ) (c : Call) → consistent s ≡ true → goesOf ours l s c ++ waiting_of (after_call ours s c) l ≡ waiting_of s l ++ gains l s c
+packets_step : (l : ℕ) (s : List ℕ) (c : Call) → consistent s ≡ true → goes_of ours l s c ++ waiting_of (after_call ours s c) l ≡ waiting_of s l ++ gains l s c
 unfolding view_of
 packets_step l s (Byte cal meas b) h = rw (byte_waiting s cal meas b h l) (stopped_or_kept (stops_at l s cal meas b) (waiting_of s l))
 packets_step l s (Event cal meas event clock) h = event_waiting s cal meas event clock l h
@@ -111,5 +111,5 @@ pub nothing_lost_lem : NothingLost ours
 nothing_lost_lem =
     record {
       answers = λ s cs h. rw (answers_each s cs) (balanced waiting_answer (λ (t : List ℕ) (c : Call). answers_in (sends ours t c)) (accepts ours) answers_step s cs h);
-      packets = λ s l cs h. balanced (λ (t : List ℕ). waiting_of t l) (goesOf ours l) (gains l) (packets_step l) s cs h;
+      packets = λ s l cs h. balanced (λ (t : List ℕ). waiting_of t l) (goes_of ours l) (gains l) (packets_step l) s cs h;
     }

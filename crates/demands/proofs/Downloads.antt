@@ -97,7 +97,7 @@ wrote : (p : List ℕ) (c : Session) (cal meas : List ℕ) (a from : ℕ) → Lo
 wrote p c cal meas a from r =
     let n : ℕ = byte p 1 in
     let xs : List ℕ = block p from n in
-    let n-there : n + from ≤ length p = r.there in
+    let n_there : n + from ≤ length p = r.there in
     let long : length xs ≡ n = block_length p from n (omega arith) in
     let inside : inside_of a n (length cal) ≡ true = subst (λ (x : ℕ). inside_of x n (length cal) ≡ true) r.to r.inside in
     let within : a + n ≤ length cal = (inside_le a n (length cal) inside).0 in

@@ -23,7 +23,7 @@ use Rattle.state.proofs.Consistent.{consistent_size}
 use Rattle.fields.proofs.Frames.{Only, only_none, only_wider}
 use Rattle.fields.proofs.Readers.{Same, apart, same_block, answer_reads}
 use Rattle.fields.proofs.Captures.{only_event}
-use Rattle.views.proofs.Parts.{in-lists}
+use Rattle.views.proofs.Parts.{in_lists}
 use Rattle.views.proofs.Waits.{sampled_free, sampled_empty, event_odts, event_waits}
 use Rattle.views.proofs.Happening.{view_event, event_session}
 use Rattle.demands.specs.Slave.{ours}
@@ -127,4 +127,4 @@ event_numbers s cal meas event clock c = go (ltb 1 event) refl where
 
 -- of the session the lists alone
 pub event_lists : (s cal meas : List ℕ) (event clock : ℕ) → session_of (event_of s cal meas event clock).state ≡ with_lists (session_of s) (lists_of (event_of s cal meas event clock).state)
-event_lists s cal meas event clock = in-lists (only_wider (lit≤ tt) (lit≤ tt) (only_event s cal meas event clock))
+event_lists s cal meas event clock = in_lists (only_wider (lit≤ tt) (lit≤ tt) (only_event s cal meas event clock))

@@ -100,10 +100,10 @@ module _ (s cal meas : List ℕ) (b : ℕ) (r : Resource) (c : consistent s ≡ 
 
   turned_key : (d : Deed) (p : List ℕ) → Performed s cal meas b d p → Turned d p (session_of s) r → RightKeyEnds s b r
   turned_key d p w k =
-      record { packet = p; command = record { ends = w.ended; opened = open-then (session_of s).opened refl; free = w.free }; seed = k.key.seed; key = k.key.key; right = k.key.right } where
-        open-then : (o : Bool) → (session_of s).opened ≡ o → (session_of s).opened ≡ true
-        open-then true e = e
-        open-then false e = absurd (connect_unlocks r (sym (w.closed e).0 ∙ k.deed))
+      record { packet = p; command = record { ends = w.ended; opened = open_then (session_of s).opened refl; free = w.free }; seed = k.key.seed; key = k.key.key; right = k.key.right } where
+        open_then : (o : Bool) → (session_of s).opened ≡ o → (session_of s).opened ≡ true
+        open_then true e = e
+        open_then false e = absurd (connect_unlocks r (sym (w.closed e).0 ∙ k.deed))
 
   opens_by : {o : Step} {x : Option Deed} → Reads s cal meas b o x → (session_of s).unlocked r ≡ false → (session_of o.state).unlocked r ≡ true → RightKeyEnds s b r
   opens_by (rests q n f) e t = absurd (false_true (sym e ∙ sym (ap (λ (x : Session). x.unlocked r) (read_session s b c)) ∙ t))

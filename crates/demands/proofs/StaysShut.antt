@@ -102,9 +102,9 @@ step_count (AllocOdts l m) c n = refl
 step_count (AllocEntries l o m) c n = refl
 
 -- ---- the count and the seed: none is out once there were three
-few-then : (s : List ℕ) (r : Resource) → (session_of s).seed ≡ For r → (session_of s).wrong_keys < 3
+few_then : (s : List ℕ) (r : Resource) → (session_of s).seed ≡ For r → (session_of s).wrong_keys < 3
 unfolding session_of
-few-then s r e = leb-false 3 (wrong_keys_of s) (seed_few s r e)
+few_then s r e = leb-false 3 (wrong_keys_of s) (seed_few s r e)
 
 pub at_most_three : (s : List ℕ) → (session_of s).wrong_keys ≤ 3
 unfolding session_of
@@ -115,7 +115,7 @@ unfolding session_of
 none_out_lem s e = shut_seedless s (rw e)
 
 no_right_key : (s : List ℕ) (b : ℕ) (r : Resource) → (session_of s).wrong_keys ≡ 3 → RightKeyEnds s b r → ⊥
-no_right_key s b r e k = let few : (session_of s).wrong_keys < 3 = few-then s r k.seed in omega arith
+no_right_key s b r e k = let few : (session_of s).wrong_keys < 3 = few_then s r k.seed in omega arith
 
 -- ---- a byte
 module _ (s cal meas : List ℕ) (b : ℕ) (c : consistent s ≡ true) where
@@ -146,7 +146,7 @@ module _ (s cal meas : List ℕ) (b : ℕ) (c : consistent s ≡ true) where
     not_wrong f e = false_true (sym f ∙ ap (λ (x : Deed). says_wrong p (reply_in x (session_of s) cal meas)) e ∙ says p (session_of s) cal meas (found_wrong e))
 
     wrong_few : d ≡ WrongKey → (session_of s).wrong_keys < 3
-    wrong_few e = let k : Wrong p (session_of s) (session_of s).seed = wrong_by (session_of s).seed p (session_of s) (found_wrong e) in few-then s k.resource k.out
+    wrong_few e = let k : Wrong p (session_of s) (session_of s).seed = wrong_by (session_of s).seed p (session_of s) (found_wrong e) in few_then s k.resource k.out
 
     wrong_more : d ≡ WrongKey → (session_of (after d (read_by s b) cal meas)).wrong_keys ≡ (session_of s).wrong_keys + 1
     unfolding step_in
@@ -266,10 +266,10 @@ tally h start ms e =
     let is : (after_moment ours h (PowerOn start)).state ≡ powered start = power_up_is h.state start e in
     life_tally ms (after_moment ours h (PowerOn start)) 0 (record { sound = rw is (power_consistent start); count = ap (λ (s : List ℕ). (session_of s).wrong_keys) is ∙ power_count start; locked = λ z. absurd (omega arith) })
 
-shut-then : (h : Device) (start : ℕ) (ms later : List Moment) → length h.state ≡ size → wrong_in ours h (PowerOn start ∷ ms) 0 ≡ 3 → PoweredOn later
+shut_then_lem : (h : Device) (start : ℕ) (ms later : List Moment) → length h.state ≡ size → wrong_in ours h (PowerOn start ∷ ms) 0 ≡ 3 → PoweredOn later
     → ((r : Resource) → (session_of (lived ours (lived ours h (PowerOn start ∷ ms)) later).state).unlocked r ≡ false)
     × ((lived ours (lived ours h (PowerOn start ∷ ms)) later).cal ≡ (lived ours h (PowerOn start ∷ ms)).cal)
-shut-then h start ms later e three n =
+shut_then_lem h start ms later e three n =
     let h₁ : Device = lived ours h (PowerOn start ∷ ms) in
     let w : Tally h₁ (wrong_in ours h (PowerOn start ∷ ms) 0) = tally h start ms e in
     let is : Three h₁ = record { sound = w.sound; three = w.count ∙ three } in (
@@ -287,5 +287,5 @@ stays_shut_lem = record {
   opens_none = λ h later r c three n e. opens_none_lem later h r (record { sound = c; three = three }) n e;
   tells = λ h start ms e. (tally h start ms e).count;
   at_most = λ h start ms e. rw (sym (tally h start ms e).count) (at_most_three (lived ours h (PowerOn start ∷ ms)).state);
-  shut_then = shut-then;
+  shut_then = shut_then_lem;
 }

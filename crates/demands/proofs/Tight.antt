@@ -12,31 +12,31 @@ use Rattle.words.specs.declared.Slotted.{Slotted}
 use Rattle.words.specs.declared.PoweredUp.{PoweredUp}
 use Rattle.line.proofs.take.Reads as take
 use Rattle.line.proofs.write.Reads as write
-use Rattle.line.proofs.next_ctr.Reads as next-ctr
-use Rattle.line.proofs.Outcome.number.Reads as outcome-number
-use Rattle.line.proofs.Written.number.Reads as written-number
-use Rattle.session.proofs.power_up.Reads as power-up
-use Rattle.session.proofs.receive_byte.Reads as receive-byte
+use Rattle.line.proofs.next_ctr.Reads as next_ctr_reads
+use Rattle.line.proofs.Outcome.number.Reads as outcome_number
+use Rattle.line.proofs.Written.number.Reads as written_number
+use Rattle.session.proofs.power_up.Reads as power_up_reads
+use Rattle.session.proofs.receive_byte.Reads as receive_byte_reads
 use Rattle.session.proofs.receive_bytes.Reads as receive_bytes
 use Rattle.session.proofs.event.Reads as event
 use Rattle.session.proofs.slot.Reads as slot
-use Rattle.session.proofs.state_size.Reads as state-size
-use Rattle.words.proofs.Received.number.Reads as received-number
-use Rattle.words.proofs.Evented.number.Reads as evented-number
-use Rattle.words.proofs.Slotted.number.Reads as slotted-number
-use Rattle.words.proofs.PoweredUp.number.Reads as powered-up-number
-use Rattle.state.proofs.Generator.new.Reads as generator-new
-use Rattle.state.proofs.Generator.next.Reads as generator-next
-use Rattle.slave.proofs.xcp_power_up.Reads as xcp-power-up
-use Rattle.slave.proofs.xcp_receive_byte.Reads as xcp-receive-byte
-use Rattle.slave.proofs.xcp_receive.Reads as xcp-receive
-use Rattle.slave.proofs.xcp_event.Reads as xcp-event
-use Rattle.slave.proofs.xcp_slot.Reads as xcp-slot
-use Rattle.slave.proofs.xcp_state_size.Reads as xcp-state-size
-use Rattle.demands.proofs.power_up.Reads as our-power-up
-use Rattle.demands.proofs.receive_byte.Reads as our-receive-byte
-use Rattle.demands.proofs.event.Reads as our-event
-use Rattle.demands.proofs.slot.Reads as our-slot
+use Rattle.session.proofs.state_size.Reads as state_size_reads
+use Rattle.words.proofs.Received.number.Reads as received_number
+use Rattle.words.proofs.Evented.number.Reads as evented_number
+use Rattle.words.proofs.Slotted.number.Reads as slotted_number
+use Rattle.words.proofs.PoweredUp.number.Reads as powered_up_number
+use Rattle.state.proofs.Generator.new.Reads as generator_new
+use Rattle.state.proofs.Generator.next.Reads as generator_next
+use Rattle.slave.proofs.xcp_power_up.Reads as xcp_power_up_reads
+use Rattle.slave.proofs.xcp_receive_byte.Reads as xcp_receive_byte_reads
+use Rattle.slave.proofs.xcp_receive.Reads as xcp_receive_reads
+use Rattle.slave.proofs.xcp_event.Reads as xcp_event_reads
+use Rattle.slave.proofs.xcp_slot.Reads as xcp_slot_reads
+use Rattle.slave.proofs.xcp_state_size.Reads as xcp_state_size_reads
+use Rattle.demands.proofs.power_up.Reads as our_power_up
+use Rattle.demands.proofs.receive_byte.Reads as our_receive_byte
+use Rattle.demands.proofs.event.Reads as our_event
+use Rattle.demands.proofs.slot.Reads as our_slot
 use Rattle.demands.specs.Tight.{Tight, TightCall}
 
 -- both are what the inputs alone give
@@ -54,20 +54,20 @@ take_tight l a r r' e e' h h' i = (same h.result h'.result i, same h.bytes h'.by
 pub write_tight : TightCall {O = Written × List ℕ} write.Post (λ l r e. (r, e.1.1.0.now))
 write_tight l a r r' e e' h h' i = (same h.result h'.result i, same h.bytes h'.bytes i)
 
-pub next_ctr_tight : TightCall {O = ℕ} next-ctr.Post (λ l r e. r)
+pub next_ctr_tight : TightCall {O = ℕ} next_ctr_reads.Post (λ l r e. r)
 next_ctr_tight l a r r' e e' h h' = same h h'
 
-pub outcome_number_tight : TightCall {O = ℕ} outcome-number.Post (λ l r e. r)
+pub outcome_number_tight : TightCall {O = ℕ} outcome_number.Post (λ l r e. r)
 outcome_number_tight l a r r' e e' h h' = same h h'
 
-pub written_number_tight : TightCall {O = ℕ} written-number.Post (λ l r e. r)
+pub written_number_tight : TightCall {O = ℕ} written_number.Post (λ l r e. r)
 written_number_tight l a r r' e e' h h' = same h h'
 
 -- ---- session
-pub power_up_tight : TightCall {O = PoweredUp × List ℕ} power-up.Post (λ l r e. (r, e.0.now))
+pub power_up_tight : TightCall {O = PoweredUp × List ℕ} power_up_reads.Post (λ l r e. (r, e.0.now))
 power_up_tight l a r r' e e' h h' i = (same h.result h'.result i, same h.state h'.state i)
 
-pub receive_byte_tight : TightCall {O = Received × List ℕ × List ℕ} receive-byte.Post (λ l r e. (r, e.0.now, e.1.0.now))
+pub receive_byte_tight : TightCall {O = Received × List ℕ × List ℕ} receive_byte_reads.Post (λ l r e. (r, e.0.now, e.1.0.now))
 receive_byte_tight l a r r' e e' h h' i = (same h.result h'.result i, same h.state h'.state i, same h.memory h'.memory i)
 
 pub receive_bytes_tight : TightCall {O = Received × ℕ × List ℕ × List ℕ} receive_bytes.Post (λ l r e. (r.received, r.taken, e.0.now, e.1.0.now))
@@ -80,55 +80,55 @@ event_tight l a r r' e e' h h' i = (same h.result h'.result i, same h.state h'.s
 pub slot_tight : TightCall {O = Slotted × List ℕ × List ℕ} slot.Post (λ l r e. (r, e.0.now, e.1.0.now))
 slot_tight l a r r' e e' h h' i = (same h.result h'.result i, same h.state h'.state i, same h.bytes h'.bytes i)
 
-pub state_size_tight : TightCall {O = ℕ} state-size.Post (λ l r e. r)
+pub state_size_tight : TightCall {O = ℕ} state_size_reads.Post (λ l r e. r)
 state_size_tight l a r r' e e' h h' = same h h'
 
-pub received_number_tight : TightCall {O = ℕ} received-number.Post (λ l r e. r)
+pub received_number_tight : TightCall {O = ℕ} received_number.Post (λ l r e. r)
 received_number_tight l a r r' e e' h h' = same h h'
 
-pub evented_number_tight : TightCall {O = ℕ} evented-number.Post (λ l r e. r)
+pub evented_number_tight : TightCall {O = ℕ} evented_number.Post (λ l r e. r)
 evented_number_tight l a r r' e e' h h' = same h h'
 
-pub slotted_number_tight : TightCall {O = ℕ} slotted-number.Post (λ l r e. r)
+pub slotted_number_tight : TightCall {O = ℕ} slotted_number.Post (λ l r e. r)
 slotted_number_tight l a r r' e e' h h' = same h h'
 
-pub powered_up_number_tight : TightCall {O = ℕ} powered-up-number.Post (λ l r e. r)
+pub powered_up_number_tight : TightCall {O = ℕ} powered_up_number.Post (λ l r e. r)
 powered_up_number_tight l a r r' e e' h h' = same h h'
 
-pub generator_new_tight : TightCall {O = Generator} generator-new.Post (λ l r e. r)
+pub generator_new_tight : TightCall {O = Generator} generator_new.Post (λ l r e. r)
 generator_new_tight l a r r' e e' h h' i = record { x = same h h' i }
 
-pub generator_next_tight : TightCall {O = Generator} generator-next.Post (λ l r e. r)
+pub generator_next_tight : TightCall {O = Generator} generator_next.Post (λ l r e. r)
 generator_next_tight l a r r' e e' h h' i = record { x = same h h' i }
 
 -- ---- the C interface
-pub xcp_power_up_tight : TightCall {O = ℕ × List ℕ} xcp-power-up.Post (λ l r e. (r, e.0.now))
+pub xcp_power_up_tight : TightCall {O = ℕ × List ℕ} xcp_power_up_reads.Post (λ l r e. (r, e.0.now))
 xcp_power_up_tight l a r r' e e' h h' i = (same h.result h'.result i, same h.state h'.state i)
 
-pub xcp_receive_byte_tight : TightCall {O = ℕ × List ℕ × List ℕ} xcp-receive-byte.Post (λ l r e. (r, e.0.now, e.1.0.now))
+pub xcp_receive_byte_tight : TightCall {O = ℕ × List ℕ × List ℕ} xcp_receive_byte_reads.Post (λ l r e. (r, e.0.now, e.1.0.now))
 xcp_receive_byte_tight l a r r' e e' h h' i = (same h.result h'.result i, same h.state h'.state i, same h.memory h'.memory i)
 
-pub xcp_receive_tight : TightCall {O = ℕ × List ℕ × List ℕ} xcp-receive.Post (λ l r e. (r, e.0.now, e.1.0.now))
+pub xcp_receive_tight : TightCall {O = ℕ × List ℕ × List ℕ} xcp_receive_reads.Post (λ l r e. (r, e.0.now, e.1.0.now))
 xcp_receive_tight l a r r' e e' h h' i = (same h.result h'.result i, same h.state h'.state i, same h.memory h'.memory i)
 
-pub xcp_event_tight : TightCall {O = ℕ × List ℕ} xcp-event.Post (λ l r e. (r, e.0.now))
+pub xcp_event_tight : TightCall {O = ℕ × List ℕ} xcp_event_reads.Post (λ l r e. (r, e.0.now))
 xcp_event_tight l a r r' e e' h h' i = (same h.result h'.result i, same h.state h'.state i)
 
-pub xcp_slot_tight : TightCall {O = ℕ × List ℕ × List ℕ} xcp-slot.Post (λ l r e. (r, e.0.now, e.1.0.now))
+pub xcp_slot_tight : TightCall {O = ℕ × List ℕ × List ℕ} xcp_slot_reads.Post (λ l r e. (r, e.0.now, e.1.0.now))
 xcp_slot_tight l a r r' e e' h h' i = (same h.result h'.result i, same h.state h'.state i, same h.bytes h'.bytes i)
 
-pub xcp_state_size_tight : TightCall {O = ℕ} xcp-state-size.Post (λ l r e. r)
+pub xcp_state_size_tight : TightCall {O = ℕ} xcp_state_size_reads.Post (λ l r e. r)
 xcp_state_size_tight l a r r' e e' h h' = same h h'
 
 -- ---- the session's calls in the words of `ours`
-pub our_power_up_tight : TightCall {O = PoweredUp × List ℕ} our-power-up.Post (λ l r e. (r, e.0.now))
+pub our_power_up_tight : TightCall {O = PoweredUp × List ℕ} our_power_up.Post (λ l r e. (r, e.0.now))
 our_power_up_tight l a r r' e e' h h' i = (same h.result h'.result i, same h.state h'.state i)
 
-pub our_receive_byte_tight : TightCall {O = Received × List ℕ × List ℕ} our-receive-byte.Post (λ l r e. (r, e.0.now, e.1.0.now))
+pub our_receive_byte_tight : TightCall {O = Received × List ℕ × List ℕ} our_receive_byte.Post (λ l r e. (r, e.0.now, e.1.0.now))
 our_receive_byte_tight l a r r' e e' h h' i = (same h.result h'.result i, same h.state h'.state i, same h.memory h'.memory i)
 
-pub our_event_tight : TightCall {O = Evented × List ℕ} our-event.Post (λ l r e. (r, e.0.now))
+pub our_event_tight : TightCall {O = Evented × List ℕ} our_event.Post (λ l r e. (r, e.0.now))
 our_event_tight l a r r' e e' h h' i = (same h.result h'.result i, same h.state h'.state i)
 
-pub our_slot_tight : TightCall {O = Slotted × List ℕ × List ℕ} our-slot.Post (λ l r e. (r, e.0.now, e.1.0.now))
+pub our_slot_tight : TightCall {O = Slotted × List ℕ × List ℕ} our_slot.Post (λ l r e. (r, e.0.now, e.1.0.now))
 our_slot_tight l a r r' e e' h h' i = (same h.result h'.result i, same h.state h'.state i, same h.bytes h'.bytes i)

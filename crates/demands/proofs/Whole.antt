@@ -61,15 +61,15 @@ abbrev Later : Session → ℕ → List Call → Type 0
 Later c l cs = (on : ℕ) (last : Bool) (q : List (List ℕ)) (s : List ℕ) → Seen c l on last q s → Undisturbed ours l s cs
     → Proceeds c.lists q (suc on) last (slots cs) (packets_in c l (frames ours s cs))
 
-numbers-then : {c d e : Session} → SameNumbers c d → SameNumbers d e → SameNumbers c e
-numbers-then x y = record { lists = y.lists ∙ x.lists; odts = λ l. y.odts l ∙ x.odts l }
+numbers_then : {c d e : Session} → SameNumbers c d → SameNumbers d e → SameNumbers c e
+numbers_then x y = record { lists = y.lists ∙ x.lists; odts = λ l. y.odts l ∙ x.odts l }
 
 -- a call that leaves the lists, the round and the list's packets
 seen_on : {c : Session} {l on : ℕ} {last : Bool} {q : List (List ℕ)} {s t : List ℕ}
     → consistent t ≡ true → SameSent (view_of s) (view_of t) → SameLists (session_of s) (session_of t) → waiting_of t l ≡ waiting_of s l → Seen c l on last q s → Seen c l on last q t
 seen_on {c} {on = on} k r n w x = record {
   fit = k;
-  same = numbers-then x.same n.0;
+  same = numbers_then x.same n.0;
   waiting = w ∙ x.waiting;
   flag = r.last_answer ∙ x.flag;
   few = x.few;

@@ -34,7 +34,7 @@ use Rattle.state.proofs.Pointers.{at_entry}
 use Rattle.model.proofs.Bounded.{either}
 use Rattle.fields.proofs.Frames.{only_dropped, only_pointer, only_closed}
 use Rattle.fields.proofs.Readers.{Same, apart, pointer_unset_lem, list_count_reads, first_odt_reads, odt_count_reads, entry_count_reads}
-use Rattle.fields.proofs.Stores.{set_out, put32_out, put32_same, sets-in, block_sets, cleared-in}
+use Rattle.fields.proofs.Stores.{set_out, put32_out, put32_same, sets_in, block_sets, cleared_in}
 
 -- ---- a field reads as it was set
 -- an address that four bytes hold
@@ -171,7 +171,7 @@ pub record Answering (bs : List ℕ) : Type 0 where
 pub length_answered : (s bs : List ℕ) → length s ≡ size → 1 ≤ length bs → length bs ≤ packet_most → answer_length (answered s bs) ≡ length bs
 unfolding answered answer_length
 length_answered s bs h p q =
-    let n : get_or (sets s answer_at (length bs ∷ bs)) answer_at 0 ≡ length bs = sets-in s answer_at (length bs ∷ bs) 0 (omega arith) (omega arith) in
+    let n : get_or (sets s answer_at (length bs ∷ bs)) answer_at 0 ≡ length bs = sets_in s answer_at (length bs ∷ bs) 0 (omega arith) (omega arith) in
     simp (n, ne_eqb (length bs) 0 (omega arith), le-ltb packet_most (length bs) q)
 
 pub waits_answered : (s bs : List ℕ) → length s ≡ size → 1 ≤ length bs → length bs ≤ packet_most → waits (answered s bs) ≡ true
@@ -193,7 +193,7 @@ kind_as_it_is n b = go (eqb b 0xFF) (eqb b 0xFE) (eqb n 2) (eqb n 8) refl refl w
 
 first_answered : (s bs : List ℕ) → length s ≡ size → 1 ≤ length bs → length bs ≤ packet_most → get_or (answered s bs) answer_bytes_at 0 ≡ get_or bs 0 0
 unfolding answered
-first_answered s bs h p q = sets-in s answer_at (length bs ∷ bs) 1 (omega arith) (omega arith)
+first_answered s bs h p q = sets_in s answer_at (length bs ∷ bs) 1 (omega arith) (omega arith)
 
 kind_answered : (s bs : List ℕ) → length s ≡ size → Answering bs → answer_kind (answered s bs) ≡ get_or (answered s bs) answer_bytes_at 0
 unfolding answer_kind
@@ -269,7 +269,7 @@ closed_length s = (only_closed s).long
 
 closed_zero : (s : List ℕ) (j : ℕ) → length s ≡ size → session_at ≤ j → j < odts_at → get_or (closed s) j 0 ≡ 0
 unfolding closed
-closed_zero s j h p q = cleared-in s session_at session_size j (omega arith) p (omega arith)
+closed_zero s j h p q = cleared_in s session_at session_size j (omega arith) p (omega arith)
 
 pub closed_open : (s : List ℕ) → length s ≡ size → open_of (closed s) ≡ false
 unfolding flag_of

@@ -54,8 +54,8 @@ pub record Marked (s t : List ℕ) : Type 0 where
 pub marked_none : {s : List ℕ} → Marked s s
 marked_none = record { long = refl; front = refl }
 
-pub marked-then : {s t u : List ℕ} → Marked s t → Marked t u → Marked s u
-marked-then p q = record { long = q.long ∙ p.long; front = q.front ∙ p.front }
+pub marked_then : {s t u : List ℕ} → Marked s t → Marked t u → Marked s u
+marked_then p q = record { long = q.long ∙ p.long; front = q.front ∙ p.front }
 
 marked_cond : {s t u : List ℕ} (b : Bool) → Marked s t → Marked s u → Marked s (cond b t u)
 marked_cond {s} b p q = cond_ind (Marked s) b (λ _. p) (λ _. q)
@@ -107,38 +107,38 @@ power_up_consistent s start h = simp (eq-eqb (length s) size h) (power_consisten
 marked_dropped : (s : List ℕ) (k n : ℕ) → Marked s (dropped s k n)
 unfolding dropped
 marked_dropped s k zero = marked_none
-marked_dropped s k (suc n) = marked-then (marked_dropped s k n) (marked_set (dropped s k n) (sample_at (k + n)) 0 (omega arith))
+marked_dropped s k (suc n) = marked_then (marked_dropped s k n) (marked_set (dropped s k n) (sample_at (k + n)) 0 (omega arith))
 
 marked_switched : (s : List ℕ) (l on : ℕ) → Marked s (switched s l on)
 unfolding switched
-marked_switched s l on = marked-then (marked_set s (running_at l) on (omega arith)) (marked_dropped (set s (running_at l) on) (first_odt s l) (odt_count s l))
+marked_switched s l on = marked_then (marked_set s (running_at l) on (omega arith)) (marked_dropped (set s (running_at l) on) (first_odt s l) (odt_count s l))
 
 marked_deselected : {s t : List ℕ} (l : ℕ) → Marked s t → Marked s (set t (selected_at l) 0)
-marked_deselected {s} {t} l m = marked-then m (marked_set t (selected_at l) 0 (omega arith))
+marked_deselected {s} {t} l m = marked_then m (marked_set t (selected_at l) 0 (omega arith))
 
 marked_list_cleared : (s : List ℕ) (l : ℕ) → Marked s (list_cleared s l)
 unfolding list_cleared
 marked_list_cleared s l =
-    marked-then (marked_cleared s (mode_at l) list_size (omega arith))
+    marked_then (marked_cleared s (mode_at l) list_size (omega arith))
     (marked_cleared (cleared s (mode_at l) list_size) (entries_at (first_entry s (first_odt s l))) (entry_size * entries_of_list s l) (omega arith))
 
 marked_mode_set : (s : List ℕ) (l event : ℕ) → Marked s (mode_set s l event)
 unfolding mode_set
 marked_mode_set s l event =
-    marked-then (marked_set s (mode_at l) ((event + 1) % 256) (omega arith)) (marked_set (set s (mode_at l) ((event + 1) % 256)) (running_at l) 0 (omega arith))
+    marked_then (marked_set s (mode_at l) ((event + 1) % 256) (omega arith)) (marked_set (set s (mode_at l) ((event + 1) % 256)) (running_at l) 0 (omega arith))
 
 marked_entry_set : (s : List ℕ) (l k e n : ℕ) (x : Extension) (a : ℕ) → Marked s (entry_set s l k e n x a)
 unfolding entry_set
 marked_entry_set s l k e n x a =
     let s₁ : List ℕ = set s (running_at l) 0 in
     let s₂ : List ℕ = set s₁ (entry_at s k e) (head_of n x a) in
-    marked-then (marked_set s (running_at l) 0 (omega arith))
-    (marked-then (marked_set s₁ (entry_at s k e) (head_of n x a) (omega arith)) (marked_set s₂ (entry_at s k e + 1) (a % 256) (omega arith)))
+    marked_then (marked_set s (running_at l) 0 (omega arith))
+    (marked_then (marked_set s₁ (entry_at s k e) (head_of n x a) (omega arith)) (marked_set s₂ (entry_at s k e + 1) (a % 256) (omega arith)))
 
 marked_stop_each : (s : List ℕ) (n : ℕ) → Marked s (stop_each s n)
 unfolding stop_each
 marked_stop_each s zero = marked_none
-marked_stop_each s (suc n) = marked_deselected n (marked-then (marked_stop_each s n) (marked_switched (stop_each s n) n 0))
+marked_stop_each s (suc n) = marked_deselected n (marked_then (marked_stop_each s n) (marked_switched (stop_each s n) n 0))
 
 marked_start_one : (s : List ℕ) (l : ℕ) → Marked s (start_one s l)
 marked_start_one s l =
@@ -147,14 +147,14 @@ marked_start_one s l =
 marked_start_selected : (s : List ℕ) (n : ℕ) → Marked s (start_selected s n)
 unfolding start_selected
 marked_start_selected s zero = marked_none
-marked_start_selected s (suc n) = marked_deselected n (marked-then (marked_start_selected s n) (marked_start_one (start_selected s n) n))
+marked_start_selected s (suc n) = marked_deselected n (marked_then (marked_start_selected s n) (marked_start_one (start_selected s n) n))
 
 marked_stop_selected : (s : List ℕ) (n : ℕ) → Marked s (stop_selected s n)
 unfolding stop_selected
 marked_stop_selected s zero = marked_none
 marked_stop_selected s (suc n) =
     marked_deselected n
-    (marked-then (marked_stop_selected s n) (marked_cond (flag_of (stop_selected s n) (selected_at n)) (marked_switched (stop_selected s n) n 0) marked_none))
+    (marked_then (marked_stop_selected s n) (marked_cond (flag_of (stop_selected s n) (selected_at n)) (marked_switched (stop_selected s n) n 0) marked_none))
 
 -- ---- the deeds
 marked_seed : (s : List ℕ) (x : Seed) → Marked s (set_seed s x)
@@ -169,7 +169,7 @@ marked_pointer s p = marked_only (lit≤ tt) (only_pointer s p)
 marked_entered : (s : List ℕ) (l o e n : ℕ) (x : Extension) (a : ℕ) → Marked s (entry_written s l o e n x a)
 marked_entered s l o e n x a =
     let k : ℕ = first_odt s l + o in
-    marked-then (marked_entry_set s l k e n x a) (marked_pointer (entry_set s l k e n x a) (next_entry (entry_count s k) l o e))
+    marked_then (marked_entry_set s l k e n x a) (marked_pointer (entry_set s l k e n x a) (next_entry (entry_count s k) l o e))
 
 -- ---- the allocations
 marked_copied : (d : List ℕ) (i : ℕ) (s : List ℕ) (from n : ℕ) → generator_at ≤ i → Marked d (copied d i s from n)
@@ -180,31 +180,31 @@ marked_new_lists : (s : List ℕ) (n : ℕ) → Marked s (lists_allocated s n)
 unfolding lists_allocated
 marked_new_lists s n =
     let s₁ : List ℕ = cleared s odts_at (mode_at lists - odts_at) in
-    marked-then (marked_cleared s odts_at (mode_at lists - odts_at) (lit≤ tt)) (marked-then (marked_set s₁ round_at 0 (lit≤ tt)) (marked_set (set s₁ round_at 0) phase_at ((n + 1) % 256) (lit≤ tt)))
+    marked_then (marked_cleared s odts_at (mode_at lists - odts_at) (lit≤ tt)) (marked_then (marked_set s₁ round_at 0 (lit≤ tt)) (marked_set (set s₁ round_at 0) phase_at ((n + 1) % 256) (lit≤ tt)))
 
 marked_new_odts : (s : List ℕ) (l n : ℕ) → Marked s (odts_allocated s l n)
 unfolding odts_allocated
 marked_new_odts s l n =
     let s₁ : List ℕ = dropped s 0 all_odts in
-    marked-then (marked_dropped s 0 all_odts) (marked-then (marked_cleared s₁ counts_at all_odts (lit≤ tt)) (marked_set (cleared s₁ counts_at all_odts) (odts_at + l) n (omega arith)))
+    marked_then (marked_dropped s 0 all_odts) (marked_then (marked_cleared s₁ counts_at all_odts (lit≤ tt)) (marked_set (cleared s₁ counts_at all_odts) (odts_at + l) n (omega arith)))
 
 marked_room : (s : List ℕ) (i m n : ℕ) → Marked s (room_made s i m n)
 unfolding room_made
 marked_room s i m n =
-    marked-then (marked_copied s (entries_at (i + n)) s (entries_at i) (entry_size * (m - i)) (omega arith))
+    marked_then (marked_copied s (entries_at (i + n)) s (entries_at i) (entry_size * (m - i)) (omega arith))
     (marked_cleared (copied s (entries_at (i + n)) s (entries_at i) (entry_size * (m - i))) (entries_at i) (entry_size * n) (omega arith))
 
 marked_new_entries : (s : List ℕ) (k n : ℕ) → Marked s (entries_allocated s k n)
 unfolding entries_allocated
 marked_new_entries s k n =
     let s₁ : List ℕ = room_made s (first_entry s k) (entry_total s) n in
-    marked-then (marked_room s (first_entry s k) (entry_total s) n) (marked-then (marked_set s₁ (counts_at + k) n (omega arith)) (marked_pointer (set s₁ (counts_at + k) n) (pointer_of s)))
+    marked_then (marked_room s (first_entry s k) (entry_total s) n) (marked_then (marked_set s₁ (counts_at + k) n (omega arith)) (marked_pointer (set s₁ (counts_at + k) n) (pointer_of s)))
 
 pub marked_effect : (d : Deed) (s : List ℕ) → Marked s (effect d s)
 unfolding effect
 marked_effect (Refuse r) s = marked_none
 marked_effect RefuseSize s = marked_none
-marked_effect WrongKey s = marked-then (marked_only (lit≤ tt) (only_closed s)) (marked_only (lit≤ tt) (only_counted (closed s)))
+marked_effect WrongKey s = marked_then (marked_only (lit≤ tt) (only_closed s)) (marked_only (lit≤ tt) (only_counted (closed s)))
 marked_effect Connect s = marked_only (lit≤ tt) (only_fresh s)
 marked_effect Disconnect s = marked_only (lit≤ tt) (only_closed s)
 marked_effect Status s = marked_none
@@ -212,8 +212,8 @@ marked_effect Synch s = marked_none
 marked_effect NoSeed s = marked_none
 marked_effect (GiveSeed r) s =
     let x : ℕ = next_of (generator_of s) in
-    marked-then (marked_only (lit≤ tt) (only_generator s x)) (marked_seed (set_generator s x) (For r))
-marked_effect (Unlock r) s = marked-then (marked_only (lit≤ tt) (only_lock s r 1)) (marked_seed (set s (lock_at r) 1) None)
+    marked_then (marked_only (lit≤ tt) (only_generator s x)) (marked_seed (set_generator s x) (For r))
+marked_effect (Unlock r) s = marked_then (marked_only (lit≤ tt) (only_lock s r 1)) (marked_seed (set s (lock_at r) 1) None)
 marked_effect (SetMta e a) s = marked_mta s _
 marked_effect (Upload e a n) s = marked_mta s _
 marked_effect (Checksum e a n) s = marked_mta s _
@@ -242,7 +242,7 @@ unfolding answered
 marked_answered s bs = marked_sets s answer_at (length bs ∷ bs) (lit≤ tt)
 
 pub marked_after : (d : Deed) (s cal meas : List ℕ) → Marked s (after d s cal meas)
-marked_after d s cal meas = marked-then (marked_effect d s) (marked_answered (effect d s) (reply d s cal meas))
+marked_after d s cal meas = marked_then (marked_effect d s) (marked_answered (effect d s) (reply d s cal meas))
 
 -- ---- a received byte
 marked_heeding : (h : Heeding) (p s cal meas : List ℕ) → Marked s (heeded_by h p s cal meas).state
@@ -274,7 +274,7 @@ marked_receive s cal meas b =
     cond_ind (λ (o : Step). Marked s o.state) (consistent s)
     (λ c. let h : length s ≡ size = consistent_size s c in
     let f : Fed = fed_of s b in
-    marked-then (marked_only (lit≤ tt) (only_read_on s f h (fed_length s b h))) (marked_meant f.taken.outcome f.message (read_on s f) cal meas))
+    marked_then (marked_only (lit≤ tt) (only_read_on s f h (fed_length s b h))) (marked_meant f.taken.outcome f.message (read_on s f) cal meas))
     (λ _. marked_none)
 
 pub receive_kept : (s cal meas : List ℕ) (b : ℕ) → consistent s ≡ true → consistent (receive_of s cal meas b).state ≡ true
@@ -288,7 +288,7 @@ marked_stored s k bs = marked_sets s (sample_at k) (length bs ∷ bs) (omega ari
 marked_odts : (s : List ℕ) (k clock : ℕ) (cal meas : List ℕ) (n : ℕ) → Marked s (captured_odts s k clock cal meas n)
 unfolding captured_odts
 marked_odts s k clock cal meas zero = marked_none
-marked_odts s k clock cal meas (suc n) = marked-then (marked_odts s k clock cal meas n) (marked_stored (captured_odts s k clock cal meas n) (k + n) _)
+marked_odts s k clock cal meas (suc n) = marked_then (marked_odts s k clock cal meas n) (marked_stored (captured_odts s k clock cal meas n) (k + n) _)
 
 marked_captured : (s : List ℕ) (l clock : ℕ) (cal meas : List ℕ) → Marked s (captured s l clock cal meas)
 marked_captured s l clock cal meas = marked_odts s (first_odt s l) clock cal meas (odt_count s l)
@@ -304,7 +304,7 @@ unfolding tally
 marked_tally s event clock cal meas zero = marked_none
 marked_tally s event clock cal meas (suc n) =
     let t : List ℕ = (tally s event clock cal meas n).state in
-    marked-then (marked_tally s event clock cal meas n) (marked_sampled (sampling_of t n event) t n clock cal meas)
+    marked_then (marked_tally s event clock cal meas n) (marked_sampled (sampling_of t n event) t n clock cal meas)
 
 marked_event : (s cal meas : List ℕ) (event clock : ℕ) → Marked s (event_of s cal meas event clock).state
 unfolding event_of
@@ -324,9 +324,9 @@ marked_answer_sent s =
     let s₁ : List ℕ = set s answer_bytes_at (answer_kind s) in
     let s₂ : List ℕ = set s₁ answer_at 0 in
     let s₃ : List ℕ = set s₂ ctr_at (ctr_next s) in
-    marked-then (marked_set s answer_bytes_at (answer_kind s) (lit≤ tt))
-    (marked-then (marked_set s₁ answer_at 0 (lit≤ tt))
-    (marked-then (marked_set s₂ ctr_at (ctr_next s) (lit≤ tt)) (marked_set s₃ last_at 1 (lit≤ tt))))
+    marked_then (marked_set s answer_bytes_at (answer_kind s) (lit≤ tt))
+    (marked_then (marked_set s₁ answer_at 0 (lit≤ tt))
+    (marked_then (marked_set s₂ ctr_at (ctr_next s) (lit≤ tt)) (marked_set s₃ last_at 1 (lit≤ tt))))
 
 marked_packet_sent : (s : List ℕ) (l o : ℕ) → Marked s (packet_sent s l o)
 unfolding packet_sent
@@ -335,9 +335,9 @@ marked_packet_sent s l o =
     let s₁ : List ℕ = set s at 0 in
     let s₂ : List ℕ = set s₁ ctr_at (ctr_next s) in
     let s₃ : List ℕ = set s₂ round_at (round_after l) in
-    marked-then (marked_set s at 0 (omega arith))
-    (marked-then (marked_set s₁ ctr_at (ctr_next s) (lit≤ tt))
-    (marked-then (marked_set s₂ round_at (round_after l) (lit≤ tt)) (marked_set s₃ last_at 0 (lit≤ tt))))
+    marked_then (marked_set s at 0 (omega arith))
+    (marked_then (marked_set s₁ ctr_at (ctr_next s) (lit≤ tt))
+    (marked_then (marked_set s₂ round_at (round_after l) (lit≤ tt)) (marked_set s₃ last_at 0 (lit≤ tt))))
 
 marked_sent : (t : Turn) (s out : List ℕ) → Marked s (sent_by t s out).state
 unfolding sent_by

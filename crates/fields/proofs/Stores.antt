@@ -51,8 +51,8 @@ take_sets n s i [] h = refl
 take_sets n s i (x ∷ xs) h = take_sets n (set s i x) (suc i) xs (omega arith) ∙ take-set-le n s i x h
 
 -- ---- what is stored is read
-pub sets-in : (s : List ℕ) (i : ℕ) (xs : List ℕ) (k : ℕ) → i + length xs ≤ length s → k < length xs → get_or (sets s i xs) (i + k) 0 ≡ get_or xs k 0
-sets-in s i xs k h q =
+pub sets_in : (s : List ℕ) (i : ℕ) (xs : List ℕ) (k : ℕ) → i + length xs ≤ length s → k < length xs → get_or (sets s i xs) (i + k) 0 ≡ get_or xs k 0
+sets_in s i xs k h q =
     let front : length (take i s) ≡ i = length-take-le i s (omega arith) in
     rw (sets-eq xs s i h, append_assoc)
     ((rw front at (get_or-append-add (take i s) (xs ++ drop (i + length xs) s) k 0)) ∙ get_or-append xs (drop (i + length xs) s) 0 k q)
@@ -62,13 +62,13 @@ block_sets s i xs h =
     let front : length (take i s) ≡ i = length-take-le i s (omega arith) in
     rw (sets-eq xs s i h, append_assoc, drop_at (take i s) (xs ++ drop (i + length xs) s) i front) (take_at xs (drop (i + length xs) s) (length xs) refl)
 
-pub cleared-in : (s : List ℕ) (i n j : ℕ) → i + n ≤ length s → i ≤ j → j < i + n → get_or (cleared s i n) j 0 ≡ 0
+pub cleared_in : (s : List ℕ) (i n j : ℕ) → i + n ≤ length s → i ≤ j → j < i + n → get_or (cleared s i n) j 0 ≡ 0
 unfolding cleared
-cleared-in s i n j h p q =
+cleared_in s i n j h p q =
     let e : i + (j - i) ≡ j = omega arith in
     let zs : List ℕ = replicate n 0 in
     let k : j - i < length zs = rw length-replicate (omega arith) in
-    (rw e at (sets-in s i (replicate n 0) (j - i) (rw length-replicate h) k)) ∙ get_or-replicate n (j - i) 0 0 (omega arith)
+    (rw e at (sets_in s i (replicate n 0) (j - i) (rw length-replicate h) k)) ∙ get_or-replicate n (j - i) 0 0 (omega arith)
 
 -- the bytes of a number
 digits : (x a b d r s t : ℕ) → a * 256 + r ≡ x → b * 256 + s ≡ a → d * 256 + t ≡ b → r + 256 * s + 65536 * t + 16777216 * d ≡ x

@@ -14,7 +14,7 @@ use Rattle.line.specs.declared.Outcome.TheVariants.{Nothing, CutOff}
 use Rattle.line.proofs.Laws.{false_true, cond_ind}
 use Rattle.line.proofs.Numbers.{byte_serial}
 use Rattle.line.proofs.Unframing.{Takes, begins, passes, escapes, brings, breaks, takes}
-use Rattle.line.proofs.Steps.{PutsIn, refuses, goes, fills, spoils, puts-in, take_cases, take-long-in}
+use Rattle.line.proofs.Steps.{PutsIn, refuses, goes, fills, spoils, puts_in, take_cases, take_long_in}
 
 -- ---- a SYNC
 -- it reports a message cut off where at least one byte of one has come, and only there
@@ -46,7 +46,7 @@ module _ (f : Form) where
   -- from any place it begins a new message
   pub sync_begins : (p : Place) (m : List ℕ) → longest_in f ≤ length m
       → take_in f p m SYNC ≡ record { taken = record { place = Inside 0; outcome = cut_of (place_by (messages_in f) p m) }; message = m }
-  sync_begins p m fits = take-long-in f p m SYNC fits
+  sync_begins p m fits = take_long_in f p m SYNC fits
 
   -- ---- the buffer keeps its length
   put_length : {k : ℕ} {m : List ℕ} {x : ℕ} {d : Fed} → PutsIn f k m x d → length d.message ≡ length m
@@ -59,11 +59,11 @@ module _ (f : Form) where
   fed_length (begins e) = refl
   fed_length (passes e) = refl
   fed_length (escapes k e g b) = refl
-  fed_length {p} {m} (brings k x g e) = put_length (puts-in f k m x g)
+  fed_length {p} {m} (brings k x g e) = put_length (puts_in f k m x g)
   fed_length breaks = refl
 
-  pub take-length-in : (p : Place) (m : List ℕ) (b : ℕ) → length (take_in f p m b).message ≡ length m
-  take-length-in p m b = take_cases f (λ (d : Fed). length d.message ≡ length m) p m b refl (λ _. fed_length (takes (messages_in f) p m b))
+  pub take_length_in : (p : Place) (m : List ℕ) (b : ℕ) → length (take_in f p m b).message ≡ length m
+  take_length_in p m b = take_cases f (λ (d : Fed). length d.message ≡ length m) p m b refl (λ _. fed_length (takes (messages_in f) p m b))
 
   -- ---- the place reads as itself
   abbrev Legal : Fed → Type 0
@@ -79,12 +79,12 @@ module _ (f : Form) where
   fed_legal s (begins e) = rw (lt-ltb 0 f.width s.wide)
   fed_legal s (passes e) = refl
   fed_legal s (escapes k e g b) = rw g
-  fed_legal {p} {m} s (brings k x g e) = put_legal (puts-in f k m x g)
+  fed_legal {p} {m} s (brings k x g e) = put_legal (puts_in f k m x g)
   fed_legal s breaks = refl
 
   -- the place after a byte is one that a message can have
-  pub take-place-in : Serial f → (p : Place) (m : List ℕ) (b : ℕ) → longest_in f ≤ length m → Legal (take_in f p m b)
-  take-place-in s p m b fits = rw (take-long-in f p m b fits) (fed_legal s (takes (messages_in f) p m b))
+  pub take_place_in : Serial f → (p : Place) (m : List ℕ) (b : ℕ) → longest_in f ≤ length m → Legal (take_in f p m b)
+  take_place_in s p m b fits = rw (take_long_in f p m b fits) (fed_legal s (takes (messages_in f) p m b))
 
   -- ---- a message that ends, good or bad
   abbrev Ended : Fed → Type 0
@@ -100,7 +100,7 @@ module _ (f : Form) where
   fed_ended {p} {m} (begins e) = λ t. absurd (false_true (sym (cut_goes (place_by (messages_in f) p m)) ∙ t))
   fed_ended (passes e) = λ _. refl
   fed_ended (escapes k e g b) = λ e. absurd (false_true e)
-  fed_ended {p} {m} (brings k x g e) = put_ended (puts-in f k m x g)
+  fed_ended {p} {m} (brings k x g e) = put_ended (puts_in f k m x g)
   fed_ended breaks = λ _. refl
 
   -- after it the reader waits for SYNC
@@ -109,13 +109,13 @@ module _ (f : Form) where
 
   -- outside, any byte but SYNC is passed over
   pub take_outside : (m : List ℕ) (b : ℕ) → longest_in f ≤ length m → eqb b SYNC ≡ false → take_in f Outside m b ≡ on Outside m
-  take_outside m b fits n = take-long-in f Outside m b fits ∙ simp n
+  take_outside m b fits n = take_long_in f Outside m b fits ∙ simp n
 
 -- ---- the byte form
 pub take_length : (p : Place) (m : List ℕ) (b : ℕ) → length (take_of p m b).message ≡ length m
 unfolding take_of
-take_length = take-length-in byte_form
+take_length = take_length_in byte_form
 
 pub take_place : (p : Place) (m : List ℕ) (b : ℕ) → longest ≤ length m → place_by messages (take_of p m b).taken.place (take_of p m b).message ≡ (take_of p m b).taken.place
 unfolding take_of
-take_place = take-place-in byte_form byte_serial
+take_place = take_place_in byte_form byte_serial

@@ -48,8 +48,8 @@ filled_front (suc k) bs ys = rw (append_assoc (filled k bs) (0 ∷ []) ys) (fill
 pub head_length : (f : Form) (ctr : ℕ) (packet : List ℕ) → length (head_in f ctr packet) ≡ checksum_at f (length packet)
 head_length f ctr packet = simp (length-append, bytes_length, filled_length) (omega arith)
 
-pub message-length-in : (f : Form) (ctr : ℕ) (packet : List ℕ) → length (message_in f ctr packet) ≡ size_in f (length packet)
-message-length-in f ctr packet = simp (length-append, bytes_length, filled_length) (omega arith)
+pub message_length_in : (f : Form) (ctr : ℕ) (packet : List ℕ) → length (message_in f ctr packet) ≡ size_in f (length packet)
+message_length_in f ctr packet = simp (length-append, bytes_length, filled_length) (omega arith)
 
 -- with anything behind it
 module _ (f : Form) (s : Serial f) (ctr : ℕ) (packet rest : List ℕ) where

@@ -12,7 +12,7 @@ use Rattle.line.specs.declared.Place.{Place}
 use Rattle.line.specs.declared.Place.TheVariants.{Outside, Inside}
 use Rattle.line.specs.declared.Outcome.TheVariants.{Good}
 use Rattle.line.proofs.Laws.{front_next}
-use Rattle.line.proofs.Numbers.{number_front, head_length, message-length-in, len_lies, ctr_lies, check_lies, packet_lies, byte_serial}
+use Rattle.line.proofs.Numbers.{number_front, head_length, message_length_in, len_lies, ctr_lies, check_lies, packet_lies, byte_serial}
 use Rattle.line.proofs.Begun.{begun_right, begun_ended}
 use Rattle.line.proofs.Fronts.{front_split}
 use Rattle.line.proofs.Framing.{Along, here, step, quiet, framed}
@@ -34,7 +34,7 @@ module _ (f : Form) (s : Serial f) (m packet : List ℕ) (ctr : ℕ) (fits : lon
   whole = message_in f ctr packet
 
   whole_length : length whole ≡ size_in f (length packet)
-  whole_length = message-length-in f ctr packet
+  whole_length = message_length_in f ctr packet
 
   whole_fits : length whole ≤ length m
   whole_fits = omega (arith, whole_length, s.within (length packet) few)
@@ -105,8 +105,8 @@ module _ (f : Form) (s : Serial f) (m packet : List ℕ) (ctr : ℕ) (fits : lon
   through xs x e = rw (last xs x e, e) at (framed (messages_in f) x (more [] xs x e) (begun_there xs (x ∷ []) e (omega arith)))
 
   -- what a frame comes to, from any place
-  pub round-trip-in : (p : Place) → run_in f p m (frame_in f ctr packet) ≡ heard_in f p m ctr packet
-  round-trip-in p =
+  pub round_trip_in : (p : Place) → run_in f p m (frame_in f ctr packet) ≡ heard_in f p m ctr packet
+  round_trip_in p =
       let w = split_last whole (omega (arith, whole_length, s.summed)) in
       run_long f p m (frame_in f ctr packet) fits
       ∙ ap (λ (r : Ran). record { outcomes = cut_of (place_by (messages_in f) p m) ∷ r.outcomes; place = r.place; message = r.message }) (through w.0 w.1 w.2)
@@ -120,9 +120,9 @@ pub after_anything : (f : Form) (s : Serial f) (p : Place) (m xs packet : List �
     → run_in f p m (xs ++ frame_in f ctr packet) ≡ and_then (run_in f p m xs) (heard_in f (run_in f p m xs).place (run_in f p m xs).message ctr packet)
 after_anything f s p m xs packet ctr fits some few =
     run_append (take_in f) p m xs (frame_in f ctr packet)
-    ∙ ap (and_then (run_in f p m xs)) (round-trip-in f s (run_in f p m xs).message packet ctr (omega (arith, run_length f p m xs)) some few (run_in f p m xs).place)
+    ∙ ap (and_then (run_in f p m xs)) (round_trip_in f s (run_in f p m xs).message packet ctr (omega (arith, run_length f p m xs)) some few (run_in f p m xs).place)
 
 -- ---- the byte form
 pub round_trip : (p : Place) (m packet : List ℕ) (ctr : ℕ) → longest ≤ length m → 1 ≤ length packet → length packet ≤ most → run_of p m (frame ctr packet) ≡ heard p m ctr packet
 unfolding take_of
-round_trip p m packet ctr fits some few = round-trip-in byte_form byte_serial m packet ctr fits some few p
+round_trip p m packet ctr fits some few = round_trip_in byte_form byte_serial m packet ctr fits some few p

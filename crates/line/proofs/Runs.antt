@@ -10,8 +10,8 @@ use Rattle.line.specs.Wire.{has, and_then, unheard}
 use Rattle.line.specs.declared.Place.{Place}
 use Rattle.line.specs.declared.Place.TheVariants.{Outside}
 use Rattle.line.proofs.Laws.{false_true}
-use Rattle.line.proofs.Steps.{take-long-in}
-use Rattle.line.proofs.After.{take-length-in, take_outside}
+use Rattle.line.proofs.Steps.{take_long_in}
+use Rattle.line.proofs.After.{take_length_in, take_outside}
 
 -- a run over two lists of bytes is a run over each
 pub run_append : (take : Place → List ℕ → ℕ → Fed) (p : Place) (m xs ys : List ℕ)
@@ -23,14 +23,14 @@ module _ (f : Form) where
   -- a run keeps the buffer's length
   pub run_length : (p : Place) (m bs : List ℕ) → length (run_in f p m bs).message ≡ length m
   run_length p m [] = refl
-  run_length p m (b ∷ bs) = run_length (take_in f p m b).taken.place (take_in f p m b).message bs ∙ take-length-in f p m b
+  run_length p m (b ∷ bs) = run_length (take_in f p m b).taken.place (take_in f p m b).message bs ∙ take_length_in f p m b
 
   -- with a buffer long enough a run is one of the stuffing over messages
   pub run_long : (p : Place) (m bs : List ℕ) → longest_in f ≤ length m → run_in f p m bs ≡ run_by (take_by (messages_in f)) p m bs
   run_long p m [] fits = refl
   run_long p m (b ∷ bs) fits =
-      ap (λ (r : Ran). then (take_in f p m b) r) (run_long (take_in f p m b).taken.place (take_in f p m b).message bs (omega (arith, take-length-in f p m b)))
-      ∙ ap (λ (d : Fed). then d (run_by (take_by (messages_in f)) d.taken.place d.message bs)) (take-long-in f p m b fits)
+      ap (λ (r : Ran). then (take_in f p m b) r) (run_long (take_in f p m b).taken.place (take_in f p m b).message bs (omega (arith, take_length_in f p m b)))
+      ∙ ap (λ (d : Fed). then d (run_by (take_by (messages_in f)) d.taken.place d.message bs)) (take_long_in f p m b fits)
 
   -- outside, bytes with no SYNC among them are passed over
   pub passed_over : (m bs : List ℕ) → longest_in f ≤ length m → has SYNC bs ≡ false → run_in f Outside m bs ≡ unheard m bs

@@ -15,8 +15,8 @@ use Rattle.line.proofs.Laws.{false_true, cond_ind}
 use Rattle.line.proofs.Numbers.{byte_serial}
 use Rattle.line.proofs.Stuffed.{has_append, has_here, stuff_plain, unstuff_on, unstuff_stuff, last_sync}
 use Rattle.line.proofs.Unframing.{Takes, begins, passes, escapes, brings, breaks, takes}
-use Rattle.line.proofs.Steps.{PutsIn, refuses, goes, fills, spoils, put-within-in, puts-in, take_cases, take-long-in}
-use Rattle.line.proofs.After.{take-length-in, take-place-in}
+use Rattle.line.proofs.Steps.{PutsIn, refuses, goes, fills, spoils, put_within_in, puts_in, take_cases, take_long_in}
+use Rattle.line.proofs.After.{take_length_in, take_place_in}
 use Rattle.line.proofs.Runs.{run_length}
 
 -- the bytes h that came end in those that the place stands for
@@ -79,13 +79,13 @@ module _ (f : Form) (s : Serial f) where
   take_honest {p} {m} {b} h fits i (passes e) = (outside (h ++ b ∷ []) m, tt)
   take_honest {p} {m} {b} h fits i (escapes k e g t) = ((i.0, rw (t, i.1, e) (append_assoc i.0 (on_wire (take k m)) (ESC ∷ []))), tt)
   take_honest {p} {m} {b} h fits i (brings k x g w) =
-      put_honest i.0 (h ++ b ∷ []) (omega (arith, put-within-in f s k (len_in f m) g))
+      put_honest i.0 (h ++ b ∷ []) (omega (arith, put_within_in f s k (len_in f m) g))
       (ap (λ (l : List ℕ). l ++ b ∷ []) i.1 ∙ append_assoc i.0 (before (place_by (messages_in f) p m) m) (b ∷ []) ∙ ap (λ (l : List ℕ). i.0 ++ l) w)
-      (puts-in f k m x g)
+      (puts_in f k m x g)
   take_honest {p} {m} {b} h fits i breaks = (outside (h ++ b ∷ []) m, tt)
 
   fed_honest : (p : Place) (m h : List ℕ) (b : ℕ) → longest_in f ≤ length m → Since h (place_by (messages_in f) p m) m → Honest f (h ++ b ∷ []) (take_in f p m b)
-  fed_honest p m h b fits i = subst (Honest f (h ++ b ∷ [])) (sym (take-long-in f p m b fits)) (take_honest h fits i (takes (messages_in f) p m b))
+  fed_honest p m h b fits i = subst (Honest f (h ++ b ∷ [])) (sym (take_long_in f p m b fits)) (take_honest h fits i (takes (messages_in f) p m b))
 
   run_honest : (p : Place) (m h bs : List ℕ) → longest_in f ≤ length m → Since h (place_by (messages_in f) p m) m
       → Since (h ++ bs) (place_by (messages_in f) (run_in f p m bs).place (run_in f p m bs).message) (run_in f p m bs).message
@@ -93,7 +93,7 @@ module _ (f : Form) (s : Serial f) where
   run_honest p m h (b ∷ bs) fits i =
       let d : Fed = take_in f p m b in
       rw (append_assoc h (b ∷ []) bs) at
-      (run_honest d.taken.place d.message (h ++ b ∷ []) bs (omega (arith, take-length-in f p m b)) (rw (take-place-in f s p m b fits) (fed_honest p m h b fits i).0))
+      (run_honest d.taken.place d.message (h ++ b ∷ []) bs (omega (arith, take_length_in f p m b)) (rw (take_place_in f s p m b fits) (fed_honest p m h b fits i).0))
 
 -- after the bytes bs, from any place p and with any buffer m, the byte b gives a good message
 module _ (f : Form) (s : Serial f) (p : Place) (m bs : List ℕ) (b c at n : ℕ) (good : (last_in f p m bs b).taken.outcome ≡ Good c at n) where
@@ -176,8 +176,8 @@ sound_frame p m bs b c at n good =
     (came.earlier, came.bytes ∙ ap (λ (q : List ℕ). came.earlier ++ on_wire q) (byte_read c at n (last_in byte_form p m bs b).message _ came))
 
 -- where a good message lies in the buffer
-pub good-where : (p : Place) (m : List ℕ) (b c at n : ℕ) → (take_of p m b).taken.outcome ≡ Good c at n → (at ≡ packet_begins byte_form) × (1 ≤ n) × (n ≤ most) × (at + n ≤ longest)
+pub good_where : (p : Place) (m : List ℕ) (b c at n : ℕ) → (take_of p m b).taken.outcome ≡ Good c at n → (at ≡ packet_begins byte_form) × (1 ≤ n) × (n ≤ most) × (at + n ≤ longest)
 unfolding take_of
-good-where p m b c at n good =
+good_where p m b c at n good =
     let came : Came byte_form c at n (take_in byte_form p m b).message (before (place_by messages p m) m ++ b ∷ []) = sound byte_form byte_serial p m [] b c at n good in
     (came.start, came.some, came.few, omega arith)

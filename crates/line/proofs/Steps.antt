@@ -14,8 +14,8 @@ use Rattle.line.proofs.Numbers.{number_set, byte_serial}
 use Rattle.line.proofs.Begun.{Begun, begun_known, begun_right}
 
 -- a message that has begun has not yet as many bytes as the longest
-pub put-within-in : (f : Form) → Serial f → (k n : ℕ) → begun_in f k n ≡ true → k < longest_in f
-put-within-in f s k n g = go (ltb k f.width) refl
+pub put_within_in : (f : Form) → Serial f → (k n : ℕ) → begun_in f k n ≡ true → k < longest_in f
+put_within_in f s k n g = go (ltb k f.width) refl
   where
     go : (t : Bool) → ltb k f.width ≡ t → k < longest_in f
     go true e = omega (arith, ltb-true k f.width e, s.summed)
@@ -49,8 +49,8 @@ module _ (f : Form) (k : ℕ) (m : List ℕ) (x : ℕ) where
       (eqb (number_at f.sum_width (checksum_at f n) (set m k x)) (f.checksum (take (checksum_at f n) (set m k x))))
       (λ t. fills n some few e l (eqb-true _ _ t)) (λ _. spoils)
 
-  pub puts-in : begun_in f k (len_in f m) ≡ true → PutsIn f k m x (put_in f k m x)
-  puts-in g =
+  pub puts_in : begun_in f k (len_in f m) ≡ true → PutsIn f k m x (put_in f k m x)
+  puts_in g =
       cond_ind (PutsIn f k m x) (begun_in f (k + 1) (len_in f (set m k x))) goes
       (λ e. cond_ind (PutsIn f k m x) (ltb k f.width) (λ _. refuses)
       (λ t.
@@ -72,19 +72,19 @@ unfolding take_in
 take_cases f P p m b short long = cond_ind P (ltb (length m) (longest_in f)) (λ _. short) (λ t. long (ltb-false (length m) (longest_in f) t))
 
 -- with one long enough a byte is one of the stuffing over messages
-pub take-long-in : (f : Form) (p : Place) (m : List ℕ) (b : ℕ) → longest_in f ≤ length m → take_in f p m b ≡ take_by (messages_in f) p m b
+pub take_long_in : (f : Form) (p : Place) (m : List ℕ) (b : ℕ) → longest_in f ≤ length m → take_in f p m b ≡ take_by (messages_in f) p m b
 unfolding take_in
-take-long-in f p m b h = simp (le-ltb _ _ h)
+take_long_in f p m b h = simp (le-ltb _ _ h)
 
 -- ---- the byte form
 pub put_within : (k n : ℕ) → begun_of k n ≡ true → k < longest
-put_within = put-within-in byte_form byte_serial
+put_within = put_within_in byte_form byte_serial
 
 abbrev pub Puts : ℕ → List ℕ → ℕ → Fed → Type 0
 Puts = PutsIn byte_form
 
 pub puts : (k : ℕ) (m : List ℕ) (x : ℕ) → longest ≤ length m → messages.begun k m ≡ true → Puts k m x (put_of k m x)
-puts k m x fits = puts-in byte_form k m x
+puts k m x fits = puts_in byte_form k m x
 
 -- LEN is judged as it comes
 pub put_len : (k : ℕ) (m : List ℕ) (x : ℕ) → k < byte_form.width → longest ≤ length m
@@ -97,4 +97,4 @@ does_so p h = rw p h
 
 pub take_long : (p : Place) (m : List ℕ) (b : ℕ) → longest ≤ length m → take_of p m b ≡ take_by messages p m b
 unfolding take_of
-take_long = take-long-in byte_form
+take_long = take_long_in byte_form

@@ -5,7 +5,7 @@ use Rattle.line.specs.Form.{Form}
 use Rattle.line.specs.Message.{size_in, room_in, Serial, message_in, frame_in, byte_form, most, room, message, frame}
 use Rattle.line.specs.Wire.{has, unstuff}
 use Rattle.line.proofs.Laws.{cond_ind, stuff_short}
-use Rattle.line.proofs.Numbers.{message-length-in, byte_serial}
+use Rattle.line.proofs.Numbers.{message_length_in, byte_serial}
 pub use Rattle.line.proofs.Laws.{false_true}
 
 -- ---- whether a byte is among bytes
@@ -56,14 +56,14 @@ unstuff_stuff xs = rw (append-nil (stuff xs), append-nil xs) at (unstuff_on xs [
 pub frame_sync : (f : Form) (ctr : ℕ) (packet : List ℕ) → (frame_in f ctr packet ≡ SYNC ∷ stuff (message_in f ctr packet)) × (has SYNC (stuff (message_in f ctr packet)) ≡ false)
 frame_sync f ctr packet = (refl, stuff_plain (message_in f ctr packet))
 
-pub frame-short-in : (f : Form) → Serial f → (ctr : ℕ) (packet : List ℕ) → length packet ≤ f.most → length (frame_in f ctr packet) ≤ room_in f
-frame-short-in f s ctr packet few = omega (arith, stuff_short (message_in f ctr packet), message-length-in f ctr packet, s.within (length packet) few)
+pub frame_short_in : (f : Form) → Serial f → (ctr : ℕ) (packet : List ℕ) → length packet ≤ f.most → length (frame_in f ctr packet) ≤ room_in f
+frame_short_in f s ctr packet few = omega (arith, stuff_short (message_in f ctr packet), message_length_in f ctr packet, s.within (length packet) few)
 
 pub message_length : (ctr : ℕ) (packet : List ℕ) → length (message ctr packet) ≡ size_in byte_form (length packet)
-message_length = message-length-in byte_form
+message_length = message_length_in byte_form
 
 pub frame_short : (ctr : ℕ) (packet : List ℕ) → length packet ≤ most → length (frame ctr packet) ≤ room
-frame_short = frame-short-in byte_form byte_serial
+frame_short = frame_short_in byte_form byte_serial
 
 -- where two lists have a SYNC and none after it, they are equal from it on if they are equal
 pub last_sync : (xs ys pre zs : List ℕ) → has SYNC ys ≡ false → has SYNC zs ≡ false → xs ++ SYNC ∷ ys ≡ pre ++ SYNC ∷ zs → ys ≡ zs

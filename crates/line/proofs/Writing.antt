@@ -6,7 +6,7 @@ use Rattle.line.specs.Writer.{Sent, at_front, write_in}
 use Rattle.line.specs.declared.Written.TheVariants.{Frame}
 use Rattle.line.proofs.Laws.{cond_ind, length_front}
 use Rattle.line.proofs.Fronts.{take_front, drop_front}
-use Rattle.line.proofs.Stuffed.{frame-short-in}
+use Rattle.line.proofs.Stuffed.{frame_short_in}
 
 -- the lent bytes keep their length, whatever the packet
 pub write_length : (f : Form) (p : List ℕ) (ctr : ℕ) (out : List ℕ) → length (write_in f p ctr out).out ≡ length out
@@ -32,7 +32,7 @@ module _ (f : Form) (s : Serial f) (p : List ℕ) (ctr : ℕ) (out : List ℕ) (
 
   -- a frame has a byte, and fits where the longest does
   pub write_size : (1 ≤ length (frame_in f ctr p)) × (length (frame_in f ctr p) ≤ room_in f)
-  write_size = (omega arith, frame-short-in f s ctr p few)
+  write_size = (omega arith, frame_short_in f s ctr p few)
 
   pub write_front : take (length (frame_in f ctr p)) (write_in f p ctr out).out ≡ frame_in f ctr p
   write_front = rw write_good (take_front (frame_in f ctr p) out (omega (arith, write_size)))

@@ -203,8 +203,8 @@ alloc_odts_deed present odts taken entries started l n =
 
 -- ALLOC_ODT_ENTRY: first ALLOC_ODT, and once for an ODT
 unfoldable pub alloc_entries_deed : ℕ → ℕ → ℕ → ℕ → Bool → ℕ → ℕ → ℕ → Deed
-alloc_entries_deed odts entries odtsAll taken runs l o n =
-    cond (eqb odtsAll 0) (deed.Refuse Sequence)
+alloc_entries_deed odts entries odts_all taken runs l o n =
+    cond (eqb odts_all 0) (deed.Refuse Sequence)
     (cond (ltb 0 entries) (deed.Refuse Sequence)
     (cond (leb odts o) (deed.Refuse OutOfRange)
     (cond (eqb n 0) (deed.Refuse OutOfRange)

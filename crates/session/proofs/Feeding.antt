@@ -14,7 +14,7 @@ use Rattle.line.specs.declared.Outcome.{Outcome}
 use Rattle.line.specs.declared.Outcome.TheVariants.{Good}
 use Rattle.line.specs.declared.Taken.{Taken}
 use Rattle.line.proofs.After.{take_length}
-use Rattle.line.proofs.Sound.{good-where}
+use Rattle.line.proofs.Sound.{good_where}
 use Rattle.state.specs.Layout.{place_at, count_at, message_at, packet_at, packet_most, size}
 use Rattle.state.specs.Bytes.{block}
 use Rattle.state.specs.State.{place_of, set_place, message_of, set_message}
@@ -50,7 +50,7 @@ told s b p taken m t e d st =
 -- a good message's packet
 pub good : (s : List ℕ) (b : ℕ) (taken : Taken) (m t : List ℕ) (c at n : ℕ) → Told s b taken m t → taken.outcome ≡ Good c at n → (at ≡ 2) × (1 ≤ n) × (n ≤ packet_most)
 good s b taken m t c at n w e =
-    let g = good-where (place_of s) (message_of s) b c at n (w.outcome ∙ e) in
+    let g = good_where (place_of s) (message_of s) b c at n (w.outcome ∙ e) in
     (g.0, g.1, g.2)
 
 place_past : (s : List ℕ) (p : Place) → drop packet_at (set_place s p) ≡ drop packet_at s

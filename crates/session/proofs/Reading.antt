@@ -169,8 +169,8 @@ judged_ends m =
 
 -- a byte other than SYNC, at a place that a message can have
 module _ (s : List ℕ) (k b : ℕ) (h : length s ≡ size) (g : begun_of k (len_of s) ≡ true) (e : b ≢ SYNC) where
-  in-message : take_by messages (place_in 1 k) (message_of s) b ≡ cond (eqb b ESC) (on (Escaped k) (message_of s)) (put_of k (message_of s) b)
-  in-message = let l : get_or (message_of s) 0 0 ≡ len_of s = len_there s in simp (ne_eqb b SYNC e, l, g)
+  in_message : take_by messages (place_in 1 k) (message_of s) b ≡ cond (eqb b ESC) (on (Escaped k) (message_of s)) (put_of k (message_of s) b)
+  in_message = let l : get_or (message_of s) 0 0 ≡ len_of s = len_there s in simp (ne_eqb b SYNC e, l, g)
 
   behind_escape : take_by messages (place_in 2 k) (message_of s) b
       ≡ cond (eqb b 0) (put_of k (message_of s) ESC) (cond (eqb b 1) (put_of k (message_of s) SYNC) (over BadEscape (message_of s)))
@@ -186,7 +186,7 @@ module _ (s : List ℕ) (k b : ℕ) (h : length s ≡ size) (some : 1 ≤ k) (g 
   within = put_within k (len_of s) (went_on k (len_of s) some g)
 
   pub plain_goes : b ≢ SYNC → b ≢ ESC → ReadsOn (placed s 1 k) b (placed (set s (message_at + k) b) 1 (k + 1))
-  plain_goes n e = goes_in s 1 k b h k b within (in-message s k b h (went_on k (len_of s) some g) n ∙ simp (ne_eqb b ESC e) (put_on s k b h some g))
+  plain_goes n e = goes_in s 1 k b h k b within (in_message s k b h (went_on k (len_of s) some g) n ∙ simp (ne_eqb b ESC e) (put_on s k b h some g))
 
   pub escaped_goes : b ≤ 1 → ReadsOn (placed s 2 k) b (placed (set s (message_at + k) (ESC - b)) 1 (k + 1))
   escaped_goes few =
@@ -197,7 +197,7 @@ module _ (s : List ℕ) (k b : ℕ) (h : length s ≡ size) (some : 1 ≤ k) (g 
 
 pub escape_comes : (s : List ℕ) (k b : ℕ) → length s ≡ size → begun_of k (len_of s) ≡ true → b ≡ ESC → ReadsOn (placed s 1 k) b (placed s 2 k)
 escape_comes s k b h g e =
-    stays s 1 k b h (Escaped k) (in-message s k b h g (λ (n : b ≡ SYNC). omega arith) ∙ simp (eq-eqb b ESC e)) _
+    stays s 1 k b h (Escaped k) (in_message s k b h g (λ (n : b ≡ SYNC). omega arith) ∙ simp (eq-eqb b ESC e)) _
     (set_escaped s 1 k k (omega (arith, put_within k (len_of s) g)))
 
 -- ---- a byte that ends something
@@ -215,7 +215,7 @@ module _ (s : List ℕ) (b : ℕ) (h : length s ≡ size) where
   pub len_wrong : begun_of 1 b ≡ false → b ≢ SYNC → b ≢ ESC → ends (fed_of (placed s 1 0) b).taken.outcome ≡ true
   len_wrong g n e =
       ends_so s 1 0 b h (over BadLength (message_of s))
-      (in-message s 0 b h refl n ∙ simp (ne_eqb b ESC e) (put_len 0 (message_of s) b (omega arith) (omega (arith, message_long s h)) ∙ simp g)) refl
+      (in_message s 0 b h refl n ∙ simp (ne_eqb b ESC e) (put_len 0 (message_of s) b (omega arith) (omega (arith, message_long s h)) ∙ simp g)) refl
 
   len_escaped_at : b ≤ 1 → ends (fed_of (placed s 2 0) b).taken.outcome ≡ true
   len_escaped_at few =
@@ -251,7 +251,7 @@ module _ (s : List ℕ) (k b : ℕ) (h : length s ≡ size) (g : begun_of k (len
     pub last_inside : b ≢ SYNC → b ≢ ESC → ends (fed_of (placed s 1 k) b).taken.outcome ≡ true
     last_inside n e =
         ends_so s 1 k b h (over (judged_of (set (message_of s) k b)) (set (message_of s) k b))
-        (in-message s k b h g n ∙ simp (ne_eqb b ESC e) (put_last s k b h some over_now)) (judged_ends (set (message_of s) k b))
+        (in_message s k b h g n ∙ simp (ne_eqb b ESC e) (put_last s k b h some over_now)) (judged_ends (set (message_of s) k b))
 
     pub last_escaped : b ≤ 1 → ends (fed_of (placed s 2 k) b).taken.outcome ≡ true
     last_escaped few =

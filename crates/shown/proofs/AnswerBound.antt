@@ -29,8 +29,8 @@ none_before_lem out out' (c ∷ cs) later e = absurd (omega (arith, ap length e,
 that_slot : (out out' : List ℕ) (before later : List Call) → before ≡ [] → SendingSlot out ∷ [] ≡ before ++ SendingSlot out' ∷ later → out' ≡ out
 that_slot out out' before later n e = sym (ap lent (subst (λ cs. SendingSlot out ∷ [] ≡ cs ++ SendingSlot out' ∷ later) n e))
 
-in-the-first : (n : ℕ) (v : AnySlave) (s a out : List ℕ) → LeavesWithin n v s a (SendingSlot out ∷ []) → sends v s (SendingSlot out) ≡ frame (view_of s).ctr a ∷ []
-in-the-first n v s a out w =
+in_the_first : (n : ℕ) (v : AnySlave) (s a out : List ℕ) → LeavesWithin n v s a (SendingSlot out ∷ []) → sends v s (SendingSlot out) ≡ frame (view_of s).ctr a ∷ []
+in_the_first n v s a out w =
     let e : w.before ≡ [] = none_before_lem out w.out w.before w.later w.split in
     subst₂ (λ cs o. sends v (run v s cs) (SendingSlot o) ≡ frame (view_of (run v s cs)).ctr a ∷ []) e (that_slot out w.out w.before w.later e w.split) w.sent
 
@@ -44,7 +44,7 @@ started = reached ours (measuring (5 ∷ []) ++ slot ∷ [])
 pub one_slot_is_not_enough : AnsweredBy 1 ours → ⊥
 unfolding computed
 one_slot_is_not_enough d =
-    let e : ◌≡◌ {A = ℕ} 0 0xFE = ap (λ fs. get_or (get_or fs 0 []) 3 0) (in-the-first 1 ours (ours.receive (run ours started calls) [] [] (last_byte synch)).state (0xFE ∷ 0 ∷ []) (replicate room 0) ((d started calls [] [] (last_byte synch) (slot ∷ []) 0 synch refl (lit≤ tt) (lit≤ tt) refl refl refl).leaves (lit≤ tt)))
+    let e : ◌≡◌ {A = ℕ} 0 0xFE = ap (λ fs. get_or (get_or fs 0 []) 3 0) (in_the_first 1 ours (ours.receive (run ours started calls) [] [] (last_byte synch)).state (0xFE ∷ 0 ∷ []) (replicate room 0) ((d started calls [] [] (last_byte synch) (slot ∷ []) 0 synch refl (lit≤ tt) (lit≤ tt) refl refl refl).leaves (lit≤ tt)))
     in omega arith
 
 -- the second sends it

@@ -80,8 +80,8 @@ module _ (s : List ℕ) (bytes : (j : ℕ) → get_or s j 0 < 256) where
     thirds : evens / 65536 ≡ lane s 2 n
     thirds = omega (arith, l.even, lane_most 0 n)
 
-    pub thirds-in : 256 * (evens / 65536) ≤ uppers
-    thirds-in = rw thirds (omega (arith, l.upper))
+    pub thirds_in : 256 * (evens / 65536) ≤ uppers
+    thirds_in = rw thirds (omega (arith, l.upper))
 
     -- what `folded` gives is the sum of the words
     pub lanes_sum : 4 * n ≤ length s

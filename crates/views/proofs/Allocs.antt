@@ -23,7 +23,7 @@ use Rattle.state.proofs.Sets.{cleared_length}
 use Rattle.words.specs.declared.Pointer.{Pointer}
 use Rattle.words.specs.declared.Pointer.TheVariants.{Unset as NoEntry, At as Entry}
 use Rattle.lists.specs.Alloc.{lists_freed, lists_allocated, odts_allocated, entries_allocated}
-use Rattle.fields.proofs.Stores.{cleared-in}
+use Rattle.fields.proofs.Stores.{cleared_in}
 use Rattle.fields.proofs.Frames.{Only, out_below, out_above, only_set, only_cleared, only_dropped}
 use Rattle.fields.proofs.Readers.{Same, clear, same_part, same_then, apart, flag_reads, generator_reads, wrong_keys_reads, open_reads, seed_reads, mta_reads}
 use Rattle.fields.proofs.Fields.{no_round, dropped_empty}
@@ -39,10 +39,10 @@ use Rattle.views.proofs.AllocReads.{counted, counted_long, beside_entries, made_
 abbrev relisted : Session → Pointer → Bool → ℕ → ℕ → (ℕ → DaqList) → Session
 relisted c p f n r g = record { generator = c.generator; wrong_keys = c.wrong_keys; opened = c.opened; unlocked = c.unlocked; seed = c.seed; mta = c.mta; pointer = p; freed = f; lists = n; round = r; list = g }
 
-in-alloc : {s t : List ℕ} {p : Pointer} {f : Bool} {n r : ℕ} {g : ℕ → DaqList} → Same generator_at ctr_at s t → Same open_at pointer_at s t
+in_alloc : {s t : List ℕ} {p : Pointer} {f : Bool} {n r : ℕ} {g : ℕ → DaqList} → Same generator_at ctr_at s t → Same open_at pointer_at s t
     → pointer_of t ≡ p → freed_of t ≡ f → list_count t ≡ n → round_of t ≡ r → lists_of t ≡ g → session_of t ≡ relisted (session_of s) p f n r g
 unfolding session_of
-in-alloc w v p f n r g = λ i. record {
+in_alloc w v p f n r g = λ i. record {
   generator = generator_reads (same_part (lit≤ tt) (lit≤ tt) w) i;
   wrong_keys = wrong_keys_reads (same_part (lit≤ tt) (lit≤ tt) w) i;
   opened = open_reads (same_part (lit≤ tt) (lit≤ tt) v) i;
@@ -80,7 +80,7 @@ module _ (s : List ℕ) (h : length s ≡ size) where
       let t : List ℕ = lists_freed s in
       let w : Only phase_at odts_at s t = only_set s phase_at 1 (lit≤ tt) (lit< tt) in
       let none : list_count t ≡ 0 = omega (arith, freed_phase) in
-      in-alloc (apart tt w) (apart tt w) (unlisted_pointer t none) (rw freed_phase refl) none (no_round t none) (no_lists_lem t none)
+      in_alloc (apart tt w) (apart tt w) (unlisted_pointer t none) (rw freed_phase refl) none (no_round t none) (no_lists_lem t none)
 
 -- ---- ALLOC_DAQ
 module _ (s : List ℕ) (n : ℕ) (h : length s ≡ size) (few : n ≤ lists) where
@@ -97,7 +97,7 @@ module _ (s : List ℕ) (n : ℕ) (h : length s ≡ size) (few : n ≤ lists) wh
   unfolding lists_allocated
   nought j p q =
       get_or-set_other (set bare round_at 0) phase_at j ((n + 1) % 256) 0 (omega arith) ∙ get_or-set_other bare round_at j 0 0 (omega arith)
-      ∙ cleared-in s odts_at (mode_at lists - odts_at) j (omega arith) p (omega arith)
+      ∙ cleared_in s odts_at (mode_at lists - odts_at) j (omega arith) p (omega arith)
 
   new_phase : phase_of t ≡ n + 1
   unfolding phase_of lists_allocated
@@ -140,7 +140,7 @@ module _ (s : List ℕ) (n : ℕ) (h : length s ≡ size) (few : n ≤ lists) wh
   pub shows_new_lists : list_count s ≡ 0 → freed_of s ≡ true → session_of (lists_allocated s n) ≡ with_new_lists n (session_of s)
   unfolding session_of
   shows_new_lists none freed =
-      in-alloc (new_same tt tt) (new_same tt tt) (unpointed t (λ l o e p q r. omega (arith, no_odts l (omega (arith, lists_most t)))) ∙ sym (unlisted_pointer s none))
+      in_alloc (new_same tt tt) (new_same tt tt) (unpointed t (λ l o e p q r. omega (arith, no_odts l (omega (arith, lists_most t)))) ∙ sym (unlisted_pointer s none))
       (rw new_phase (lt-ltb 0 (n + 1) (omega arith)) ∙ sym freed) (omega (arith, new_phase)) (new_round ∙ sym (no_round s none)) new_lists
 
 -- ---- ALLOC_ODT
@@ -182,7 +182,7 @@ module _ (s : List ℕ) (l n : ℕ) (h : length s ≡ size) (one : l < list_coun
   no_entries_lem k p =
       let z : (i : ℕ) → i < suc k → entries_in u i ≡ 0
       = λ i q. get_or-set_other uncounted (odts_at + l) (counts_at + i) n 0 (omega (arith, lists_most s))
-      ∙ cleared-in unsent counts_at all_odts (counts_at + i) (omega (arith, unsent_long)) (omega arith) (omega arith) in
+      ∙ cleared_in unsent counts_at all_odts (counts_at + i) (omega (arith, unsent_long)) (omega arith) (omega arith) in
       omega (arith, start_none all_entries (entries_in u) (suc k) z)
 
   no_packet : (k : ℕ) → k < all_odts → get_or u (sample_at k) 0 ≡ 0
@@ -199,8 +199,8 @@ module _ (s : List ℕ) (l n : ℕ) (h : length s ≡ size) (one : l < list_coun
   odts_phase : get_or u phase_at 0 ≡ get_or s phase_at 0
   odts_phase = (beside_odts {a = phase_at} {b = odts_at} tt tt).byte phase_at (lit≤ tt) (lit< tt)
 
-  odts-in : (i : ℕ) → i < list_count s → odt_count u i ≡ cond (eqb i l) n (odt_count s i)
-  odts-in i p =
+  odts_in_lem : (i : ℕ) → i < list_count s → odt_count u i ≡ cond (eqb i l) n (odt_count s i)
+  odts_in_lem i p =
       this_or_other i l
       (λ e. rw (e, eq-eqb l l refl) (grown_here all_odts (odts_in s) (odts_in u) l n (list_count s) one was odts_own odts_other fits))
       (λ ne. rw (ne_eqb i l ne) (grown_others all_odts (odts_in s) (odts_in u) l n (list_count s) one was odts_own odts_other fits i p ne))
@@ -209,7 +209,7 @@ module _ (s : List ℕ) (l n : ℕ) (h : length s ≡ size) (one : l < list_coun
   odts_listed i p =
       let w : Same (mode_at 0) (sample_at 0) s u = beside_odts tt tt in
       list_from (mode_own i (same_part (omega arith) (omega (arith, lists_most s)) w)) (flag_reads (selected_at i) (same_part (omega arith) (omega (arith, lists_most s)) w))
-      (flag_reads (running_at i) (same_part (omega arith) (omega (arith, lists_most s)) w)) (odts-in i p)
+      (flag_reads (running_at i) (same_part (omega arith) (omega (arith, lists_most s)) w)) (odts_in_lem i p)
       (up_to_is (odt_count u i) no_odt (λ o q. new_odt (first_odt u i + o) (omega (arith, odt_most_lem u i))) (λ o q. refl))
 
   odts_lists : lists_of u ≡ λ i. with_odts l n i (lists_of s i)
@@ -222,7 +222,7 @@ module _ (s : List ℕ) (l n : ℕ) (h : length s ≡ size) (one : l < list_coun
   pub shows_new_odts : session_of (odts_allocated s l n) ≡ each_list (with_odts l n) (session_of s)
   unfolding session_of
   shows_new_odts =
-      in-alloc (beside_odts tt tt) (beside_odts tt tt)
+      in_alloc (beside_odts tt tt) (beside_odts tt tt)
       (unpointed u (λ i o e p q r. omega (arith, no_entries_lem (first_odt u i + o) (omega (arith, odt_most_lem u i))))
       ∙ sym (unpointed s (λ i o e p q r. omega (arith, odt_inside s i p, entry_inside s (first_odt s i + o) (omega (arith, odt_inside s i p))))))
       (rw (phase_same u s odts_phase)) (lists_same u s odts_phase)
@@ -278,5 +278,5 @@ module _ (s : List ℕ) (l o n : ℕ) (h : length s ≡ size) (one : l < list_co
   shows_new_entries =
       shows_pointer x (counted_long s k n h k_there was fits) (pointer_of s) (still_pointed s k n h k_there was fits (pointer_of s) (pointed s))
       ∙ ap (λ (c : Session). with_pointer c (pointer_of s))
-      (in-alloc (beside tt tt) (beside tt tt) refl (rw (phase_same x s entries_phase)) (lists_same x s entries_phase)
+      (in_alloc (beside tt tt) (beside tt tt) refl (rw (phase_same x s entries_phase)) (lists_same x s entries_phase)
       (round_same x s entries_phase ((beside {a = round_at} {b = last_at} tt tt).byte round_at (lit≤ tt) (lit< tt))) entries_lists)

@@ -29,7 +29,7 @@ use Rattle.session.specs.Receive.{read_on}
 use Rattle.session.specs.PowerUp.{powered}
 use Rattle.state.proofs.Xorshift.{start_some, start_same}
 use Rattle.fields.proofs.Fields.{Counted, place_same, generator_same, Answering, answer_same, Bare}
-use Rattle.fields.proofs.Stores.{block_sets, sets-in}
+use Rattle.fields.proofs.Stores.{block_sets, sets_in}
 use Rattle.fields.proofs.Frames.{Only, out_above, only_none, only_then, only_wider, only_set, only_sets, only_put32, only_generator, only_read_on, only_message, only_place, only_answered}
 use Rattle.fields.proofs.Readers.{Same, apart, same_part, flag_reads, generator_reads, wrong_keys_reads, open_reads, seed_reads, mta_reads, list_count_reads, odt_count_reads, entry_count_reads, round_reads, pointer_reads, place_reads, message_reads, answer_reads, entries_own, store_own}
 use Rattle.fields.proofs.Served.{answer_sent_front, answer_sent_round, answer_sent_session, answer_sent_reader}
@@ -38,13 +38,13 @@ use Rattle.model.specs.Step.{with_session, with_lists, at, emptied}
 use Rattle.model.specs.Calls.{with_answer, with_reader, answer_gone, without_packet, with_round, packet_gone, contents_in, with_packet, sampled, powered_up}
 use Rattle.model.specs.View.{odt_of, daq_of, session_of, view_of}
 use Rattle.model.proofs.Bounded.{either, up_to_at, up_to_above, up_to_is, up_to_put}
-use Rattle.views.proofs.Parts.{spared, both, odt_from, list_from, Stays, mode_own, odt_own, odts_as, in-pool, lists_apart, own_one, list_own, lists_reads, freed_reads, locks_reads, in-session, in-lists}
+use Rattle.views.proofs.Parts.{spared, both, odt_from, list_from, Stays, mode_own, odt_own, odts_as, in_pool, lists_apart, own_one, list_own, lists_reads, freed_reads, locks_reads, in_session, in_lists}
 use Rattle.views.proofs.Shows.{flag_zero, Changes, changes, store_empty, bare_session}
 
 -- a change of none of the session's bytes; with which list the round begins may change
-in-round : {s t : List ℕ} → Same generator_at ctr_at s t → Same session_at size s t → session_of t ≡ with_round (session_of s) (round_of t)
+in_round : {s t : List ℕ} → Same generator_at ctr_at s t → Same session_at size s t → session_of t ≡ with_round (session_of s) (round_of t)
 unfolding session_of
-in-round {s} {t} w v = λ i. record {
+in_round {s} {t} w v = λ i. record {
   generator = generator_reads (same_part (lit≤ tt) (lit≤ tt) w) i;
   wrong_keys = wrong_keys_reads (same_part (lit≤ tt) (lit≤ tt) w) i;
   opened = open_reads (same_part (lit≤ tt) (lit≤ tt) v) i;
@@ -60,7 +60,7 @@ in-round {s} {t} w v = λ i. record {
 
 pub session_reads : {s t : List ℕ} → Same generator_at ctr_at s t → Same round_at last_at s t → Same session_at size s t → session_of t ≡ session_of s
 unfolding session_of
-session_reads {s} w r v = in-round w v ∙ ap (with_round (session_of s)) (round_reads (same_part (lit≤ tt) (lit≤ tt) v) r)
+session_reads {s} w r v = in_round w v ∙ ap (with_round (session_of s)) (round_reads (same_part (lit≤ tt) (lit≤ tt) v) r)
 
 -- ---- an answer waits
 pub view_answered : (s bs : List ℕ) → length s ≡ size → Answering bs → view_of (answered s bs) ≡ with_answer (view_of s) bs
@@ -128,7 +128,7 @@ module _ (s : List ℕ) (l o : ℕ) (h : length s ≡ size) (there : l < list_co
       (odt_from (entry_count_reads stays k few.1) (entries_own stays k few.1 (spared w (omega (arith, entry_most_lem s k)))) (store_empty t k (get_or-set_same s at_store 0 0 (omega (arith, few))))
       ∙ ap emptied (sym (up_to_at (odt_count s l) o no_odt (λ o. odt_of s (first_odt s l + o)) its)))
       (λ j p n. let m : ℕ = first_odt s l + j in odt_own stays m (omega (arith, odt_most_lem s l)) (spared w (omega (arith, entry_most_lem s m))) (spared w (omega arith)))))
-      (λ j p n. list_own j p (own_one w (omega (arith, few, lists_apart s j l n, in-pool s j, odt_next s l))))
+      (λ j p n. list_own j p (own_one w (omega (arith, few, lists_apart s j l n, in_pool s j, odt_next s l))))
 
   pub view_packet_sent : view_of (packet_sent s l o) ≡ packet_gone l o (view_of s)
   unfolding view_of packet_sent session_of
@@ -147,7 +147,7 @@ module _ (s : List ℕ) (l o : ℕ) (h : length s ≡ size) (there : l < list_co
       let begins : round_of t ≡ cond (ltb (round_after l) (list_count s)) (round_after l) 0
       = round_next t (round_after l) (get_or-set_other s₃ last_at round_at 0 0 (omega arith) ∙ get_or-set_same s₂ round_at (round_after l) 0 (omega arith)) ∙ ap (λ (n : ℕ). cond (ltb (round_after l) n) (round_after l) 0) (list_count_reads stays) in
       λ i. record {
-        session = (in-round (apart tt v) (apart tt v) ∙ ap₂ with_round (in-lists x ∙ ap (with_lists (session_of s)) taken) begins) i;
+        session = (in_round (apart tt v) (apart tt v) ∙ ap₂ with_round (in_lists x ∙ ap (with_lists (session_of s)) taken) begins) i;
         place = place_reads (both w v (omega arith)) i;
         message = message_reads (both w v (omega arith)) i;
         answer = answer_reads (both w v (omega arith)) i;
@@ -190,7 +190,7 @@ module _ (s : List ℕ) (k : ℕ) (bs : List ℕ) (h : length s ≡ size) (k8 : 
 
   stored_byte : get_or (stored s k bs) (sample_at k) 0 ≡ length bs
   unfolding stored
-  stored_byte = rw add-zero at (sets-in s (sample_at k) (length bs ∷ bs) 0 (omega arith) (omega arith))
+  stored_byte = rw add-zero at (sets_in s (sample_at k) (length bs ∷ bs) 0 (omega arith) (omega arith))
 
   stored_block : block (stored s k bs) (sample_at k + 1) (length bs) ≡ bs
   unfolding stored
@@ -263,7 +263,7 @@ module _ (s : List ℕ) (l clock : ℕ) (cal meas : List ℕ) (long : length s �
       changes l (sampled clock cal meas) s t stays list
       (list_from (mode_own l (spared captured_only (omega (arith, list_few)))) (flag_reads (selected_at l) (spared captured_only (omega (arith, list_few)))) (flag_reads (running_at l) (spared captured_only (omega (arith, list_few))))
       (odt_count_reads stays l list_few) captured_odts_lem)
-      (λ j p n. list_own j p (own_one captured_only (omega (arith, lists_apart s j l n, in-pool s j, in-pool s l))))
+      (λ j p n. list_own j p (own_one captured_only (omega (arith, lists_apart s j l n, in_pool s j, in_pool s l))))
 
   only_lists : Only (mode_at 0) size s (captured s l clock cal meas)
   only_lists = only_wider (omega arith) (omega (arith, odt_most_lem s l)) captured_only
@@ -271,8 +271,8 @@ module _ (s : List ℕ) (l clock : ℕ) (cal meas : List ℕ) (long : length s �
   pub view_captured : view_of (captured s l clock cal meas) ≡ with_session (view_of s) (at l (sampled clock cal meas) (session_of s))
   unfolding session_of
   view_captured =
-      in-session (record { range = only_wider (lit≤ tt) (lit≤ tt) only_lists; ctr = apart tt only_lists; between = apart tt only_lists })
-      ∙ ap (with_session (view_of s)) (in-lists only_lists ∙ ap (with_lists (session_of s)) changes_captured)
+      in_session (record { range = only_wider (lit≤ tt) (lit≤ tt) only_lists; ctr = apart tt only_lists; between = apart tt only_lists })
+      ∙ ap (with_session (view_of s)) (in_lists only_lists ∙ ap (with_lists (session_of s)) changes_captured)
 
 -- ---- power-up
 place_outside : (s : List ℕ) → get_or s place_at 0 ≡ 0 → place_of s ≡ Outside

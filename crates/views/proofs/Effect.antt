@@ -37,13 +37,13 @@ use Rattle.model.specs.View.{daq_of, lists_of, session_of, view_of}
 use Rattle.views.proofs.Fit.{Fit}
 use Rattle.model.proofs.Shown.{selected_at_lem, odts_at_lem, odt_at, odts_taken_lem, entries_taken_lem}
 use Rattle.model.proofs.Bounded.{either, up_to_above}
-use Rattle.views.proofs.Parts.{Stays, put_here, in-session, in-lists}
+use Rattle.views.proofs.Parts.{Stays, put_here, in_session, in_lists}
 use Rattle.views.proofs.Shows.{shows_seed, shows_generator, shows_mta, shows_pointer, shows_lock, shows_closed, shows_fresh, shows_counted, Changes, changes_switched, changes_selected, changes_mode, changes_cleared, changes_entry_set}
 use Rattle.views.proofs.Allocs.{shows_freed, shows_new_lists, shows_new_odts, shows_new_entries}
 
 -- ---- one list changed
 shows_lists : {s t : List ℕ} {f : ℕ → DaqList} → Only (mode_at 0) size s t → lists_of t ≡ f → session_of t ≡ with_lists (session_of s) f
-shows_lists {s} w e = in-lists w ∙ ap (with_lists (session_of s)) e
+shows_lists {s} w e = in_lists w ∙ ap (with_lists (session_of s)) e
 
 -- ---- START_STOP_SYNCH: list by list, each by itself
 -- the first n lists changed
@@ -254,4 +254,4 @@ session_effect (AllocEntries l o m) s n nc nm h can fit =
 
 pub view_effect : (d : Deed) (s : List ℕ) (n nc nm : ℕ) → length s ≡ size → Doable d (session_of s) n nc nm → Fit d (generator_of s) (wrong_keys_of s) → view_of (effect d s) ≡ step d (view_of s)
 unfolding view_of
-view_effect d s n nc nm h can fit = in-session (effected d s n nc nm can) ∙ ap (with_session (view_of s)) (session_effect d s n nc nm h can fit)
+view_effect d s n nc nm h can fit = in_session (effected d s n nc nm can) ∙ ap (with_session (view_of s)) (session_effect d s n nc nm h can fit)

@@ -117,9 +117,9 @@ module _ (c : Session) (listed : Listed c) (number : ℕ) where
     rest_kept TheRound n = refl
     rest_kept TheLists n = absurd (n refl)
 
-    pub event-leaves-in : EventLeaves number clock cal meas c (sampled_in c number clock cal meas) (counted_in c number)
+    pub event_leaves_in : EventLeaves number clock cal meas c (sampled_in c number clock cal meas) (counted_in c number)
     unfolding sampled_as
-    event-leaves-in = record {
+    event_leaves_in = record {
       told = counted_is;
       taken = λ l t. subst (λ (z : Sampling). CapturedList clock cal meas (c.list l) (sampled_as z clock cal meas (c.list l))) (sym (sampling_is l ∙ ap (λ (b : Bool). cond b Sampled (cond (misses_sample c number l) Missed Idle)) t)) (samples_from clock cal meas (c.list l));
       old = λ l t. ap (λ (z : Sampling). sampled_as z clock cal meas (c.list l)) (sampling_is l ∙ ap (λ (b : Bool). cond b Sampled (cond (misses_sample c number l) Missed Idle)) t) ∙ stays (misses_sample c number l) (c.list l);
@@ -144,4 +144,4 @@ module _ (c : Session) (listed : Listed c) (number : ℕ) where
 pub event_leaves : (v : Slave) (number clock : ℕ) (cal meas : List ℕ) → Listed v.session → number < events
     → EventLeaves number clock cal meas v.session (event_in number clock v cal meas).slave.session (event_in number clock v cal meas).evented
 unfolding event_in
-event_leaves v number clock cal meas listed few = rw (lt-leb events number few) (event-leaves-in v.session listed number clock cal meas)
+event_leaves v number clock cal meas listed few = rw (lt-leb events number few) (event_leaves_in v.session listed number clock cal meas)

@@ -64,9 +64,9 @@ module _ {n : ℕ} (r : Reason) (plain : (eqb (code_of r) 0x22 && eqb n 0xF3) �
   provided true e f = subst (λ (x : Bool). Meets n (cond x (some (code_of r)) rest) d) (sym e) f
   provided false e f = subst (λ (x : Bool). Meets n (cond x (some (code_of r)) rest) (deed.Refuse r)) (sym e) (refuses r plain)
 
-  unless-then : (t : Bool) → (t ≡ false → Meets n rest d) → Meets n (cond t (some (code_of r)) rest) (cond t (deed.Refuse r) d)
-  unless-then true f = refuses r plain
-  unless-then false f = f refl
+  unless_then : (t : Bool) → (t ≡ false → Meets n rest d) → Meets n (cond t (some (code_of r)) rest) (cond t (deed.Refuse r) d)
+  unless_then true f = refuses r plain
+  unless_then false f = f refl
 
 -- a check that the judge need not make
 never_applies : {n : ℕ} (code : ℕ) {t : Bool} {rest : Option ℕ} {d : Deed} → t ≡ false → Meets n rest d → Meets n (cond t (some code) rest) d
@@ -326,7 +326,7 @@ module _ (p : List ℕ) (c : Session) (nc nm : ℕ) where
   of_alloc_odt_lem =
       unless Sequence refl (eqb c.lists 0) refl
       (unless Sequence refl (ltb 0 (entries_taken c)) (ap (ltb 0) (sym (entries_total c)))
-      (unless-then Sequence refl (ltb 0 (c.list (two p 2)).odts) (λ empty.
+      (unless_then Sequence refl (ltb 0 (c.list (two p 2)).odts) (λ empty.
       unless Sequence refl (some_started c c.lists) (sym (started_is c c.lists))
       (unless OutOfRange refl (leb c.lists (two p 2)) refl
       (unless OutOfRange refl (eqb (byte p 4) 0) refl

@@ -28,7 +28,7 @@ use Rattle.model.specs.Judge.{extension_from, set_mta_deed, upload_deed, short_u
 use Rattle.model.specs.declared.Deed.{Deed}
 use Rattle.model.specs.declared.Deed.TheVariants.{Upload, Checksum, Download}
 use Rattle.model.specs.Answers.{reply_in, done_by, writes}
-use Rattle.fields.proofs.Stores.{sets-in, put32_same}
+use Rattle.fields.proofs.Stores.{sets_in, put32_same}
 use Rattle.fields.proofs.Frames.{only_sets}
 use Rattle.model.specs.Model.{byte, Session}
 use Rattle.model.specs.Step.{with_mta, step_in}
@@ -278,7 +278,7 @@ module _ (p : List ℕ) (c : Session) (cal meas : List ℕ) where
         let within : (j : ℕ) → ((i : ℕ) → i < n → j ≢ a + i) → a ≤ j → a + n ≤ j =
         λ j f h. either (ltb j (a + n)) (λ b. let k : j < a + n = ltb-true j (a + n) b in absurd (f (j - a) (omega arith) (omega arith))) (λ b. ltb-false j (a + n) b) in
         record {
-          stored = λ i h. sets-in cal a xs i (omega arith) (omega arith) ∙ block_byte p from n i h ∙ ap (byte p) (omega arith);
+          stored = λ i h. sets_in cal a xs i (omega arith) (omega arith) ∙ block_byte p from n i h ∙ ap (byte p) (omega arith);
           others = λ j f. (only_sets {lo = a} {hi = a + n} cal a xs (le_refl a) (omega arith)).bytes j (aside a (a + n) j (within j f));
           long = length-sets cal a xs;
           mta = refl;

@@ -96,8 +96,8 @@ module _ (s : List ℕ) where
   entries_from l = first_entry s (first_odt s l)
 
   -- in the pool
-  pub in-pool : (l : ℕ) → (first_odt s l ≤ first_odt s (suc l)) × (first_odt s (suc l) ≤ all_odts) × (entries_from l ≤ entries_from (suc l)) × (entries_from (suc l) ≤ all_entries)
-  in-pool l =
+  pub in_pool : (l : ℕ) → (first_odt s l ≤ first_odt s (suc l)) × (first_odt s (suc l) ≤ all_odts) × (entries_from l ≤ entries_from (suc l)) × (entries_from (suc l) ≤ all_entries)
+  in_pool l =
       let o : first_odt s l ≤ first_odt s (suc l) = start_mono all_odts (odts_in s) l (suc l) (omega arith) in
       (o, first_most_lem s (suc l), start_mono all_entries (entries_in s) (first_odt s l) (first_odt s (suc l)) o, start_most all_entries (entries_in s) (first_odt s (suc l)))
 
@@ -159,7 +159,7 @@ module _ {s t : List ℕ} where
       let a : Stays s t = same_part (lit≤ tt) (lit≤ tt) w in
       rw (list_count_reads a)
       (up_to_same (list_count s) no_list (λ l p. let few : l < lists = omega (arith, lists_most s) in
-      list_own l few (record { there = a; head = same_part (omega arith) (omega arith) w; entered = same_part (omega arith) (omega (arith, in-pool s l)) w; stores = same_part (omega arith) (omega (arith, in-pool s l)) w })))
+      list_own l few (record { there = a; head = same_part (omega arith) (omega arith) w; entered = same_part (omega arith) (omega (arith, in_pool s l)) w; stores = same_part (omega arith) (omega (arith, in_pool s l)) w })))
 
   -- whether the lists were freed
   pub freed_reads : Stays s t → freed_of t ≡ freed_of s
@@ -169,9 +169,9 @@ module _ {s t : List ℕ} where
   locks_reads w = fun_ext (λ r. lock_reads r w)
 
   -- ---- a change of the session's bytes leaves the rest of the slave
-  pub in-session : Effected s t → view_of t ≡ with_session (view_of s) (session_of t)
+  pub in_session : Effected s t → view_of t ≡ with_session (view_of s) (session_of t)
   unfolding view_of
-  in-session w = λ i. record {
+  in_session w = λ i. record {
     session = session_of t;
     place = place_reads (same_part (lit≤ tt) (lit≤ tt) w.between) i;
     message = message_reads (same_part (lit≤ tt) (lit≤ tt) w.between) i;
@@ -181,9 +181,9 @@ module _ {s t : List ℕ} where
   }
 
   -- a change of one field's bytes leaves the rest of the session
-  pub in-generator : Only generator_at wrong_keys_at s t → session_of t ≡ with_generator (session_of s) (generator_of t)
+  pub in_generator : Only generator_at wrong_keys_at s t → session_of t ≡ with_generator (session_of s) (generator_of t)
   unfolding session_of
-  in-generator w = λ i. record {
+  in_generator w = λ i. record {
     generator = generator_of t;
     wrong_keys = wrong_keys_reads (apart tt w) i;
     opened = open_reads (apart tt w) i;
@@ -197,9 +197,9 @@ module _ {s t : List ℕ} where
     list = lists_reads (apart tt w) i;
   }
 
-  pub in-seed : Only seed_at mta_at s t → session_of t ≡ with_seed (session_of s) (seed_of t)
+  pub in_seed : Only seed_at mta_at s t → session_of t ≡ with_seed (session_of s) (seed_of t)
   unfolding session_of
-  in-seed w = λ i. record {
+  in_seed w = λ i. record {
     generator = generator_reads (apart tt w) i;
     wrong_keys = wrong_keys_reads (apart tt w) i;
     opened = open_reads (apart tt w) i;
@@ -213,9 +213,9 @@ module _ {s t : List ℕ} where
     list = lists_reads (apart tt w) i;
   }
 
-  pub in-mta : Only mta_at pointer_at s t → session_of t ≡ with_mta (session_of s) (mta_of t)
+  pub in_mta : Only mta_at pointer_at s t → session_of t ≡ with_mta (session_of s) (mta_of t)
   unfolding session_of
-  in-mta w = λ i. record {
+  in_mta w = λ i. record {
     generator = generator_reads (apart tt w) i;
     wrong_keys = wrong_keys_reads (apart tt w) i;
     opened = open_reads (apart tt w) i;
@@ -229,9 +229,9 @@ module _ {s t : List ℕ} where
     list = lists_reads (apart tt w) i;
   }
 
-  pub in-pointer : Only pointer_at phase_at s t → session_of t ≡ with_pointer (session_of s) (pointer_of t)
+  pub in_pointer : Only pointer_at phase_at s t → session_of t ≡ with_pointer (session_of s) (pointer_of t)
   unfolding session_of
-  in-pointer w = λ i. record {
+  in_pointer w = λ i. record {
     generator = generator_reads (apart tt w) i;
     wrong_keys = wrong_keys_reads (apart tt w) i;
     opened = open_reads (apart tt w) i;
@@ -245,9 +245,9 @@ module _ {s t : List ℕ} where
     list = lists_reads (apart tt w) i;
   }
 
-  pub in-lists : Only (mode_at 0) size s t → session_of t ≡ with_lists (session_of s) (lists_of t)
+  pub in_lists : Only (mode_at 0) size s t → session_of t ≡ with_lists (session_of s) (lists_of t)
   unfolding session_of
-  in-lists w = λ i. record {
+  in_lists w = λ i. record {
     generator = generator_reads (apart tt w) i;
     wrong_keys = wrong_keys_reads (apart tt w) i;
     opened = open_reads (apart tt w) i;

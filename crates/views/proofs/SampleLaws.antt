@@ -26,7 +26,7 @@ read_as_lem : (mem : List ℕ) (a : ℕ) → ReadAs mem a (byte_of mem a)
 unfolding byte_of
 read_as_lem mem a =
     let most : reach (length mem) ≤ length mem = min-le_left (length mem) addressable in
-    let entryReached : reach (length mem) ≤ addressable = min-le_right (length mem) addressable in
+    let entry_reached : reach (length mem) ≤ addressable = min-le_right (length mem) addressable in
     record {
       inside = λ h k. rw (lt-ltb a (reach (length mem)) (omega arith));
       behind = λ h. rw (le-ltb a (reach (length mem)) (omega arith));

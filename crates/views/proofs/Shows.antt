@@ -25,7 +25,7 @@ use Rattle.words.specs.declared.Seed.{Seed}
 use Rattle.words.specs.declared.Mta.{Mta}
 use Rattle.words.specs.declared.Pointer.{Pointer}
 use Rattle.state.proofs.Xorshift.{start_same}
-use Rattle.fields.proofs.Stores.{cleared-in}
+use Rattle.fields.proofs.Stores.{cleared_in}
 use Rattle.fields.proofs.Fields.{Addressed, mta_same, pointer_same, Given, wrong_keys_counted, seed_same, generator_same, lock_same, lock_other, Bare, bare_locked, bare_seed, bare_mta, bare_pointer, bare_freed, bare_lists, no_round, empty_stored, dropped_empty, closed_open, closed_bare, counted_bare, fresh_open, fresh_bare}
 use Rattle.fields.proofs.Frames.{Only, only_then, only_generator, only_counted, only_set, only_cleared, only_dropped, only_seed, only_mta, only_pointer, only_lock, only_closed, only_fresh}
 use Rattle.fields.proofs.Readers.{apart, flag_reads, generator_reads, wrong_keys_reads, open_reads, seed_reads, mta_reads, list_count_reads, odt_count_reads, entry_count_reads, first_entry_reads, round_reads, pointer_reads, entries_own, store_own}
@@ -33,22 +33,22 @@ use Rattle.model.specs.Model.{put, no_odt, DaqList, no_list, blank}
 use Rattle.model.specs.Step.{unlock, with_generator, with_lock, with_seed, with_mta, with_pointer, emptied, switch, select, unset, clear, set_mode, with_entry, set_entry}
 use Rattle.model.specs.View.{odt_of, daq_of, lists_of, session_of}
 use Rattle.model.proofs.Bounded.{up_to_at, up_to_is, up_to_map, up_to_put}
-use Rattle.views.proofs.Parts.{spared, both, odt_from, list_from, Stays, mode_own, odt_own, odts_as, odts_own, odts_apart, entries_from, in-pool, in_list_lem, lists_apart, own_one, own_both, list_own, lists_reads, freed_reads, in-generator, in-seed, in-mta, in-pointer}
+use Rattle.views.proofs.Parts.{spared, both, odt_from, list_from, Stays, mode_own, odt_own, odts_as, odts_own, odts_apart, entries_from, in_pool, in_list_lem, lists_apart, own_one, own_both, list_own, lists_reads, freed_reads, in_generator, in_seed, in_mta, in_pointer}
 use Rattle.views.proofs.EntryStored.{entry_put, entries_zero}
 
 -- ---- single fields
 module _ (s : List ℕ) (h : length s ≡ size) where
   pub shows_seed : (x : Seed) → Given x (wrong_keys_of s) → session_of (set_seed s x) ≡ with_seed (session_of s) x
-  shows_seed x g = in-seed (only_seed s x) ∙ ap (with_seed (session_of s)) (seed_same s x h g)
+  shows_seed x g = in_seed (only_seed s x) ∙ ap (with_seed (session_of s)) (seed_same s x h g)
 
   pub shows_generator : (x : ℕ) → x ≢ 0 → x < 2 ^ 32 → session_of (set_generator s x) ≡ with_generator (session_of s) x
-  shows_generator x n l = in-generator (only_generator s x) ∙ ap (with_generator (session_of s)) (generator_same s x h l ∙ start_same x n)
+  shows_generator x n l = in_generator (only_generator s x) ∙ ap (with_generator (session_of s)) (generator_same s x h l ∙ start_same x n)
 
   pub shows_mta : (m : Mta) → Addressed m → session_of (set_mta s m) ≡ with_mta (session_of s) m
-  shows_mta m a = in-mta (only_mta s m) ∙ ap (with_mta (session_of s)) (mta_same s m h a)
+  shows_mta m a = in_mta (only_mta s m) ∙ ap (with_mta (session_of s)) (mta_same s m h a)
 
   pub shows_pointer : (p : Pointer) → Pointed s p → session_of (set_pointer s p) ≡ with_pointer (session_of s) p
-  shows_pointer p a = in-pointer (only_pointer s p) ∙ ap (with_pointer (session_of s)) (pointer_same s p h a)
+  shows_pointer p a = in_pointer (only_pointer s p) ∙ ap (with_pointer (session_of s)) (pointer_same s p h a)
 
   pub shows_lock : (r : Resource) → session_of (set s (lock_at r) 1) ≡ with_lock (session_of s) r
   unfolding session_of
@@ -156,7 +156,7 @@ module _ (s : List ℕ) (l : ℕ) (h : length s ≡ size) (there : l < list_coun
       (odts_as stays l few ∙ up_to_map (odt_count s l) no_odt emptied refl (λ o p. let k : ℕ = first_odt s l + o in
       odt_from (entry_count_reads stays k (odt_few o p)) (entries_own stays k (odt_few o p) (both w v (omega (arith, few, entry_most_lem s k))))
       (store_empty t k (dropped_empty s₁ (first_odt s l) (odt_count s l) o (w.long ∙ h) (odt_most_lem s l) p)))))
-      (λ j p n. list_own j p (own_both w v (omega (arith, few, lists_apart s j l n, in-pool s j, in-pool s l))))
+      (λ j p n. list_own j p (own_both w v (omega (arith, few, lists_apart s j l n, in_pool s j, in_pool s l))))
 
   pub changes_selected : (on : ℕ) → Changes l (select (eqb on 1)) s (set s (selected_at l) on)
   changes_selected on =
@@ -165,7 +165,7 @@ module _ (s : List ℕ) (l : ℕ) (h : length s ≡ size) (there : l < list_coun
       let stays : Stays s t = spared w (omega arith) in
       changes l (select (eqb on 1)) s t stays there
       (list_from (mode_own l (spared w (omega arith))) (flag_set s (selected_at l) on (omega (arith, few))) (flag_reads (running_at l) (spared w (omega arith))) (odt_count_reads stays l few) (odts_own l few stays (spared w (omega (arith, few))) (spared w (omega (arith, few)))))
-      (λ j p n. list_own j p (own_one w (omega (arith, few, in-pool s j))))
+      (λ j p n. list_own j p (own_one w (omega (arith, few, in_pool s j))))
 
   mode_set_lem : (event : ℕ) → event < events → mode_of (set s (mode_at l) ((event + 1) % 256)) l ≡ event + 1
   unfolding mode_of
@@ -193,20 +193,20 @@ module _ (s : List ℕ) (l : ℕ) (h : length s ≡ size) (there : l < list_coun
       let i : ℕ = entries_at (entries_from s l) in
       let s₂ : List ℕ = cleared s₁ i (entry_size * entries_of_list s l) in
       let w : Only (mode_at l) (mode_at (l + 1)) s s₁ = only_cleared s (mode_at l) list_size (omega arith) (omega arith) in
-      let v : Only i (entries_at (entries_from s (suc l))) s₁ s₂ = only_cleared s₁ i (entry_size * entries_of_list s l) (omega arith) (omega (arith, in-pool s l)) in
+      let v : Only i (entries_at (entries_from s (suc l))) s₁ s₂ = only_cleared s₁ i (entry_size * entries_of_list s l) (omega arith) (omega (arith, in_pool s l)) in
       let stays : Stays s s₂ = both w v (omega arith) in
       let z : (j : ℕ) → mode_at l ≤ j → j < mode_at (l + 1) → get_or s₂ j 0 ≡ 0 =
-      λ j p q. (spared {a = j} {b = j + 1} v (omega (arith, few))).byte j (omega arith) (omega arith) ∙ cleared-in s (mode_at l) list_size j (omega (arith, few)) p (omega arith) in
+      λ j p q. (spared {a = j} {b = j + 1} v (omega (arith, few))).byte j (omega arith) (omega arith) ∙ cleared_in s (mode_at l) list_size j (omega (arith, few)) p (omega arith) in
       changes l clear s s₂ stays there
       (list_from (simp (z (mode_at l) (omega arith) (omega arith))) (flag_zero s₂ (selected_at l) (z (selected_at l) (omega arith) (omega arith))) (flag_zero s₂ (running_at l) (z (running_at l) (omega arith) (omega arith)))
       (odt_count_reads stays l few)
       (odts_as stays l few ∙ up_to_map (odt_count s l) no_odt unset refl (λ o p. let k : ℕ = first_odt s l + o in
       odt_from (entry_count_reads stays k (odt_few o p))
-      (entries_zero s₂ k (λ j a b. cleared-in s₁ i (entry_size * entries_of_list s l) j (rw w.long (omega (arith, in-pool s l)))
+      (entries_zero s₂ k (λ j a b. cleared_in s₁ i (entry_size * entries_of_list s l) j (rw w.long (omega (arith, in_pool s l)))
       (omega (arith, first_entry_reads stays k (omega (arith, odt_few o p)), in_list_lem s l o p))
-      (omega (arith, first_entry_reads stays k (omega (arith, odt_few o p)), entry_count_reads stays k (odt_few o p), in_list_lem s l o p, in-pool s l))))
-      (store_own k (both w v (omega (arith, few, in-pool s l)))))))
-      (λ j p n. list_own j p (own_both w v (omega (arith, few, lists_apart s j l n, in-pool s j, in-pool s l))))
+      (omega (arith, first_entry_reads stays k (omega (arith, odt_few o p)), entry_count_reads stays k (odt_few o p), in_list_lem s l o p, in_pool s l))))
+      (store_own k (both w v (omega (arith, few, in_pool s l)))))))
+      (λ j p n. list_own j p (own_both w v (omega (arith, few, lists_apart s j l n, in_pool s j, in_pool s l))))
 
   -- ---- an entry that there is: its list no longer counts as started, and all else is as it was
   module _ (o e n a : ℕ) (x : Extension) (its : o < odt_count s l) (entry : e < entry_count s (first_odt s l + o)) (n4 : n ≤ entry_most) (low : a < addressable) where
@@ -234,4 +234,4 @@ module _ (s : List ℕ) (l : ℕ) (h : length s ≡ size) (there : l < list_coun
         (store_own k (both w v (omega (arith, few, entry_most_lem s k))))
         ∙ ap (with_entry e (record { size = n; extension = x; address = a })) (sym (up_to_at (odt_count s l) o no_odt (λ o. odt_of s (first_odt s l + o)) its)))
         (λ j p m. odt_own stays (first_odt s l + j) (odt_few j p) (both w v (omega (arith, few, odts_apart s (first_odt s l + j) k (λ q. m (omega arith))))) (both w v (omega (arith, few, entry_most_lem s k))))))
-        (λ j p m. list_own j p (own_both w v (omega (arith, few, lists_apart s j l m, in_list_lem s l o its, in-pool s j, in-pool s l))))
+        (λ j p m. list_own j p (own_both w v (omega (arith, few, lists_apart s j l m, in_list_lem s l o its, in_pool s j, in_pool s l))))

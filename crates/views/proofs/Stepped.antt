@@ -22,7 +22,7 @@ use Rattle.words.specs.declared.Mta.{Mta}
 use Rattle.words.specs.declared.Mta.TheVariants.{At}
 use Rattle.session.specs.Perform.{effect}
 use Rattle.fields.proofs.Frames.{only_generator, only_seed, only_mta}
-use Rattle.views.proofs.Parts.{in-generator, in-seed, in-mta}
+use Rattle.views.proofs.Parts.{in_generator, in_seed, in_mta}
 use Rattle.views.proofs.Effect.{session_effect}
 
 -- d has the lists, their round, the locks and the count of wrong keys of c, and is open if c is
@@ -60,11 +60,11 @@ unfolding effect step_in
 given r s =
     let t : List ℕ = set_generator s (next_of (generator_of s)) in
     beside (generator_of t) (seed_of (set_seed t (For r))) (session_of s).mta
-    (in-seed (only_seed t (For r)) ∙ ap (λ (c : Session). with_seed c (seed_of (set_seed t (For r)))) (in-generator (only_generator s (next_of (generator_of s)))))
+    (in_seed (only_seed t (For r)) ∙ ap (λ (c : Session). with_seed c (seed_of (set_seed t (For r)))) (in_generator (only_generator s (next_of (generator_of s)))))
 
 moved : (x : Extension) (a : ℕ) (s : List ℕ) → Steps (step_in (SetMta x a) (session_of s)) (session_of (effect (SetMta x a) s))
 unfolding effect step_in
-moved x a s = beside (session_of s).generator (session_of s).seed (mta_of (set_mta s (At x a))) (in-mta (only_mta s (At x a)))
+moved x a s = beside (session_of s).generator (session_of s).seed (mta_of (set_mta s (At x a))) (in_mta (only_mta s (At x a)))
 
 pub stepped : (d : Deed) (s : List ℕ) (n nc nm : ℕ) → length s ≡ size → Doable d (session_of s) n nc nm → Entered d → Steps (step_in d (session_of s)) (session_of (effect d s))
 stepped (Refuse r) s n nc nm h can enter = steps (session_effect (Refuse r) s n nc nm h can tt)

@@ -17,7 +17,7 @@ use Rattle.model.specs.Whole.{sent_in, slot_in}
 use Rattle.model.specs.declared.Turn.{Turn}
 use Rattle.model.specs.declared.Turn.TheVariants.{Nobody, Answer, Packet}
 use Rattle.views.specs.Commands.{TheGenerator, TheWrongKeys, WhetherOpen, TheLocks, TheSeed, TheMta, ThePointer, WhetherFreed, HowManyLists, TheRound, TheLists, AllButBoth}
-use Rattle.views.specs.Turns.{NoPacket, NextPacket, NextList, NoList, Goes, answer_first, list_next, answer-else, nobody, AnswerLeft, PacketLeft, Leaves}
+use Rattle.views.specs.Turns.{NoPacket, NextPacket, NextList, NoList, Goes, answer_first, list_next, answer_else, nobody, AnswerLeft, PacketLeft, Leaves}
 use Rattle.views.proofs.Parts.{this_or_other, put_here, put_there}
 use Rattle.views.proofs.Round.{Far, far_of, list_after_lem}
 use Rattle.views.proofs.Waits.{Empty, no_packet}
@@ -114,7 +114,7 @@ module _ (v : Slave) where
 
   -- an answer waits, and the last frame was one: a list's packet, or else the answer
   or_answer : has_answer v ≡ true → v.last_answer ≡ true → (t : Turn) → Found c c.round c.lists t → Goes v (or_else t Answer)
-  or_answer w f _ (nowhere n) = answer-else w f (no_list_lem n)
+  or_answer w f _ (nowhere n) = answer_else w f (no_list_lem n)
   or_answer w f _ (there i o h n p) = list_next (λ _. f) ((c.round + i) % c.lists) o (next_list i o h n p)
 
   no_answer : has_answer v ≡ false → (t : Turn) → Found c c.round c.lists t → Goes v t
@@ -184,7 +184,7 @@ module _ (v : Slave) (out : List ℕ) where
   unfolding sent_in
   by_turn _ (answer_first a f) = answer_left
   by_turn _ (list_next f l o n) = packet_left v l o (is_there l o n)
-  by_turn _ (answer-else a f n) = answer_left
+  by_turn _ (answer_else a f n) = answer_left
   by_turn _ (nobody a n) = refl
 
   pub slot_leaves : room ≤ length out → Leaves (turn_in v) v (slot_in v out).slave

@@ -99,9 +99,9 @@ module _ (c : Session) (l d n : ℕ) (run : runs_in c l ≡ true) (there : d + s
   abbrev left : List (List ℕ)
   left = in_stores number x (d + 1) n
 
-  first-in : (z : DaqList) → Empty z 0 d → in_stores number z 0 x.odts ≡ in_store (number + d) (z.odt d) ++ in_stores number z (d + 1) n
+  first_in : (z : DaqList) → Empty z 0 d → in_stores number z 0 x.odts ≡ in_store (number + d) (z.odt d) ++ in_stores number z (d + 1) n
   unfolding in_stores
-  first-in z e = subst (λ (m : ℕ). in_stores number z 0 m ≡ in_store (number + d) (z.odt d) ++ in_stores number z (d + 1) n) there (skipped number z 0 d (suc n) e ∙ from)
+  first_in z e = subst (λ (m : ℕ). in_stores number z 0 m ≡ in_store (number + d) (z.odt d) ++ in_stores number z (d + 1) n) there (skipped number z 0 d (suc n) e ∙ from)
     where
       from : in_stores number z (0 + d) (suc n) ≡ in_store (number + d) (z.odt d) ++ in_stores number z (d + 1) n
       from = let e : 0 + d ≡ d = omega arith in rw e refl
@@ -109,7 +109,7 @@ module _ (c : Session) (l d n : ℕ) (run : runs_in c l ≡ true) (there : d + s
   pub first_waits : has_packet (x.odt d) ≡ true → waiting_in c l ≡ ((number + d) ∷ (x.odt d).store) ∷ left
   unfolding waiting
   first_waits some =
-      ap (λ (b : Bool). cond b (in_stores number x 0 x.odts) []) run ∙ first-in x none
+      ap (λ (b : Bool). cond b (in_stores number x 0 x.odts) []) run ∙ first_in x none
       ∙ ap (λ (b : Bool). cond b (((number + d) ∷ (x.odt d).store) ∷ []) [] ++ left) some
 
   pub first_sent : waiting_in (at l (without_packet d) c) l ≡ left
@@ -119,7 +119,7 @@ module _ (c : Session) (l d n : ℕ) (run : runs_in c l ≡ true) (there : d + s
       let still : Empty z 0 d = λ i h. store_kept x d (0 + i) (omega arith) ∙ none i h in
       own_waits c l (without_packet d) refl
       ∙ ap (λ (b : Bool). cond b (in_stores number z 0 x.odts) []) (runs_same z x c.opened refl refl ∙ run)
-      ∙ first-in z still
+      ∙ first_in z still
       ∙ ap₂ (λ (bs : List ℕ) (ps : List (List ℕ)). cond (ltb 0 (length bs)) (((number + d) ∷ bs) ∷ []) [] ++ ps) (store_gone x d)
       (stores_same number z x (d + 1) n (λ i p q. store_kept x d i (omega arith)))
 
@@ -135,14 +135,14 @@ module _ (first clock : ℕ) (cal meas : List ℕ) (x : DaqList) where
   captured_store : (o : ℕ) → o < x.odts → (with_sample.odt o).store ≡ contents_in o clock cal meas (x.odt o)
   captured_store o h = rw (lt-ltb o x.odts h)
 
-  captured-in : (o n : ℕ) → o + n ≤ x.odts → in_stores first with_sample o n ≡ sample_from first x clock cal meas o n
+  captured_in : (o n : ℕ) → o + n ≤ x.odts → in_stores first with_sample o n ≡ sample_from first x clock cal meas o n
   unfolding in_stores sample_from
-  captured-in o zero h = refl
-  captured-in o (suc n) h =
+  captured_in o zero h = refl
+  captured_in o (suc n) h =
       let k : ℕ = first + o in
       ap₂ (λ (ps qs : List (List ℕ)). ps ++ qs)
       (ap (λ (bs : List ℕ). cond (ltb 0 (length bs)) ((k ∷ bs) ∷ []) []) (captured_store o (omega arith)) ∙ packet_waits k (contents_in o clock cal meas (x.odt o)))
-      (captured-in (o + 1) n (omega arith))
+      (captured_in (o + 1) n (omega arith))
 
 pub sampled_waits : (o : Bool) (first clock : ℕ) (cal meas : List ℕ) (x : DaqList) → runs o x ≡ true
     → waiting o first (sampled clock cal meas x) ≡ sample_from first x clock cal meas 0 x.odts
@@ -150,7 +150,7 @@ unfolding waiting
 sampled_waits o first clock cal meas x run =
     let z : DaqList = sampled clock cal meas x in
     ap (λ (b : Bool). cond b (in_stores first z 0 x.odts) [])
-    (runs_same z x o refl refl ∙ run) ∙ captured-in first clock cal meas x 0 x.odts (omega arith)
+    (runs_same z x o refl refl ∙ run) ∙ captured_in first clock cal meas x 0 x.odts (omega arith)
 
 -- ---- a list that an event samples runs, and has nothing unsent
 pub sampled_free : (c : Session) (l event : ℕ) → sampling_in c l event ≡ Sampled → (runs_in c l ≡ true) × (unsent (c.list l) ≡ false)

@@ -32,7 +32,7 @@ NoList v = (l : ℕ) → l < v.session.lists → NoPacket v.session l
 pub data Goes (v : Slave) : Turn → Type 0 where
   answer_first : has_answer v ≡ true → v.last_answer ≡ false → Goes v Answer
   list_next : (has_answer v ≡ true → v.last_answer ≡ true) → (l o : ℕ) → NextList v l o → Goes v (Packet l o)
-  answer-else : has_answer v ≡ true → v.last_answer ≡ true → NoList v → Goes v Answer
+  answer_else : has_answer v ≡ true → v.last_answer ≡ true → NoList v → Goes v Answer
   nobody : has_answer v ≡ false → NoList v → Goes v Nobody
 
 -- ---- what a slot leaves, w, of v

@@ -1,7 +1,7 @@
 use Rattle.std.proofs.Common.{◌≡◌, ℕ, ◌+◌, ◌*◌, take, refl, ap, ◌∙◌, arith}
 use Rattle.line.specs.Message.{sum}
 use Rattle.sums.specs.Run.{run_words}
-use Rattle.sums.proofs.InLanes.{lanes_none, lanes_next, evens_fit, uppers_fit, thirds-in, lanes_sum}
+use Rattle.sums.proofs.InLanes.{lanes_none, lanes_next, evens_fit, uppers_fit, thirds_in, lanes_sum}
 use Rattle.sums.proofs.sum_of_run.Goals as goal
 
 pub loop-i-init : goal.loop-i-init
@@ -17,7 +17,7 @@ pub loop-i-preserved : goal.loop-i-preserved
 loop-i-preserved c = (omega arith, lanes_next c.args.part.now c.loop-i.i c.loop-i.invariant.1 c.even-evens.ensures c.upper-uppers.ensures)
 
 pub folded-requires : goal.folded-requires
-folded-requires c = thirds-in c.args.part.now (λ j. omega (arith, c.type_inv.part j)) c.loop-i.i c.loop-i.invariant.1 (omega arith)
+folded-requires c = thirds_in c.args.part.now (λ j. omega (arith, c.type_inv.part j)) c.loop-i.i c.loop-i.invariant.1 (omega arith)
 
 pub returns : goal.returns
 returns c =

@@ -4,7 +4,7 @@ use Rattle.state.specs.Bytes.{block}
 use Rattle.session.specs.Receive.{meant, fed_of}
 use native.Mathlib.Omega.{arith}
 use mathlib.Core.Path.{◌≡◌, refl, sym, ◌∙◌, ap}
-use Rattle.line.proofs.Sound.{good-where}
+use Rattle.line.proofs.Sound.{good_where}
 use Rattle.line.specs.declared.Taken.{Taken}
 use Rattle.session.proofs.receive.read.Goals as goal
 
@@ -13,10 +13,10 @@ unfolding meant
 returns-in-Nothing c = let w = told c.args.s.now c.args.byte c.place-at.result c.take-taken.result c.take-taken.new.message c.set_place.new.s c.place-at.ensures c.take-taken.ensures c.set_place.ensures in by_outcome c.args.s.now c.args.cal.now c.args.meas.now (fed_of c.args.s.now c.args.byte) (w.outcome ∙ c.in-Nothing.is) (record { result = refl; state = w.state; memory = refl })
 
 pub overflow_cast-len : goal.overflow_cast-len
-overflow_cast-len c = omega (arith, good-where _ _ _ _ _ _ (ap (λ (t : Taken). t.outcome) (sym c.take-taken.ensures.result) ∙ c.in-Good.is))
+overflow_cast-len c = omega (arith, good_where _ _ _ _ _ _ (ap (λ (t : Taken). t.outcome) (sym c.take-taken.ensures.result) ∙ c.in-Good.is))
 
 pub heed-requires : goal.heed-requires
-heed-requires c = let g = good-where _ _ _ _ _ _ (ap (λ (t : Taken). t.outcome) (sym c.take-taken.ensures.result) ∙ c.in-Good.is) in (omega (arith, c.set_place-2.auto.s, c.requires), g.1, g.2)
+heed-requires c = let g = good_where _ _ _ _ _ _ (ap (λ (t : Taken). t.outcome) (sym c.take-taken.ensures.result) ∙ c.in-Good.is) in (omega (arith, c.set_place-2.auto.s, c.requires), g.1, g.2)
 
 pub returns-in-Nothing-outcome : goal.returns-in-Nothing-outcome
 unfolding meant
