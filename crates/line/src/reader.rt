@@ -97,7 +97,8 @@ fn put(k: usize, message: &mut [u8], byte: u8) -> Taken
                 outcome: Outcome::BadLength,
             };
         }
-        if MOST_U8 < byte {
+        let too_long = MOST_U8 < byte;
+        if too_long {
             return Taken {
                 place: Place::Outside,
                 outcome: Outcome::BadLength,

@@ -9,11 +9,11 @@ use Rattle.line.proofs.reader.put.Goals as goal
 pub returns-then-byte-eq0 : goal.returns-then-byte-eq0
 returns-then-byte-eq0 c = does_so (put_len c.args.k c.args.message.now c.args.byte c.if-k-lt-WIDTH.true c.requires.0 ∙ simp (eq-eqb _ _ c.if-byte-eq0.true)) (record { result = refl; bytes = refl })
 
-pub returns-then-byte-gt-MOST_U8 : goal.returns-then-byte-gt-MOST_U8
-returns-then-byte-gt-MOST_U8 c = does_so (put_len c.args.k c.args.message.now c.args.byte c.if-k-lt-WIDTH.true c.requires.0 ∙ simp (ne_eqb _ _ c.if-byte-eq0.false, lt-ltb _ _ c.if-byte-gt-MOST_U8.true)) (record { result = refl; bytes = refl })
+pub returns-then-too_long : goal.returns-then-too_long
+returns-then-too_long c = does_so (put_len c.args.k c.args.message.now c.args.byte c.if-k-lt-WIDTH.true c.requires.0 ∙ simp (ne_eqb _ _ c.if-byte-eq0.false, lt-ltb _ _ c.if-too_long.true)) (record { result = refl; bytes = refl })
 
 pub returns-then-k-lt-WIDTH : goal.returns-then-k-lt-WIDTH
-returns-then-k-lt-WIDTH c = does_so (put_len c.args.k c.args.message.now c.args.byte c.if-k-lt-WIDTH.true c.requires.0 ∙ simp (begun_right byte_form byte_form.width c.args.byte (omega (arith, c.if-byte-eq0.false)) c.if-byte-gt-MOST_U8.false (omega arith))) (record { result = refl; bytes = refl })
+returns-then-k-lt-WIDTH c = does_so (put_len c.args.k c.args.message.now c.args.byte c.if-k-lt-WIDTH.true c.requires.0 ∙ simp (begun_right byte_form byte_form.width c.args.byte (omega (arith, c.if-byte-eq0.false)) c.if-too_long.false (omega arith))) (record { result = refl; bytes = refl })
 
 pub bounds-message-k : goal.bounds-message-k
 bounds-message-k c = omega (arith, put_within c.args.k (len_in byte_form c.args.message.now) c.requires.1)
