@@ -5,8 +5,8 @@
 #   RUN_X86    the words that stand before an x86-64 program where it is run, as tools/x86 does
 # shellcheck shell=bash disable=SC2034
 
-# The toolchain brings an emulator and a C library of its own.
-kit() { echo "$(dirname -- "$(dirname -- "$(rt doc </dev/null)")")/on/aarch64/toolchain"; }
+# The toolchain brings a C library of its own, for x86-64.
+kit() { echo "$(dirname -- "$(rt doc </dev/null)")/toolchain"; }
 
 # Sets RUN_X86. The loader is named outright, and where its libraries are: where an emulator looks for them by itself
 # differs from one system to the next.
@@ -24,8 +24,8 @@ run_with() { # EMULATOR FOLDERS: the first folder with a C library
 
 find_emulator() {
     local emulator
-    emulator=$(command -v qemu-x86_64) || emulator=$(kit)/bin/qemu-x86_64
-    [ -x "$emulator" ] || { echo "tools/platform.sh: there is no qemu-x86_64 (Debian: qemu-user)" >&2; return 1; }
+    emulator=$(command -v qemu-x86_64) ||
+        { echo "tools/platform.sh: there is no qemu-x86_64 (Debian: qemu-user)" >&2; return 1; }
     run_with "$emulator" /usr/x86_64-linux-gnu/lib /usr/x86_64-linux-gnu/lib64 || run_with "$emulator" "$(kit)/lib" ||
         { echo "tools/platform.sh: there is no C library for x86-64 (Debian: libc6-amd64-cross)" >&2; return 1; }
 }

@@ -39,7 +39,7 @@ use Rattle.fields.proofs.Effects.{answering, after_answer}
 use Rattle.views.specs.Words.{total}
 use Rattle.views.specs.Events.{takes_sample, misses_sample, how_many_of}
 use Rattle.views.specs.OnTheLine.{Comes, Quiet, Whole, Lost}
-use Rattle.views.proofs.FaultWords.{at_most}
+use Rattle.views.proofs.FaultWords.{at_most_lem}
 use Rattle.views.proofs.Listed.{listed}
 use Rattle.views.proofs.Receiving.{message_long}
 use Rattle.views.proofs.EventLaws.{event_leaves_in}
@@ -125,7 +125,7 @@ unmarked s u = go (consistent s) refl where
 -- ---- a received byte
 connects_is : (p : List ℕ) → good_connect p ≡ connects p
 unfolding good_connect
-connects_is p = go (eqb (byte p 0) 0xFF) (ltb (length p) 2) (eqb (byte p 1) 0) ∙ ap (λ (t : Bool). t && (eqb (byte p 0) 0xFF && eqb (byte p 1) 0)) (sym (at_most 2 (length p))) where
+connects_is p = go (eqb (byte p 0) 0xFF) (ltb (length p) 2) (eqb (byte p 1) 0) ∙ ap (λ (t : Bool). t && (eqb (byte p 0) 0xFF && eqb (byte p 1) 0)) (sym (at_most_lem 2 (length p))) where
   go : (x y z : Bool) → cond x (cond y false z) false ≡ (not y && (x && z))
   go true true z = refl
   go true false z = refl

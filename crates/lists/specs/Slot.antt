@@ -12,7 +12,7 @@ use Rattle.model.specs.View.{session_of, view_of}
 use Rattle.model.specs.declared.Turn.{Turn}
 use Rattle.model.specs.declared.Turn.TheVariants.{Nobody, Answer, Packet}
 use Rattle.words.specs.declared.Slotted.{Slotted}
-use Rattle.words.specs.declared.Slotted.TheVariants.{Idle, Sent as Slotted-as-Sent, NoRoom as Slotted-as-NoRoom, NoState}
+use Rattle.words.specs.declared.Slotted.TheVariants.{Idle, Sent as SlottedSent, NoRoom as SlottedNoRoom, NoState}
 
 -- whose turn it is
 abbrev pub turn_of : List ℕ → Turn
@@ -35,9 +35,9 @@ pub record Slot : Type 0 where
   pub out : List ℕ
 
 abbrev pub slotted_as : Written → Slotted
-slotted_as (Frame n) = Slotted-as-Sent n
+slotted_as (Frame n) = SlottedSent n
 slotted_as BadLength = Idle
-slotted_as NoRoom = Slotted-as-NoRoom
+slotted_as NoRoom = SlottedNoRoom
 
 abbrev pub sent_as : Sent → List ℕ → Slot
 sent_as w s = record { slotted = slotted_as w.written; state = s; out = w.out }
@@ -66,7 +66,7 @@ sent_by (Packet l o) s out = sent_as (write_of (packet_of s l o) (ctr_of s) out)
 unfoldable pub slot_of : List ℕ → List ℕ → Slot
 slot_of s out =
     cond (consistent s)
-    (cond (nat_lt (length out) room) (record { slotted = Slotted-as-NoRoom; state = s; out = out })
+    (cond (nat_lt (length out) room) (record { slotted = SlottedNoRoom; state = s; out = out })
     (sent_by (turn_of s) s out))
     (record { slotted = NoState; state = s; out = out })
 
@@ -79,6 +79,6 @@ pub record Sends (o : Slot) (r : Slotted) (s out : List ℕ) : Type 0 where
 -- a frame's size is at most the room
 abbrev pub Small : Slotted → Type 0
 Small Idle = Unit
-Small (Slotted-as-Sent size) = size ≤ room
-Small Slotted-as-NoRoom = Unit
+Small (SlottedSent size) = size ≤ room
+Small SlottedNoRoom = Unit
 Small NoState = Unit

@@ -36,16 +36,16 @@ stored_long s k h q = block_length s (sample_at k + 1) (stored_length s k) (omeg
 
 -- an entry that there is, and one that there is not; one more entry's size and bytes
 module _ (s : List ℕ) (k : ℕ) where
-  pub entry_at : (e : ℕ) → e < entry_count s k → (odt_of s k).entry e ≡ entry_of s k e
-  entry_at e h = up_to_at (entry_count s k) e no_entry (entry_of s k) h
+  pub entry_at_lem : (e : ℕ) → e < entry_count s k → (odt_of s k).entry e ≡ entry_of s k e
+  entry_at_lem e h = up_to_at (entry_count s k) e no_entry (entry_of s k) h
 
   pub sizes_next : (n : ℕ) → n < entry_count s k → sizes_of (odt_of s k) (suc n) ≡ sizes_of (odt_of s k) n + size_of s k n
   unfolding sizes_of
-  sizes_next n h = rw (entry_at n h)
+  sizes_next n h = rw (entry_at_lem n h)
 
   pub blocks_next : (cal meas : List ℕ) (n : ℕ) → n < entry_count s k → blocks_in (odt_of s k) cal meas (suc n) ≡ blocks_in (odt_of s k) cal meas n ++ block_in (entry_of s k n) cal meas
   unfolding blocks_in
-  blocks_next cal meas n h = rw (entry_at n h)
+  blocks_next cal meas n h = rw (entry_at_lem n h)
 
 module _ (s : List ℕ) where
   pub list_at : (l : ℕ) → l < list_count s → (session_of s).list l ≡ daq_of s l
@@ -65,9 +65,9 @@ module _ (s : List ℕ) where
   unfolding runs
   unlisted_runs l h = rw (no_list_lem l h) (cond_ind (λ (b : Bool). b ≡ false) (session_of s).opened (λ _. refl) (λ _. refl))
 
-pub open_at : (s : List ℕ) → (session_of s).opened ≡ open_of s
+pub open_at_lem : (s : List ℕ) → (session_of s).opened ≡ open_of s
 unfolding session_of
-open_at s = refl
+open_at_lem s = refl
 
 -- a list that there is
 module _ (s : List ℕ) (l : ℕ) (there : l < list_count s) where

@@ -75,9 +75,9 @@ put_put : (l : ℕ) (x y : DaqList) (d : ℕ → DaqList) → put l y (put l x d
 unfolding put
 put_put l x y d = fun_ext (λ j. either (eqb j l) (λ b. rw b) (λ b. rw b))
 
-put_back : (l : ℕ) (d : ℕ → DaqList) → d ≡ put l (d l) d
+put_back_lem : (l : ℕ) (d : ℕ → DaqList) → d ≡ put l (d l) d
 unfolding put
-put_back l d = fun_ext (λ j. either (eqb j l) (λ b. rw (b, eqb-true j l b)) (λ b. rw b))
+put_back_lem l d = fun_ext (λ j. either (eqb j l) (λ b. rw (b, eqb-true j l b)) (λ b. rw b))
 
 -- and then deselected
 deselects : (l : ℕ) (f : DaqList → DaqList) (s t : List ℕ) → length t ≡ size → l < list_count t → Changes l f s t → Changes l (λ x. select false (f x)) s (set t (selected_at l) 0)
@@ -112,7 +112,7 @@ module _ (s : List ℕ) (l : ℕ) (h : length s ≡ size) (there : l < list_coun
   selected_here = selected_at_lem s l there
 
   as_it_is : Changes l (λ x. x) s s
-  as_it_is = put_back l (lists_of s)
+  as_it_is = put_back_lem l (lists_of s)
 
   started : Changes l (λ x. cond x.selected (cond (runs (open_of s) x) x (switch true x)) x) s (start_one s l)
   started =

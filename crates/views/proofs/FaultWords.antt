@@ -19,8 +19,8 @@ use Rattle.model.proofs.Bounded.{either}
 use Rattle.views.specs.Words.{any, total, outside, next_seed, key_number, rotated, key_for, bytes_of_odt, too_long, unfit, running, odts_in_all, entries_in_all}
 
 -- ---- tests
-pub at_most : (a b : ℕ) → leb a b ≡ not (ltb b a)
-at_most a b =
+pub at_most_lem : (a b : ℕ) → leb a b ≡ not (ltb b a)
+at_most_lem a b =
     either (ltb b a)
     (λ t. lt-leb a b (ltb-true b a t) ∙ sym (ap not t))
     (λ t. le-leb a b (ltb-false b a t) ∙ sym (ap not t))
@@ -91,8 +91,8 @@ module _ (x : DaqList) where
       sums (suc n) = ap₂ ◌+◌ (sums n) (bytes_total (x.odt n))
 
   one_fits : (o : ℕ) → leb (bytes_in (x.odt o)) (odt_most o) ≡ not (too_long x o)
-  one_fits zero = at_most (bytes_in (x.odt 0)) 61 ∙ ap (λ (n : ℕ). not (ltb 61 n)) (bytes_total (x.odt 0))
-  one_fits (suc o) = ap (leb (bytes_in (x.odt (suc o)))) (later o) ∙ at_most (bytes_in (x.odt (suc o))) 63 ∙ ap (λ (n : ℕ). not (ltb 63 n)) (bytes_total (x.odt (suc o)))
+  one_fits zero = at_most_lem (bytes_in (x.odt 0)) 61 ∙ ap (λ (n : ℕ). not (ltb 61 n)) (bytes_total (x.odt 0))
+  one_fits (suc o) = ap (leb (bytes_in (x.odt (suc o)))) (later o) ∙ at_most_lem (bytes_in (x.odt (suc o))) 63 ∙ ap (λ (n : ℕ). not (ltb 63 n)) (bytes_total (x.odt (suc o)))
     where
       later : (o : ℕ) → odt_most (suc o) ≡ 63
       later o = ap (λ (t : Bool). cond t 61 63) (ne_eqb (suc o) 0 (λ e. omega (arith, e)))

@@ -24,7 +24,7 @@ use Rattle.model.specs.Model.{byte}
 use Rattle.model.proofs.Bounded.{either}
 use Rattle.views.specs.Commands.{sum_from}
 use Rattle.views.specs.OnTheLine.{Comes, Quiet, Whole, Lost, under_way, len_is, checksum_is, next_byte, inside_one, behind_esc, comes_to}
-use Rattle.views.proofs.FaultWords.{at_most}
+use Rattle.views.proofs.FaultWords.{at_most_lem}
 use Rattle.views.proofs.MemoryLaws.{sum_from_lem}
 
 abbrev pub fed : Place → Outcome → List ℕ → Fed
@@ -51,8 +51,8 @@ none_yet k = either (eqb k 0) (λ t. t ∙ sym (lt-ltb k 1 (omega (arith, eqb-tr
 under_way_lem : (k : ℕ) (m : List ℕ) → under_way k m ≡ begun_of k (byte m 0)
 under_way_lem k m =
     let n : ℕ = byte m 0 in
-    let some : leb 1 n ≡ not (eqb n 0) = at_most 1 n ∙ ap not (sym (none_yet n)) in
-    let few : leb n 64 ≡ not (ltb 64 n) = at_most n 64 in
+    let some : leb 1 n ≡ not (eqb n 0) = at_most_lem 1 n ∙ ap not (sym (none_yet n)) in
+    let few : leb n 64 ≡ not (ltb 64 n) = at_most_lem n 64 in
     let out : n + 3 ≡ size_in byte_form n = omega arith in
     (λ i. none_yet k i || (some i && (few i && ltb k (out i)))) ∙ go (ltb k 1) (eqb n 0) (ltb 64 n) (ltb k (size_in byte_form n)) where
       go : (a b c d : Bool) → (a || (not b && (not c && d))) ≡ cond a true (cond b false (cond c false d))

@@ -30,8 +30,8 @@ use Rattle.views.proofs.SessionLaws.{blank_fresh}
 pub one_more_lem : (n : ℕ) → n < 3 → one_wrong_more n ≡ n + 1
 one_more_lem n h = rw (lt-leb 3 n h)
 
-pub at_most : (n : ℕ) → 3 ≤ n → one_wrong_more n ≡ 3
-at_most n h = rw (le-leb 3 n h)
+pub at_most_lem : (n : ℕ) → 3 ≤ n → one_wrong_more n ≡ 3
+at_most_lem n h = rw (le-leb 3 n h)
 
 module _ (p : List ℕ) (c : Session) (cal meas : List ℕ) where
   -- ---- F7 UNLOCK: what was judged, if it is answered FE 25
@@ -66,7 +66,7 @@ module _ (p : List ℕ) (c : Session) (cal meas : List ℕ) where
     seeded = e;
     wrong = λ right. eqb-false (u32_at p 2) (key_of r c.generator) key (four_is p 2 ∙ right ∙ sym (key_is r c.generator));
     counted = one_more_lem c.wrong_keys;
-    most = at_most c.wrong_keys;
+    most = at_most_lem c.wrong_keys;
     closed = refl;
     fresh = blank_fresh c (one_wrong_more c.wrong_keys) false;
     memory = refl;

@@ -1,6 +1,6 @@
 use Rattle.std.proofs.Common.{sym, ap, ◌∙◌}
 use Rattle.model.specs.View.{session_of}
-use Rattle.model.proofs.Shown.{open_at}
+use Rattle.model.proofs.Shown.{open_at_lem}
 use Rattle.lists.specs.Slot.{numbered_in}
 use Rattle.lists.proofs.Round.{closed_round}
 use Rattle.lists.proofs.slots.lists_turn.Goals as goal
@@ -12,4 +12,4 @@ pub returns-then-on : goal.returns-then-on
 returns-then-on c = c.round.ensures
 
 pub returns : goal.returns
-returns c = ap (numbered_in c.args.s.now) (sym (closed_round (session_of c.args.s.now) (open_at c.args.s.now ∙ sym c.on.ensures ∙ c.if-on.false)))
+returns c = ap (numbered_in c.args.s.now) (sym (closed_round (session_of c.args.s.now) (open_at_lem c.args.s.now ∙ sym c.on.ensures ∙ c.if-on.false)))
