@@ -1,19 +1,14 @@
 -- An event and a slot change of a session nothing but its lists and their round. Assumes nothing.
-use Prim.Native.Nat.{ℕ, ◌≤◌, ◌<◌}
-use mathlib.Core.Path.{◌≡◌, refl, ap}
-use mathlib.Core.Bool.{true}
-use mathlib.Core.List.{List}
-use native.Mathlib.Nat.{lt_of_not-le}
-use native.Mathlib.Decide.{dec_le}
-use lib.ListN.{length}
+use Rattle.std.proofs.Common.{◌≡◌, ℕ, ◌≤◌, ◌<◌, true, List, length, Some, None, refl, ap, inl, inr}
+use Rattle.std.proofs.lemmas.Bool.{cases_lt}
 use Rattle.line.specs.Message.{room}
 use Rattle.state.specs.State.{consistent}
 use Rattle.model.specs.Model.{DaqList, Session, Slave}
 use Rattle.model.specs.Step.{with_lists}
 use Rattle.model.specs.Calls.{turn_in, packet_gone, with_round}
 use Rattle.model.specs.View.{session_of, view_of}
-use Rattle.model.specs.declared.Turn.{Turn}
-use Rattle.model.specs.declared.Turn.TheVariants.{Nobody, Answer, Packet}
+use Rattle.model.specs.Turn.{Turn}
+use Rattle.model.specs.declared.Sender.TheVariants.{Answer, Packet}
 use Rattle.lists.specs.Event.{event_of}
 use Rattle.lists.specs.Slot.{slot_of}
 use Rattle.demands.proofs.Events.{event_lists}
@@ -45,12 +40,12 @@ alike_lists f l e =
 
 turn_alike : (t : Turn) (s u : List ℕ) → view_of u ≡ turned t (view_of s) → Alike (session_of s) (session_of u)
 unfolding view_of
-turn_alike Nobody s u e = alike_lists (session_of s).list (session_of s).round (ap (λ (v : Slave). v.session) e)
-turn_alike Answer s u e = alike_lists (session_of s).list (session_of s).round (ap (λ (v : Slave). v.session) e)
-turn_alike (Packet l o) s u e = alike_lists (packet_gone l o (view_of s)).session.list (packet_gone l o (view_of s)).session.round (ap (λ (v : Slave). v.session) e)
+turn_alike None s u e = alike_lists (session_of s).list (session_of s).round (ap (λ (v : Slave). v.session) e)
+turn_alike (Some Answer) s u e = alike_lists (session_of s).list (session_of s).round (ap (λ (v : Slave). v.session) e)
+turn_alike (Some (Packet l o)) s u e = alike_lists (packet_gone l o (view_of s)).session.list (packet_gone l o (view_of s)).session.round (ap (λ (v : Slave). v.session) e)
 
 pub slot_alike : (s out : List ℕ) → consistent s ≡ true → Alike (session_of s) (session_of (slot_of s out).state)
-slot_alike s out c = elim (dec_le room (length out)) [ yes r ↦ with_room r | no r ↦ without (lt_of_not-le r) ] where
+slot_alike s out c = elim (cases_lt (length out) room) [ inl r ↦ without r | inr r ↦ with_room r ] where
   with_room : room ≤ length out → Alike (session_of s) (session_of (slot_of s out).state)
   with_room r = turn_alike (turn_in (view_of s)) s (slot_of s out).state (slot_shows s out c r)
 

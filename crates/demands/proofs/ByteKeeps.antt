@@ -1,14 +1,6 @@
 -- What a received byte does to what waits: packets go only if their list is stopped or freed or its session ends or is renewed, an answer stays, and one is
 -- accepted only if none waits. Assumes nothing.
-use lib.Dec.{ltb, lit≤, lit<}
-use Prim.Native.Nat.{ℕ, ◌≤◌}
-use mathlib.Core.Path.{◌≡◌, refl, sym, ap, ap₂, subst, ◌∙◌}
-use mathlib.Core.Logic.{◌≢◌}
-use mathlib.Core.Bool.{Bool, true, false, cond}
-use mathlib.Core.Option.{Option}
-use mathlib.Core.List.{List, [], ◌∷◌, ◌++◌, append-nil}
-use lib.ListN.{length}
-use Rattle.line.proofs.Stuffed.{false_true}
+use Rattle.std.proofs.Common.{◌≡◌, ◌≢◌, ℕ, ◌≤◌, Bool, true, false, cond, List, [], ◌∷◌, ◌++◌, length, Option, Ok, Err, ltb, refl, sym, ap, ap₂, ◌∙◌, subst, lit≤, lit<, append-nil}
 use Rattle.state.specs.Layout.{packet_most, ctr_at, round_at, last_at, place_at, answer_at, session_at}
 use Rattle.state.specs.State.{consistent}
 use Rattle.session.specs.Perform.{effect, reply, after}
@@ -18,8 +10,8 @@ use Rattle.model.specs.Step.{step_in}
 use Rattle.model.specs.View.{session_of, view_of}
 use Rattle.words.specs.Number.{received_number}
 use Rattle.model.specs.declared.Deed.{Deed}
-use Rattle.words.specs.declared.Received.{Received}
-use Rattle.words.specs.declared.Received.TheVariants.{Nothing, Answered, Silent, BadLength, BadEscape, BadChecksum, Unread, CutOff, NoState}
+use Rattle.words.specs.Values.{Received}
+use Rattle.words.specs.declared.Heard.TheVariants.{Nothing, Answered, Silent, BadLength, BadEscape, BadChecksum, Unread, CutOff}
 use Rattle.fields.proofs.Frames.{Only, only_answered}
 use Rattle.fields.proofs.Readers.{Same, apart, same_then, same_part, flag_reads}
 use Rattle.fields.proofs.Effects.{Effected, effected, answering, after_waits}
@@ -49,15 +41,15 @@ sent_reads w f = record { ctr = w.byte ctr_at (lit≤ tt) (lit< tt); last_answer
 
 -- an answer is accepted with number 1 alone
 none_accepted : (r : Received) (t : List ℕ) → received_number r ≢ 1 → answer_by r t ≡ []
-none_accepted Nothing t n = refl
-none_accepted Answered t n = absurd (n refl)
-none_accepted Silent t n = refl
-none_accepted BadLength t n = refl
-none_accepted BadEscape t n = refl
-none_accepted BadChecksum t n = refl
-none_accepted Unread t n = refl
-none_accepted CutOff t n = refl
-none_accepted NoState t n = refl
+none_accepted (Ok Nothing) t n = refl
+none_accepted (Ok Answered) t n = absurd (n refl)
+none_accepted (Ok Silent) t n = refl
+none_accepted (Ok BadLength) t n = refl
+none_accepted (Ok BadEscape) t n = refl
+none_accepted (Ok BadChecksum) t n = refl
+none_accepted (Ok Unread) t n = refl
+none_accepted (Ok CutOff) t n = refl
+none_accepted (Err _) t n = refl
 
 module _ (s cal meas : List ℕ) (b : ℕ) (c : consistent s ≡ true) where
   -- ---- a deed that is done
@@ -132,7 +124,7 @@ module _ (s cal meas : List ℕ) (b : ℕ) (c : consistent s ≡ true) where
   -- ---- an answer that waits stays
   kept_by : {o : Step} {x : Option Deed} → Reads s cal meas b o x → has_answer (view_of s) ≡ true → (view_of o.state).answer ≡ (view_of s).answer
   kept_by (rests r n f) e = read_answer s b c
-  kept_by (acts d p w) e = absurd (false_true (sym w.free ∙ e))
+  kept_by (acts d p w) e = cc
 
   pub byte_answer_kept : has_answer (view_of s) ≡ true → (view_of (receive_of s cal meas b).state).answer ≡ (view_of s).answer
   byte_answer_kept = kept_by (received s cal meas b c)
@@ -159,5 +151,5 @@ command_steps s cal meas b p c w =
       can = judged_doable p s (length cal) (length meas);
       found = judged p (session_of s) (length cal) (length meas);
       opened = λ _. refl;
-      closed = λ n. absurd (false_true (sym n ∙ w.opened));
+      closed = λ n. cc;
     }))

@@ -1,29 +1,17 @@
 -- Each call returns the number that document 01 says, and the value beside it. Assumes nothing.
-use Prim.Native.Nat.{ℕ, suc, zero, ◌+◌, ◌*◌, ◌≤◌, ◌<◌}
-use mathlib.Core.Path.{◌≡◌, refl, sym, ap, subst, ◌∙◌}
-use mathlib.Core.Logic.{◌≢◌, ◌⊎◌, inl, inr}
-use mathlib.Core.Bool.{Bool, true, false, cond, not, ◌&&◌}
-use mathlib.Core.Option.{Option, none, some}
-use mathlib.Core.List.{List, [], ◌∷◌}
-use native.Mathlib.Omega.{arith}
-use borrow.Author.Tests.{eqb-true, eq-eqb}
-use lib.Dec.{T, eqb, ltb}
-use lib.ListN.{length, take}
-use lib.Seq.{get_or-take, length-take-le}
+use Rattle.std.proofs.Common.{◌≡◌, ◌≢◌, ℕ, zero, suc, ◌+◌, ◌*◌, ◌≤◌, ◌<◌, ◌⊎◌, inl, inr, Bool, true, false, cond, not, ◌&&◌, List, [], ◌∷◌, length, take, Option, Some, None, Ok, Err, eqb, ltb, refl, sym, ap, ◌∙◌, subst, arith, eqb-true, eq-eqb, T, get_or-take, length-take-le}
+use Rattle.std.proofs.lemmas.Bool.{false_from_ne_true}
 use Rattle.line.specs.Unstuffing.{Fed}
-use Rattle.line.proofs.Laws.{cond_ind, false_true}
+use Rattle.line.proofs.Laws.{cond_ind}
 use Rattle.state.specs.Layout.{mark, size}
 use Rattle.state.specs.Bytes.{u32_at}
 use Rattle.state.specs.State.{consistent}
 use Rattle.state.proofs.Allocated.{lists_most}
 use Rattle.state.proofs.Consistent.{consistent_size}
 use Rattle.words.specs.Number.{received_number, evented_number, slotted_number, powered_up_number, evented_value, slotted_value}
-use Rattle.words.specs.declared.Received.{Received}
-use Rattle.words.specs.declared.Evented.{Evented}
-use Rattle.words.specs.declared.Evented.TheVariants as event
-use Rattle.words.specs.declared.Slotted.{Slotted}
-use Rattle.words.specs.declared.Slotted.TheVariants as slot
-use Rattle.words.specs.declared.PoweredUp.{PoweredUp}
+use Rattle.words.specs.Values.{Received, Evented, Slotted, PoweredUp}
+use Rattle.words.specs.declared.EventRefusal.TheVariants as event
+use Rattle.words.specs.declared.SlotRefusal.TheVariants as slot
 use Rattle.model.specs.declared.Deed.{Deed}
 use Rattle.model.specs.declared.Deed.TheVariants.{Connect}
 use Rattle.model.specs.Model.{byte, Bytes, has_answer}
@@ -52,7 +40,7 @@ use Rattle.demands.proofs.Demand1.{demand1}
 use Rattle.demands.proofs.Demand2.{demand2}
 use Rattle.demands.proofs.Events.{tells_counts_lem}
 use Rattle.demands.proofs.ReadBy.{read_length}
-use Rattle.demands.proofs.Received.{Reads, rests, acts, some_none, heeded_at, received, received_by_lem, read_can}
+use Rattle.demands.proofs.Received.{Reads, rests, acts, heeded_at, received, received_by_lem, read_can}
 
 -- ---- what is told: a number comes to C with its value, and a refusal adds 0
 byte_tells : (r : Received) (n : ℕ) → received_number r ≡ n → ByteTells r n
@@ -70,17 +58,17 @@ slot_tells r n x e v = record { number = e; value = v; to_c = omega (arith, e, v
 event_refused : (r : Evented) (n : ℕ) → evented_number r ≡ n → 1 ≤ n → EventTells r n 0
 event_refused r n e h = event_tells r n 0 e (none_added r (λ z. omega (arith, e, z))) where
   none_added : (r : Evented) → evented_number r ≢ 0 → evented_value r ≡ 0
-  none_added (event.Done a b) z = absurd (z refl)
-  none_added event.BadEvent z = refl
-  none_added event.NoState z = refl
+  none_added (Ok counted) z = absurd (z refl)
+  none_added (Err event.BadEvent) z = refl
+  none_added (Err event.NoState) z = refl
 
 slot_refused : (r : Slotted) (n : ℕ) → slotted_number r ≡ n → 1 ≤ n → SlotTells r n 0
 slot_refused r n e h = slot_tells r n 0 e (none_added r (λ z. omega (arith, e, z))) where
   none_added : (r : Slotted) → slotted_number r ≢ 0 → slotted_value r ≡ 0
-  none_added slot.Idle z = refl
-  none_added (slot.Sent k) z = absurd (z refl)
-  none_added slot.NoRoom z = refl
-  none_added slot.NoState z = refl
+  none_added (Ok None) z = refl
+  none_added (Ok (Some k)) z = absurd (z refl)
+  none_added (Err slot.NoRoom) z = refl
+  none_added (Err slot.NoState) z = refl
 
 -- ---- a state
 front : (s : List ℕ) → 4 ≤ length s → take 4 s ≡ byte s 0 ∷ byte s 1 ∷ byte s 2 ∷ byte s 3 ∷ []
@@ -92,7 +80,7 @@ front (a ∷ b ∷ c ∷ d ∷ s) h = refl
 
 mark_is : (s : List ℕ) → consistent s ≡ true → u32_at s 0 ≡ mark
 unfolding consistent
-mark_is s = cond_ind (λ (t : Bool). t ≡ true → u32_at s 0 ≡ mark) (eqb (length s) size) (λ _ e. eqb-true (u32_at s 0) mark e) (λ _ f. absurd (false_true f))
+mark_is s = cond_ind (λ (t : Bool). t ≡ true → u32_at s 0 ≡ mark) (eqb (length s) size) (λ _ e. eqb-true (u32_at s 0) mark e) (λ _ f. cc)
 
 marked : (s : List ℕ) → Bytes s → consistent s ≡ true → Marked s
 unfolding u32_at
@@ -113,14 +101,10 @@ mark_consistent s m =
     simp (eq-eqb (length s) size m.long, eq-eqb (u32_at s 0) mark e)
 
 unmarked : (s : List ℕ) → Unmarked s → consistent s ≡ false
-unmarked s u = go (consistent s) refl where
+unmarked s u = false_from_ne_true (consistent s) (none u) where
   none : Unmarked s → consistent s ≡ true → ⊥
   none (other_length n) e = n (consistent_size s e)
   none (other_mark w n) e = n (marked s w e).mark
-
-  go : (t : Bool) → consistent s ≡ t → consistent s ≡ false
-  go true e = absurd (none u e)
-  go false e = e
 
 -- ---- a received byte
 connects_is : (p : List ℕ) → good_connect p ≡ connects p
@@ -150,27 +134,27 @@ module _ (s : List ℕ) (b : ℕ) (c : consistent s ≡ true) where
 
   -- the packet of a good message is that of the whole message on the line
   abbrev packet_of : Comes → Option (List ℕ)
-  packet_of Quiet = none
-  packet_of (Whole p) = some p
-  packet_of (Lost n) = none
+  packet_of Quiet = None
+  packet_of (Whole p) = Some p
+  packet_of (Lost n) = None
 
   packet_is : {x : Comes} {f : Fed} → Agrees x f → packet_by f.taken.outcome f.message ≡ packet_of x
   packet_is quiet = refl
-  packet_is (whole ctr at n e) = ap some e
+  packet_is (whole ctr at n e) = ap Some e
   packet_is bad_length = refl
   packet_is bad_escape = refl
   packet_is bad_checksum = refl
   packet_is cut_off = refl
 
-  whole_is_lem : (p : List ℕ) → comes_at s b ≡ Whole p → packet_ended s b ≡ some p
+  whole_is_lem : (p : List ℕ) → comes_at s b ≡ Whole p → packet_ended s b ≡ Some p
   whole_is_lem p e = packet_is agreed ∙ ap packet_of e
 
-  is_whole : (p : List ℕ) → packet_ended s b ≡ some p → comes_at s b ≡ Whole p
+  is_whole : (p : List ℕ) → packet_ended s b ≡ Some p → comes_at s b ≡ Whole p
   is_whole p e = go (comes_at s b) (sym (packet_is agreed) ∙ e) where
-    go : (x : Comes) → packet_of x ≡ some p → x ≡ Whole p
-    go Quiet f = absurd (some_none (sym f))
+    go : (x : Comes) → packet_of x ≡ Some p → x ≡ Whole p
+    go Quiet f = cc
     go (Whole q) f = let same : q ≡ p = cc in ap Whole same
-    go (Lost n) f = absurd (some_none (sym f))
+    go (Lost n) f = cc
 
   module _ (cal meas : List ℕ) where
     good_number : (p : List ℕ) → received_number (heeded p (read_by s b) cal meas).received ≡ byte_number (Whole p) (has_answer (view_of s)) (session_of s).opened
@@ -228,16 +212,16 @@ event_told s cal meas number clock c h =
 
 -- ---- a slot
 size_sent_lem : (r : Slotted) (out : List ℕ) → Small r → 135 ≤ length out → slotted_value r ≡ size_sent (frame_sent r out)
-size_sent_lem slot.Idle out few h = refl
-size_sent_lem (slot.Sent n) out few h = sym (length-take-le n out (omega arith))
-size_sent_lem slot.NoRoom out few h = refl
-size_sent_lem slot.NoState out few h = refl
+size_sent_lem (Ok None) out few h = refl
+size_sent_lem (Ok (Some n)) out few h = sym (length-take-le n out (omega arith))
+size_sent_lem (Err slot.NoRoom) out few h = refl
+size_sent_lem (Err slot.NoState) out few h = refl
 
 small : (r : Slotted) → Small r → slotted_value r ≤ 135
-small slot.Idle few = omega arith
-small (slot.Sent n) few = few
-small slot.NoRoom few = omega arith
-small slot.NoState few = omega arith
+small (Ok None) few = omega arith
+small (Ok (Some n)) few = few
+small (Err slot.NoRoom) few = omega arith
+small (Err slot.NoState) few = omega arith
 
 slot_told : (s out : List ℕ) → consistent s ≡ true → 135 ≤ length out
     → SlotTells (ours.slot s out).slotted 0 (size_sent (sends ours s (SendingSlot out))) × (size_sent (sends ours s (SendingSlot out)) ≤ 135)

@@ -1,14 +1,6 @@
 -- What frames carry: a frame's packet reads as it was, an answer as an answer, and a list's packet as that list's. Assumes nothing.
-use Prim.Native.Nat.{ℕ, ◌+◌, ◌%◌, ◌<◌}
-use mathlib.Core.Path.{◌≡◌, refl, ap, ap₂, ◌∙◌}
-use mathlib.Core.Logic.{◌≢◌}
-use mathlib.Core.Bool.{Bool, true, false, cond}
-use mathlib.Core.List.{List, [], ◌∷◌, ◌++◌}
-use native.Mathlib.Omega.{arith}
-use borrow.Author.Tests.{ltb-true, ltb-false, lt-ltb, le-ltb, lt-leb}
-use lib.Dec.{eqb, ltb, leb}
-use lib.ListN.{length, get_or, set, drop}
-use lib.Seq.{get_or-set_same, get_or-take, get_or-drop, take_at}
+use Rattle.std.proofs.Common.{◌≡◌, ◌≢◌, ℕ, ◌+◌, ◌%◌, ◌<◌, Bool, true, false, cond, List, [], ◌∷◌, ◌++◌, length, get_or, drop, set, eqb, ltb, leb, refl, ap, ap₂, ◌∙◌, arith, ltb-true, ltb-false, lt-ltb, le-ltb, get_or-set_same, get_or-take, get_or-drop, take_at}
+use Rattle.std.proofs.lemmas.Bool.{lt-leb}
 use Rattle.line.specs.Message.{message, frame, sum}
 use Rattle.line.proofs.Stuffed.{unstuff_stuff}
 use Rattle.line.proofs.Laws.{cond_ind}

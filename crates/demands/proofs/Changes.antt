@@ -1,15 +1,8 @@
 -- What a command leaves of the seed, the MTA and the pool, by its packet and its answer: each is kept, unless the test of `Between` says that it is
 -- changed. Of whatever numbers the state holds. Assumes nothing.
-use Prim.{tt}
-use Prim.Native.Nat.{ℕ}
-use mathlib.Core.Path.{◌≡◌, refl, sym, ap, subst, ◌∙◌}
-use mathlib.Core.Bool.{Bool, true, false, ◌||◌}
-use mathlib.Core.List.{List}
-use lib.Dec.{eqb}
-use lib.ListN.{length}
-use borrow.Author.Tests.{eqb-true}
+use Rattle.std.proofs.Common.{◌≡◌, ℕ, Bool, true, false, List, length, Some, None, eqb, refl, sym, ap, ◌∙◌, subst, eqb-true}
+use Rattle.std.proofs.lemmas.Bool.{or_left, or_right}
 use Rattle.line.proofs.Laws.{cond_ind}
-use Rattle.line.proofs.Stuffed.{false_true}
 use Rattle.state.specs.Layout.{size}
 use Rattle.state.specs.Bytes.{u16_at, u32_at}
 use Rattle.state.specs.Generator.{next_of}
@@ -18,8 +11,7 @@ use Rattle.words.specs.Command.{command_of}
 use Rattle.words.specs.declared.Command.{Command}
 use Rattle.words.specs.declared.Resource.{Resource}
 use Rattle.words.specs.declared.Resource.TheVariants.{Calibration, Lists}
-use Rattle.words.specs.declared.Seed.{Seed}
-use Rattle.words.specs.declared.Seed.TheVariants.{None, For}
+use Rattle.words.specs.Values.{Seed}
 use Rattle.words.specs.declared.Mta.{Mta}
 use Rattle.words.specs.declared.Pointer.{Pointer}
 use Rattle.judge.specs.Doable.{Doable}
@@ -96,13 +88,6 @@ opened_stays : (r : Resource) (f : Resource → Bool) → f Lists ≡ true → u
 opened_stays Calibration f e = e
 opened_stays Lists f e = refl
 
-or_one : (x y : Bool) → x ≡ true → x || y ≡ true
-or_one x y e = rw e
-
-or_other : (x y : Bool) → y ≡ true → x || y ≡ true
-or_other true y e = refl
-or_other false y e = e
-
 -- ---- what a change leaves
 module _ (c : Session) where
   -- parts that UNLOCK does not lean on, and parts that no allocation does
@@ -116,13 +101,13 @@ module _ (c : Session) where
 
 module _ (p a : List ℕ) (c : Session) where
   changed : {A : Type 0} {t : Bool} → t ≡ true → t ≡ false → A
-  changed e n = absurd (false_true (sym n ∙ e))
+  changed e n = cc
 
   stays : Leaves p a c c
   stays = record { seed = λ _. seed_beside c; mta = λ _. refl; pool = λ _. pool_beside c }
 
   ends : (d : Session) → ends_session p a ≡ true → Leaves p a c d
-  ends d e = record { seed = changed (or_one (ends_session p a) _ e); mta = changed (or_one (ends_session p a) _ e); pool = changed (or_one (ends_session p a) _ e) }
+  ends d e = record { seed = changed (or_left (ends_session p a) _ e); mta = changed (or_left (ends_session p a) _ e); pool = changed (or_left (ends_session p a) _ e) }
 
   seeds : (g : ℕ) (x : Seed) → changes_seed p a ≡ true → Leaves p a c (with_seed (with_generator c g) x)
   seeds g x e = record { seed = changed e; mta = λ _. refl; pool = λ _. pool_beside c }
@@ -169,9 +154,9 @@ module _ (p t cal meas : List ℕ) (h : length t ≡ size) where
   unfolding effect
   given r e =
       let u : List ℕ = set_generator t (next_of (generator_of t)) in
-      let is : session_of (set_seed u (For r)) ≡ with_seed (with_generator c (generator_of u)) (seed_of (set_seed u (For r))) =
-      in_seed (only_seed u (For r)) ∙ ap (λ (x : Session). with_seed x (seed_of (set_seed u (For r)))) (in_generator (only_generator t (next_of (generator_of t)))) in
-      subst (Leaves p (reply_in (deed.GiveSeed r) c cal meas) c) (sym is) (seeds p _ c (generator_of u) (seed_of (set_seed u (For r))) e)
+      let is : session_of (set_seed u (Some r)) ≡ with_seed (with_generator c (generator_of u)) (seed_of (set_seed u (Some r))) =
+      in_seed (only_seed u (Some r)) ∙ ap (λ (x : Session). with_seed x (seed_of (set_seed u (Some r)))) (in_generator (only_generator t (next_of (generator_of t)))) in
+      subst (Leaves p (reply_in (deed.GiveSeed r) c cal meas) c) (sym is) (seeds p _ c (generator_of u) (seed_of (set_seed u (Some r))) e)
 
   moved : (m : Mta) (a : List ℕ) → changes_mta p a ≡ true → Leaves p a c (session_of (set_mta t m))
   moved m a e = subst (Leaves p a c) (sym (in_mta (only_mta t m))) (places p a c (mta_of (set_mta t m)) e)
@@ -186,7 +171,7 @@ module _ (p t cal meas : List ℕ) (h : length t ≡ size) where
   by_verdict _ _ o synchs can = stays p _ c
   by_verdict _ _ o no_seed_lem can = stays p _ c
   by_verdict _ _ o (gives r still) can = given r (rw o)
-  by_verdict _ _ o (unlocks r w k) can = shows (deed.Unlock r) can tt (opens p _ c r None (or_other (ends_session p (reply_in (deed.Unlock r) c cal meas)) _ (rw o)))
+  by_verdict _ _ o (unlocks r w k) can = shows (deed.Unlock r) can tt (opens p _ c r None (or_right (ends_session p (reply_in (deed.Unlock r) c cal meas)) _ (rw o)))
   by_verdict _ _ o (wrong r w k) can = ends p _ c _ (rw o)
   by_verdict _ _ o sets can = moved _ _ (rw o)
   by_verdict _ _ o (uploads x a there inside) can = moved _ _ (rw o)

@@ -1,11 +1,5 @@
 -- Our slave answers every command with the code of its first fault, and does it exactly if it has none. Assumes nothing.
-use Prim.Native.Nat.{ℕ, ◌≤◌}
-use mathlib.Core.Path.{◌≡◌, sym, ap, subst, ◌∙◌}
-use mathlib.Core.Bool.{true, false}
-use mathlib.Core.Option.{some}
-use mathlib.Core.List.{List}
-use borrow.Author.Tests.{le-ltb}
-use lib.ListN.{length}
+use Rattle.std.proofs.Common.{◌≡◌, ℕ, ◌≤◌, true, false, List, length, sym, ap, ◌∙◌, subst, le-ltb, Some}
 use Rattle.state.specs.State.{consistent}
 use Rattle.session.specs.Receive.{Step, obeyed, receive_of}
 use Rattle.model.specs.declared.Deed.TheVariants.{Connect}
@@ -25,7 +19,7 @@ good_connect_lem : (p : List ℕ) → byte p 0 ≡ 0xFF → 2 ≤ length p → b
 unfolding good_connect
 good_connect_lem p code long mode = simp (code, le-ltb (length p) 2 long, mode)
 
-module _ (s cal meas : List ℕ) (b : ℕ) (p : List ℕ) (c : consistent s ≡ true) (e : packet_ended s b ≡ some p) (closed : (session_of s).opened ≡ false) (free : has_answer (view_of s) ≡ false) where
+module _ (s cal meas : List ℕ) (b : ℕ) (p : List ℕ) (c : consistent s ≡ true) (e : packet_ended s b ≡ Some p) (closed : (session_of s).opened ≡ false) (free : has_answer (view_of s) ≡ false) where
   connected : good_connect p ≡ true → receive_of s cal meas b ≡ obeyed Connect p (read_by s b) cal meas
   unfolding heeding_in
   connected good = heeds_right s cal meas b p c e ∙ heeded_at s cal meas b p c ∙ simp (free, closed, good)

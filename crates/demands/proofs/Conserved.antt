@@ -1,17 +1,12 @@
 -- Nothing lost, nothing invented: what holds of each call holds of a run. Assumes nothing.
-use Prim.Native.Nat.{ℕ, ◌≤◌, ◌<◌}
-use mathlib.Core.Path.{◌≡◌, refl, sym, ap, ◌∙◌}
-use mathlib.Core.Bool.{Bool, true, false, cond}
-use mathlib.Core.List.{List, [], ◌∷◌, ◌++◌, append-nil, append_assoc}
-use native.Mathlib.Nat.{lt_of_not-le}
-use native.Mathlib.Decide.{dec_le, ℕ_discrete}
-use lib.Dec.{ltb}
-use lib.ListN.{length}
+use Rattle.std.proofs.Common.{◌≡◌, ℕ, ◌≤◌, ◌<◌, Bool, true, false, cond, List, [], ◌∷◌, ◌++◌, length, ltb, refl, sym, ap, ◌∙◌, append-nil, append_assoc, inl, inr}
+use Rattle.std.proofs.Math.Decide.{ℕ_discrete}
+use Rattle.std.proofs.lemmas.Bool.{cases_lt}
 use Rattle.line.specs.Message.{room}
 use Rattle.state.specs.Layout.{size}
 use Rattle.state.specs.State.{consistent}
 use Rattle.lists.specs.Slot.{slot_of}
-use Rattle.model.specs.declared.Turn.{Turn}
+use Rattle.model.specs.Turn.{Turn}
 use Rattle.state.proofs.Consistent.{consistent_size}
 use Rattle.model.specs.Model.{Slave, waiting_in, has_answer}
 use Rattle.model.specs.Calls.{turn_in, packet_from, packet_for, packet_gone}
@@ -47,7 +42,7 @@ module _ (waiting : List ℕ → List (List ℕ)) (goes comes : List ℕ → Cal
 slot_balanced : (test : List ℕ → Bool) (w : Slave → List (List ℕ)) (s out : List ℕ) → consistent s ≡ true
     → ((t : Turn) → Fair (view_of s) t → carried test (frames_of (view_of s).ctr (packet_for t (view_of s))) ++ w (turned t (view_of s)) ≡ w (view_of s))
     → carried test (sends ours s (SendingSlot out)) ++ w (view_of (slot_of s out).state) ≡ w (view_of s) ++ []
-slot_balanced test w s out c f = elim (dec_le room (length out)) [ yes r ↦ with_room r | no r ↦ without (lt_of_not-le r) ] where
+slot_balanced test w s out c f = elim (cases_lt (length out) room) [ inl r ↦ without r | inr r ↦ with_room r ] where
   with_room : room ≤ length out → carried test (sends ours s (SendingSlot out)) ++ w (view_of (slot_of s out).state) ≡ w (view_of s) ++ []
   with_room r = rw (slot_sends s out c r, slot_shows s out c r) (f (turn_in (view_of s)) (fair (view_of s)) ∙ sym (append-nil (w (view_of s))))
 

@@ -1,19 +1,12 @@
 -- Only the first 4,096 bytes of a memory matter, and the rest stays. Assumes nothing.
-use Prim.Native.Nat.{ℕ, zero, suc, ◌+◌, ◌≤◌}
-use mathlib.Core.Path.{◌≡◌, refl, sym, ap, ap₂, ◌∙◌}
-use mathlib.Core.Bool.{Bool, true, false, cond}
-use mathlib.Core.List.{List, [], ◌∷◌, ◌++◌}
-use native.Mathlib.Nat.{zero-add, min_comm, min-eq_left, min-le_left, min-le_right}
-use native.Mathlib.Omega.{arith}
-use borrow.Author.Tests.{ltb-true, leb-true}
-use lib.Dec.{ltb}
-use lib.ListN.{length, get_or, set, take, drop, length-take, length-set, take-append-drop}
-use lib.Seq.{sets, set-append_left, get_or-take}
+use Rattle.std.proofs.Common.{◌≡◌, ℕ, zero, suc, ◌+◌, ◌≤◌, Bool, true, false, cond, List, [], ◌∷◌, ◌++◌, length, get_or, take, drop, set, Some, None, Ok, Err, ltb, refl, sym, ap, ap₂, ◌∙◌, arith, zero-add, ltb-true, leb-true, length-take, length-set, take-append-drop, get_or-take}
+use Rattle.std.proofs.Math.Nat.{min_comm, min-eq_left, min-le_left, min-le_right}
+use Rattle.std.proofs.Math.Seq.{sets, set-append_left}
 use Rattle.session.proofs.Heeding.{heeded_is}
 use Rattle.model.specs.Answers.{reply_in, written, writes}
 use Rattle.model.specs.View.{session_of, odt_of}
-use Rattle.line.specs.declared.Outcome.{Outcome}
-use Rattle.line.specs.declared.Outcome.TheVariants as line
+use Rattle.line.specs.Values.{Outcome}
+use Rattle.line.specs.declared.Fault.TheVariants as line
 use Rattle.state.specs.Layout.{addressable, upload_most}
 use Rattle.state.specs.Pool.{list_count, first_odt, odt_count}
 use Rattle.state.specs.Bytes.{block}
@@ -31,8 +24,8 @@ use Rattle.words.specs.declared.Extension.{Extension}
 use Rattle.words.specs.declared.Extension.TheVariants.{Calibration, Measured}
 use Rattle.model.specs.declared.Sampling.{Sampling}
 use Rattle.model.specs.declared.Sampling.TheVariants.{Idle, Sampled, Missed}
-use Rattle.words.specs.declared.Received.{Received}
-use Rattle.words.specs.declared.Received.TheVariants.{Nothing, Silent, BadLength, BadEscape, BadChecksum, Unread, CutOff, NoState}
+use Rattle.words.specs.Values.{Received, no_state}
+use Rattle.words.specs.declared.Heard.TheVariants.{Nothing, Silent, BadLength, BadEscape, BadChecksum, Unread, CutOff}
 use Rattle.model.specs.declared.Deed.{Deed}
 use Rattle.model.specs.declared.Deed.TheVariants.{Refuse, RefuseSize, WrongKey, Connect, Disconnect, Status, Synch, NoSeed, GiveSeed, Unlock, SetMta, Upload, Checksum, Download, ClearList, SetPointer, ClearEntry, WriteEntry, SetMode, Stop, Start, KeepRunning, Select, StopAll, StartSelected, StopSelected, ProcessorInfo, ResolutionInfo, FreeLists, AllocLists, AllocOdts, AllocEntries}
 use Rattle.state.proofs.Inside.{inside_le}
@@ -199,22 +192,22 @@ module _ (cal meas : List ℕ) where
   heeded_cut : (p s : List ℕ) → Cut rest (heeded p s cal meas) (heeded p s (front cal) (front meas))
   heeded_cut p s =
       rw (heeded_is p s cal meas, heeded_is p s (front cal) (front meas), judged_cut p s)
-      (either_cut (waits s) (only_cut Unread s)
+      (either_cut (waits s) (only_cut (Ok Unread) s)
       (either_cut (open_of s) (obeyed_cut (judge_of p s (length cal) (length meas)) p s (judged_doable p s (length cal) (length meas)))
-      (either_cut (good_connect p) (obeyed_cut Connect p s tt) (only_cut Silent s))))
+      (either_cut (good_connect p) (obeyed_cut Connect p s tt) (only_cut (Ok Silent) s))))
 
   meant_cut : (o : Outcome) (m s : List ℕ) → Cut rest (meant o m s cal meas) (meant o m s (front cal) (front meas))
   unfolding meant
-  meant_cut line.Nothing m s = only_cut Nothing s
-  meant_cut (line.Good ctr at n) m s = heeded_cut (block m at n) s
-  meant_cut line.BadLength m s = only_cut BadLength s
-  meant_cut line.BadEscape m s = only_cut BadEscape s
-  meant_cut line.BadChecksum m s = only_cut BadChecksum s
-  meant_cut line.CutOff m s = only_cut CutOff s
-  meant_cut line.ShortBuffer m s = only_cut NoState s
+  meant_cut (Ok None) m s = only_cut (Ok Nothing) s
+  meant_cut (Ok (Some good)) m s = heeded_cut (block m good.at good.len) s
+  meant_cut (Err line.BadLength) m s = only_cut (Ok BadLength) s
+  meant_cut (Err line.BadEscape) m s = only_cut (Ok BadEscape) s
+  meant_cut (Err line.BadChecksum) m s = only_cut (Ok BadChecksum) s
+  meant_cut (Err line.CutOff) m s = only_cut (Ok CutOff) s
+  meant_cut (Err line.ShortBuffer) m s = only_cut (Err no_state) s
 
 pub cut : (s cal meas : List ℕ) (b : ℕ) → ours.receive s cal meas b ≡ put_back (ours.receive s (take addressable cal) (take addressable meas) b) (drop addressable cal)
 unfolding receive_of
 cut s cal meas b =
-    let both = either_cut (consistent s) (meant_cut cal meas (fed_of s b).taken.outcome (fed_of s b).message (read_on s (fed_of s b))) (only_cut cal meas NoState s) in
+    let both = either_cut (consistent s) (meant_cut cal meas (fed_of s b).taken.outcome (fed_of s b).message (read_on s (fed_of s b))) (only_cut cal meas (Err no_state) s) in
     both.same

@@ -1,9 +1,5 @@
 -- Of a memory's length no more is judged than how many of its bytes can be addressed. Assumes nothing.
-use Prim.Native.Nat.{ℕ}
-use mathlib.Core.Path.{◌≡◌, refl}
-use mathlib.Core.Bool.{Bool}
-use mathlib.Core.List.{List}
-use lib.ListN.{get_or}
+use Rattle.std.proofs.Common.{◌≡◌, ℕ, Bool, List, get_or, refl}
 use Rattle.model.specs.Judge.{seen_in, judge_in, extension_from, upload_deed, short_upload_deed, checksum_deed, download_to, download_deed, short_download_deed, write_block, write_deed, judge_the, judge_by, judge}
 use Rattle.model.specs.View.{session_of}
 use Rattle.state.specs.Layout.{download_from, short_download_from}

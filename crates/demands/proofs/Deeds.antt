@@ -1,15 +1,8 @@
 -- What a deed does to the packets that wait: those of a list that it stops or frees, or whose session it ends or renews, are gone; all others wait as they
 -- did. While a list runs, every other deed leaves how many lists and ODTs there are. Assumes nothing.
-use Prim.Native.Nat.{ℕ}
-use mathlib.Core.Path.{◌≡◌, refl, sym, ap, ◌∙◌}
-use mathlib.Core.Logic.{◌≢◌}
-use mathlib.Core.Bool.{Bool, true, false, cond}
-use mathlib.Core.List.{List, []}
-use native.Mathlib.Omega.{arith}
-use borrow.Author.Tests.{eqb-true, eqb-false}
-use lib.Dec.{eqb}
+use Rattle.std.proofs.Common.{◌≡◌, ◌≢◌, ℕ, Bool, true, false, cond, List, [], eqb, refl, sym, ap, ◌∙◌, arith, eqb-true}
+use Rattle.std.proofs.lemmas.Bool.{false≢true, eqb-false}
 use Rattle.line.proofs.Laws.{cond_ind}
-use Rattle.line.proofs.Stuffed.{false_true}
 use Rattle.model.specs.Model.{no_entry, DaqList, no_list, Session, first_of, runs, runs_in, waiting, waiting_in}
 use Rattle.model.specs.Step.{at, each_list, stop_it, clear, set_mode, set_entry, switch, select, start_if_selected, stop_if_selected, alloc_entries, step_in}
 use Rattle.model.specs.declared.Deed.{Deed}
@@ -47,12 +40,12 @@ module _ (o : Bool) (first : ℕ) (x : DaqList) where
   stopped : x.selected ≡ false → waiting o first (stop_if_selected x) ≡ waiting o first x
   stopped e =
       deselected o first (cond x.selected (switch false x) x) (waiting o first x)
-      (cond_ind (λ (y : DaqList). waiting o first y ≡ waiting o first x) x.selected (λ t. absurd (false_true (sym e ∙ t))) (λ _. refl))
+      (cond_ind (λ (y : DaqList). waiting o first y ≡ waiting o first x) x.selected (λ t. cc) (λ _. refl))
 
   dropped : x.selected ≡ true → waiting o first (stop_if_selected x) ≡ []
   dropped e =
       deselected o first (cond x.selected (switch false x) x) []
-      (cond_ind (λ (y : DaqList). waiting o first y ≡ []) x.selected (λ _. switched o first x false) (λ f. absurd (false_true (sym f ∙ e))))
+      (cond_ind (λ (y : DaqList). waiting o first y ≡ []) x.selected (λ _. switched o first x false) (λ f. cc))
 
 -- neither changes how many ODTs there are
 started_odts : (o : Bool) (x : DaqList) → (start_if_selected o x).odts ≡ x.odts
@@ -93,9 +86,9 @@ pub step_waiting : (d : Deed) (p : List ℕ) (c : Session) (l : ℕ) → Listed 
 unfolding step_in
 step_waiting (Refuse r) p c l has found e = refl
 step_waiting RefuseSize p c l has found e = refl
-step_waiting WrongKey p c l has found e = absurd (false_true (sym e))
-step_waiting Connect p c l has found e = absurd (false_true (sym e))
-step_waiting Disconnect p c l has found e = absurd (false_true (sym e))
+step_waiting WrongKey p c l has found e = cc
+step_waiting Connect p c l has found e = cc
+step_waiting Disconnect p c l has found e = cc
 step_waiting Status p c l has found e = refl
 step_waiting Synch p c l has found e = refl
 step_waiting NoSeed p c l has found e = refl
@@ -114,12 +107,12 @@ step_waiting (Stop j) p c l has found e = other c j l (switch false) refl e
 step_waiting (Start j) p c l has found e = kept c j l (switch true) refl (switched c.opened (first_of c j) (c.list j) true ∙ sym (rests c.opened (first_of c j) (c.list j) found.still))
 step_waiting (KeepRunning j) p c l has found e = refl
 step_waiting (Select j) p c l has found e = kept c j l (select true) refl (selected c.opened (first_of c j) (c.list j) true)
-step_waiting StopAll p c l has found e = absurd (false_true (sym e))
+step_waiting StopAll p c l has found e = cc
 step_waiting StartSelected p c l has found e = each_waits c (start_if_selected c.opened) l (started_odts c.opened) ∙ started c.opened (first_of c l) (c.list l)
 step_waiting StopSelected p c l has found e = each_waits c stop_if_selected l stopped_odts ∙ stopped c.opened (first_of c l) (c.list l) e
 step_waiting ProcessorInfo p c l has found e = refl
 step_waiting ResolutionInfo p c l has found e = refl
-step_waiting FreeLists p c l has found e = absurd (false_true (sym e))
+step_waiting FreeLists p c l has found e = cc
 step_waiting (AllocLists n) p c l has found e = listed_waits c l has n found
 step_waiting (AllocOdts j n) p c l has found e = odts_wait c l has found j n
 step_waiting (AllocEntries j o n) p c l has found e = entries_wait c l j o n found.still
@@ -127,38 +120,38 @@ step_waiting (AllocEntries j o n) p c l has found e = entries_wait c l j o n fou
 -- ---- a deed that does
 pub step_stops : (d : Deed) (c : Session) (l : ℕ) → stops l d c ≡ true → waiting_in (step_in d c) l ≡ []
 unfolding step_in
-step_stops (Refuse r) c l e = absurd (false_true e)
-step_stops RefuseSize c l e = absurd (false_true e)
+step_stops (Refuse r) c l e = cc
+step_stops RefuseSize c l e = cc
 step_stops WrongKey c l e = unstarted false (first_of (step_in WrongKey c) l) no_list refl
 step_stops Connect c l e = unstarted true (first_of (step_in Connect c) l) no_list refl
 step_stops Disconnect c l e = unstarted false (first_of (step_in Disconnect c) l) no_list refl
-step_stops Status c l e = absurd (false_true e)
-step_stops Synch c l e = absurd (false_true e)
-step_stops NoSeed c l e = absurd (false_true e)
-step_stops (GiveSeed r) c l e = absurd (false_true e)
-step_stops (Unlock r) c l e = absurd (false_true e)
-step_stops (SetMta x a) c l e = absurd (false_true e)
-step_stops (Upload x a m) c l e = absurd (false_true e)
-step_stops (Checksum x a m) c l e = absurd (false_true e)
-step_stops (Download from a m) c l e = absurd (false_true e)
-step_stops (ClearList j) c l e = absurd (false_true e)
-step_stops (SetPointer j o i) c l e = absurd (false_true e)
-step_stops (ClearEntry j o i) c l e = absurd (false_true e)
-step_stops (WriteEntry j o i m x a) c l e = absurd (false_true e)
-step_stops (SetMode j event) c l e = absurd (false_true e)
+step_stops Status c l e = cc
+step_stops Synch c l e = cc
+step_stops NoSeed c l e = cc
+step_stops (GiveSeed r) c l e = cc
+step_stops (Unlock r) c l e = cc
+step_stops (SetMta x a) c l e = cc
+step_stops (Upload x a m) c l e = cc
+step_stops (Checksum x a m) c l e = cc
+step_stops (Download from a m) c l e = cc
+step_stops (ClearList j) c l e = cc
+step_stops (SetPointer j o i) c l e = cc
+step_stops (ClearEntry j o i) c l e = cc
+step_stops (WriteEntry j o i m x a) c l e = cc
+step_stops (SetMode j event) c l e = cc
 step_stops (Stop j) c l e = own c j l (switch false) refl e (switched c.opened (first_of c j) (c.list j) false)
-step_stops (Start j) c l e = absurd (false_true e)
-step_stops (KeepRunning j) c l e = absurd (false_true e)
-step_stops (Select j) c l e = absurd (false_true e)
+step_stops (Start j) c l e = cc
+step_stops (KeepRunning j) c l e = cc
+step_stops (Select j) c l e = cc
 step_stops StopAll c l e = unstarted c.opened (first_of (step_in StopAll c) l) (stop_it (c.list l)) refl
-step_stops StartSelected c l e = absurd (false_true e)
+step_stops StartSelected c l e = cc
 step_stops StopSelected c l e = each_waits c stop_if_selected l stopped_odts ∙ dropped c.opened (first_of c l) (c.list l) e
-step_stops ProcessorInfo c l e = absurd (false_true e)
-step_stops ResolutionInfo c l e = absurd (false_true e)
+step_stops ProcessorInfo c l e = cc
+step_stops ResolutionInfo c l e = cc
 step_stops FreeLists c l e = freed_waits c l
-step_stops (AllocLists n) c l e = absurd (false_true e)
-step_stops (AllocOdts j n) c l e = absurd (false_true e)
-step_stops (AllocEntries j o n) c l e = absurd (false_true e)
+step_stops (AllocLists n) c l e = cc
+step_stops (AllocOdts j n) c l e = cc
+step_stops (AllocEntries j o n) c l e = cc
 
 -- ---- d has as many lists as c, and each as many ODTs: every packet has the number that it has in c
 pub record SameNumbers (c d : Session) : Type 0 where
@@ -180,9 +173,9 @@ pub step_lists : (d : Deed) (p : List ℕ) (c : Session) (l : ℕ) → Listed c 
 unfolding step_in
 step_lists (Refuse r) p c l has found e run = lists_stay
 step_lists RefuseSize p c l has found e run = lists_stay
-step_lists WrongKey p c l has found e run = absurd (false_true (sym e))
-step_lists Connect p c l has found e run = absurd (false_true (sym e))
-step_lists Disconnect p c l has found e run = absurd (false_true (sym e))
+step_lists WrongKey p c l has found e run = cc
+step_lists Connect p c l has found e run = cc
+step_lists Disconnect p c l has found e run = cc
 step_lists Status p c l has found e run = lists_stay
 step_lists Synch p c l has found e run = lists_stay
 step_lists NoSeed p c l has found e run = lists_stay
@@ -201,12 +194,12 @@ step_lists (Stop j) p c l has found e run = lists_at_lem c j (switch false) refl
 step_lists (Start j) p c l has found e run = lists_at_lem c j (switch true) refl
 step_lists (KeepRunning j) p c l has found e run = lists_stay
 step_lists (Select j) p c l has found e run = lists_at_lem c j (select true) refl
-step_lists StopAll p c l has found e run = absurd (false_true (sym e))
+step_lists StopAll p c l has found e run = cc
 step_lists StartSelected p c l has found e run = (record { lists = refl; odts = λ i. started_odts c.opened (c.list i) }, refl)
 step_lists StopSelected p c l has found e run = (record { lists = refl; odts = λ i. stopped_odts (c.list i) }, refl)
 step_lists ProcessorInfo p c l has found e run = lists_stay
 step_lists ResolutionInfo p c l has found e run = lists_stay
-step_lists FreeLists p c l has found e run = absurd (false_true (sym e))
+step_lists FreeLists p c l has found e run = cc
 step_lists (AllocLists n) p c l has found e run = absurd (omega (arith, found, runs_listed c has l run))
-step_lists (AllocOdts j n) p c l has found e run = absurd (false_true (sym (unstarted_rests c.opened (c.list l) (all_unstarted c has found l)) ∙ run))
+step_lists (AllocOdts j n) p c l has found e run = absurd (false≢true (sym (unstarted_rests c.opened (c.list l) (all_unstarted c has found l)) ∙ run))
 step_lists (AllocEntries j o n) p c l has found e run = lists_at_lem c j (alloc_entries o n) refl

@@ -1,19 +1,9 @@
 -- Our slave meets the first demand: any bytes get a defined outcome, and a refusal leaves what it should. Assumes nothing.
-use Prim.{tt}
-use Prim.Native.Nat.{ℕ, ◌≤◌, ◌<◌}
-use mathlib.Core.Path.{◌≡◌, refl, sym, ap, subst, ◌∙◌}
-use mathlib.Core.Logic.{◌≢◌}
-use mathlib.Core.Bool.{true, false}
-use mathlib.Core.Option.{Option}
-use mathlib.Core.List.{List}
-use native.Mathlib.Omega.{arith}
-use borrow.Author.Tests.{lt-ltb, le-ltb, eq-eqb, ne_eqb}
-use lib.Dec.{eqb, ltb, lit≤}
-use lib.ListN.{length}
+use Rattle.std.proofs.Common.{◌≡◌, ◌≢◌, ℕ, ◌≤◌, ◌<◌, true, false, List, length, Option, Some, None, eqb, ltb, refl, sym, ap, ◌∙◌, subst, arith, lt-ltb, le-ltb, eq-eqb, ne_eqb, lit≤}
+use Rattle.std.proofs.lemmas.Bool.{false≢true}
 use Rattle.line.specs.Message.{most, room}
 use Rattle.line.specs.Writer.{Sent, write_of}
 use Rattle.line.proofs.Laws.{cond_ind}
-use Rattle.line.proofs.Stuffed.{false_true}
 use Rattle.state.specs.Layout.{place_at, answer_at, size, session_at}
 use Rattle.state.specs.State.{consistent, counted_wrong, ctr_of, closed, answer_of}
 use Rattle.model.specs.Model.{byte}
@@ -28,8 +18,8 @@ use Rattle.words.specs.Number.{received_number, evented_number, slotted_number, 
 use Rattle.judge.specs.Doable.{Doable}
 use Rattle.model.specs.declared.Deed.{Deed}
 use Rattle.model.specs.declared.Deed.TheVariants.{WrongKey}
-use Rattle.model.specs.declared.Turn.{Turn}
-use Rattle.model.specs.declared.Turn.TheVariants.{Nobody, Answer, Packet}
+use Rattle.model.specs.Turn.{Turn}
+use Rattle.model.specs.declared.Sender.TheVariants.{Answer, Packet}
 use Rattle.fields.proofs.Effects.{answering}
 use Rattle.fields.proofs.Frames.{Only, only_then, only_wider, only_answered}
 use Rattle.fields.proofs.Kept.{receive_kept, event_kept, slot_kept, power_up_consistent}
@@ -51,7 +41,7 @@ not_wrong : (s cal meas : List ℕ) (b : ℕ) (d : Deed) (p : List ℕ) → wron
 not_wrong s cal meas b d p n w e =
     let f : wrong_key p (session_of s) ≡ true = subst (λ (x : Deed). Found x p (session_of s)) e w.found in
     let k : wrong_key p (session_of s) ≡ false = sym (ap (λ (o : Option (List ℕ)). wrong_key_in o (session_of s)) w.ended) ∙ n in
-    false_true (sym k ∙ f)
+    false≢true (sym k ∙ f)
 
 -- the answer alone, behind the reader
 answer_only_lem : (d : Deed) (s t cal meas : List ℕ) (n : ℕ) → Only place_at answer_at s t → effect d t ≡ t → Doable d (session_of t) n (length cal) (length meas) → Only place_at session_at s (after d t cal meas)
@@ -135,13 +125,13 @@ wrote p ctr out h =
     let P : Sent → Type 0 = λ (w : Sent). slotted_number (slotted_as w.written) ≡ 0 in
     cond_ind P (eqb (length p) 0) (λ _. refl)
     (λ _. cond_ind P (ltb most (length p)) (λ _. refl)
-    (λ _. cond_ind P (ltb (length out) room) (λ n. absurd (false_true (sym (le-ltb (length out) room h) ∙ n))) (λ _. refl)))
+    (λ _. cond_ind P (ltb (length out) room) (λ n. absurd (false≢true (sym (le-ltb (length out) room h) ∙ n))) (λ _. refl)))
 
 sent : (t : Turn) (s out : List ℕ) → room ≤ length out → slotted_number (sent_by t s out).slotted ≡ 0
 unfolding sent_by
-sent Nobody s out h = refl
-sent Answer s out h = wrote (answer_of s) (ctr_of s) out h
-sent (Packet l o) s out h = wrote (packet_of s l o) (ctr_of s) out h
+sent None s out h = refl
+sent (Some Answer) s out h = wrote (answer_of s) (ctr_of s) out h
+sent (Some (Packet l o)) s out h = wrote (packet_of s l o) (ctr_of s) out h
 
 good_slot : (s out : List ℕ) → consistent s ≡ true → room ≤ length out → slotted_number (slot_of s out).slotted ≡ 0
 unfolding slot_of

@@ -1,19 +1,11 @@
 -- The third demand is met. Assumes nothing.
-use Prim.Native.Nat.{ℕ, ◌<◌}
-use mathlib.Core.Path.{◌≡◌, ap, ◌∙◌, subst}
-use mathlib.Core.Bool.{true}
-use mathlib.Core.Option.{some}
-use mathlib.Core.List.{List}
-use borrow.Author.Tests.{lt-ltb}
-use lib.Dec.{ltb}
-use lib.ListN.{length}
+use Rattle.std.proofs.Common.{◌≡◌, ℕ, ◌<◌, true, List, length, Some, Ok, ltb, ap, ◌∙◌, subst, lt-ltb}
 use Rattle.state.specs.Layout.{place_at, answer_at}
 use Rattle.state.specs.State.{consistent}
 use Rattle.session.specs.Receive.{Step, only, receive_of}
 use Rattle.model.specs.Heed.{heeding_in}
 use Rattle.model.specs.Model.{has_answer}
 use Rattle.model.specs.View.{session_of, view_of}
-use Rattle.words.specs.declared.Received.TheVariants.{Answered, Unread}
 use Rattle.look.proofs.Looked.{judged_doable}
 use Rattle.fields.proofs.Effects.{answering}
 use Rattle.fields.proofs.Kept.{receive_kept}
@@ -29,10 +21,11 @@ use Rattle.demands.proofs.Reading.{frame_ends}
 use Rattle.demands.proofs.Reached.{run_kept}
 use Rattle.demands.proofs.Soon.{answer_leaves}
 use Rattle.demands.proofs.Whole.{next_leaves, leaves_all, sample_leaves_lem}
+use Rattle.words.specs.declared.Heard.TheVariants.{Answered, Unread}
 
 -- ---- a command is answered
 module _ (s cal meas : List ℕ) (b : ℕ) (p : List ℕ) (c : consistent s ≡ true) (w : Commands s b p) where
-  command_number : (receive_of s cal meas b).received ≡ Answered
+  command_number : (receive_of s cal meas b).received ≡ Ok Answered
   command_number = ap (λ (o : Step). o.received) (commanded s cal meas b p c w)
 
   command_waits : has_answer (view_of (receive_of s cal meas b).state) ≡ true
@@ -56,11 +49,11 @@ answered_soon s before cal meas b later ctr p c one few e o f =
     command_soon (run ours s before) cal meas b p (run_kept s before c) (record { ends = frame_ends s before b ctr p c one few e; opened = o; free = f }) later
 
 -- ---- good messages while an answer waits
-unread : (s cal meas : List ℕ) (b : ℕ) (p : List ℕ) → consistent s ≡ true → has_answer (view_of s) ≡ true → packet_ended s b ≡ some p
-    → ((receive_of s cal meas b).received ≡ Unread) × ChangesOnly place_at answer_at ours s cal meas b
+unread : (s cal meas : List ℕ) (b : ℕ) (p : List ℕ) → consistent s ≡ true → has_answer (view_of s) ≡ true → packet_ended s b ≡ Some p
+    → ((receive_of s cal meas b).received ≡ Ok Unread) × ChangesOnly place_at answer_at ours s cal meas b
 unfolding heeding_in
 unread s cal meas b p c w e =
-    let o : receive_of s cal meas b ≡ only Unread (read_by s b) cal = heeds_right s cal meas b p c e ∙ heeded_at s cal meas b p c ∙ simp w in
+    let o : receive_of s cal meas b ≡ only (Ok Unread) (read_by s b) cal = heeds_right s cal meas b p c e ∙ heeded_at s cal meas b p c ∙ simp w in
     (ap (λ (x : Step). x.received) o, record { state = rw o (all_but (read_only s b c)); memory = ap (λ (x : Step). x.cal) o })
 
 pub demand3 : Demand3 ours

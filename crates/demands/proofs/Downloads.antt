@@ -1,14 +1,6 @@
 -- What DOWNLOAD or SHORT_DOWNLOAD wrote, UPLOAD or SHORT_UPLOAD at the same place gives back, and other bytes stay. Assumes nothing.
-use Prim.Native.Nat.{ℕ, ◌+◌, ◌≤◌}
-use mathlib.Core.Path.{◌≡◌, refl, sym, ap, ◌∙◌, subst}
-use mathlib.Core.Logic.{◌≢◌}
-use mathlib.Core.Bool.{true}
-use mathlib.Core.List.{List, [], ◌∷◌}
-use native.Mathlib.Nat.{le_refl}
-use native.Mathlib.Omega.{arith}
-use borrow.Author.Tests.{ne_eqb, le-ltb}
-use lib.ListN.{length}
-use lib.Seq.{sets, length-sets}
+use Rattle.std.proofs.Common.{◌≡◌, ◌≢◌, ℕ, ◌+◌, ◌≤◌, true, List, [], ◌∷◌, length, refl, sym, ap, ◌∙◌, subst, arith, le_refl, ne_eqb, le-ltb}
+use Rattle.std.proofs.Math.Seq.{sets, length-sets}
 use Rattle.model.specs.Judge.{judge_in, upload_deed, short_upload_deed, judge_the, judge_by, judge}
 use Rattle.model.specs.Answers.{reply_in, written, writes}
 use Rattle.model.specs.Model.{byte, Session}

@@ -1,11 +1,5 @@
 -- An event takes the lists one after the other, and each one's step changes its own store alone. Assumes nothing.
-use Prim.Native.Nat.{ℕ, zero, suc, ◌+◌, ◌-◌, ◌≤◌, ◌<◌}
-use mathlib.Core.Path.{◌≡◌, refl, sym, ap₂, subst, ◌∙◌}
-use mathlib.Core.Logic.{◌≢◌}
-use mathlib.Core.List.{List, ◌∷◌}
-use native.Mathlib.Omega.{arith}
-use lib.Dec.{lit≤}
-use lib.ListN.{length}
+use Rattle.std.proofs.Common.{◌≡◌, ◌≢◌, ℕ, zero, suc, ◌+◌, ◌-◌, ◌≤◌, ◌<◌, List, ◌∷◌, length, refl, sym, ap₂, ◌∙◌, subst, arith, lit≤}
 use Rattle.state.specs.Layout.{size, all_odts, sample_at, phase_at, mode_at}
 use Rattle.state.specs.Pool.{list_count, odts_in, first_odt, odt_count, odt_total}
 use Rattle.state.proofs.Ranges.{start_zero, start_mono}

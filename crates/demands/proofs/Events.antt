@@ -1,12 +1,5 @@
 -- An event samples and misses the lists that it should, counts them, and changes nothing but the stores of those sampled. Assumes nothing.
-use Prim.Native.Nat.{ℕ, ◌*◌, ◌≤◌, ◌<◌}
-use mathlib.Core.Path.{◌≡◌, refl, sym, ap, subst, ◌∙◌}
-use mathlib.Core.Logic.{◌≢◌}
-use mathlib.Core.Bool.{Bool, true, false, cond}
-use mathlib.Core.List.{List, [], ◌++◌, append-nil}
-use native.Mathlib.Omega.{arith}
-use borrow.Author.Tests.{lt-ltb, le-ltb, ltb-true, ltb-false}
-use lib.Dec.{ltb, leb, lit≤}
+use Rattle.std.proofs.Common.{◌≡◌, ◌≢◌, ℕ, ◌*◌, ◌≤◌, ◌<◌, Bool, true, false, cond, List, [], ◌++◌, ltb, leb, refl, sym, ap, ◌∙◌, subst, arith, append-nil, lt-ltb, le-ltb, ltb-true, ltb-false, lit≤}
 use Rattle.state.specs.Layout.{events, place_at, sample_size, sample_at, session_at}
 use Rattle.state.specs.Pool.{list_count, first_odt, odt_count, odt_total}
 use Rattle.state.specs.State.{consistent}
@@ -32,7 +25,6 @@ use Rattle.demands.specs.Waiting.{SameOutside, waiting_of, sample_of}
 use Rattle.demands.specs.AsDefined.{stores_of}
 use Rattle.views.specs.Events.{takes_sample}
 use Rattle.views.proofs.EventLaws.{sampled_is, sampled_if}
-use Rattle.views.proofs.Listed.{listed}
 use Rattle.demands.specs.Kept.{gains}
 use Rattle.demands.proofs.Deeds.{SameLists, lists_stay}
 use Rattle.demands.proofs.ByteKeeps.{SameSent, sent_reads}

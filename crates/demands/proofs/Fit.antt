@@ -1,16 +1,8 @@
 -- Every list that was started fits, in every state that a life from power-up leads to. Assumes nothing.
-use Prim.Native.Nat.{ℕ, zero, suc, ◌≤◌, ◌<◌}
-use mathlib.Core.Path.{◌≡◌, refl, sym, ap, ap₂, subst, fun_ext, ◌∙◌}
-use mathlib.Core.Logic.{◌≢◌}
-use mathlib.Core.Bool.{Bool, true, false, cond}
-use mathlib.Core.Option.{Option}
-use mathlib.Core.List.{List, [], ◌∷◌}
-use native.Mathlib.Omega.{arith}
-use borrow.Author.Tests.{eqb-true, eqb-false, ne_eqb, leb-true, lt-ltb, ltb-true, ltb-false}
-use lib.Dec.{eqb, ltb, leb, lit≤, lit<}
-use lib.ListN.{length}
+use Rattle.std.proofs.Common.{◌≡◌, ◌≢◌, ℕ, zero, suc, ◌≤◌, ◌<◌, Bool, true, false, cond, List, [], ◌∷◌, length, eqb, ltb, leb, refl, sym, ap, ap₂, ◌∙◌, subst, arith, eqb-true, ne_eqb, leb-true, lt-ltb, ltb-true, ltb-false, lit≤, lit<, Option}
+use Rattle.std.proofs.Math.Path.{fun_ext}
+use Rattle.std.proofs.lemmas.Bool.{false≢true, eqb-false}
 use Rattle.line.proofs.Laws.{cond_ind}
-use Rattle.line.proofs.Stuffed.{false_true}
 use Rattle.state.specs.Layout.{size, odt_most, phase_at}
 use Rattle.state.specs.Pool.{phase_of, list_count}
 use Rattle.state.specs.State.{consistent}
@@ -54,7 +46,7 @@ AllSound c = (l : ℕ) → Sound (c.list l)
 
 -- one that was not started
 off : (x : DaqList) → x.started ≡ false → Sound x
-off x e s = absurd (false_true (sym e ∙ s))
+off x e s = cc
 
 none : (l : ℕ) → Sound no_list
 none l = off no_list refl
@@ -87,7 +79,7 @@ still_off : (c : Session) (j : ℕ) → c.opened ≡ true → 0 < (c.list j).odt
 unfolding runs
 still_off c j o h r =
     either (c.list j).started
-    (λ s. absurd (false_true (sym r ∙ ap₂ (λ (a b : Bool). cond a (cond b (ltb 0 (c.list j).odts) false) false) o s ∙ lt-ltb 0 (c.list j).odts h)))
+    (λ s. absurd (false≢true (sym r ∙ ap₂ (λ (a b : Bool). cond a (cond b (ltb 0 (c.list j).odts) false) false) o s ∙ lt-ltb 0 (c.list j).odts h)))
     (λ s. s)
 
 -- ---- a deed that is done in an open session
@@ -96,7 +88,7 @@ module _ (p : List ℕ) (c : Session) (n nc nm : ℕ) (has : Listed c) (open' : 
   each_starts : Found StartSelected p c → (l : ℕ) → (c.list l).selected ≡ true → runs_in c l ≡ false → fits (c.list l) ≡ true
   each_starts ready l s r =
       either (ltb l c.lists) (λ b. each_fits_lem c l ready (ltb-true l c.lists b) s r)
-      (λ b. absurd (false_true (sym (ap (λ (x : DaqList). x.selected) (has l (ltb-false l c.lists b))) ∙ s)))
+      (λ b. absurd (false≢true (sym (ap (λ (x : DaqList). x.selected) (has l (ltb-false l c.lists b))) ∙ s)))
 
   step_sound : (d : Deed) → Doable d c n nc nm → Found d p c → AllSound (step_in d c)
   unfolding step_in
@@ -174,7 +166,7 @@ life_sound h (m ∷ ms) c all = life_sound (after_moment ours h m) ms (moment_ke
 
 -- ---- what could be started, in the law's words
 second : (a b : Bool) → cond a false b ≡ true → (a ≡ false) × (b ≡ true)
-second true b e = absurd (false_true e)
+second true b e = cc
 second false b e = (refl, e)
 
 -- of an ODT's first n entries one has bytes, if they have some
@@ -210,7 +202,7 @@ next_unfit x j e = rw e (cond_ind (λ (b : Bool). b ≡ false) (each_fits x j) (
 each_fits_one : (x : DaqList) (n j : ℕ) → each_fits x n ≡ true → j < n → bytes_in (x.odt j) ≤ odt_most j
 each_fits_one x n j e h =
     either (leb (bytes_in (x.odt j)) (odt_most j)) (λ b. leb-true (bytes_in (x.odt j)) (odt_most j) b)
-    (λ b. absurd (false_true (sym (fit_stays x (suc j) n (omega arith) (next_unfit x j b)) ∙ e)))
+    (λ b. absurd (false≢true (sym (fit_stays x (suc j) n (omega arith) (next_unfit x j b)) ∙ e)))
 
 later_most : (o : ℕ) → odt_most (suc o) ≡ 63
 later_most o = ap (λ (b : Bool). cond b 61 63) (ne_eqb (suc o) 0 (omega arith))

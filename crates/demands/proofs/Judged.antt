@@ -1,11 +1,5 @@
 -- What judging a command has found out of its packet and the session, by the deed that it leads to. Assumes nothing.
-use Prim.{tt}
-use Prim.Native.Nat.{ℕ, ◌≤◌, ◌<◌}
-use mathlib.Core.Path.{◌≡◌, subst}
-use mathlib.Core.Bool.{true, false}
-use mathlib.Core.List.{List}
-use borrow.Author.Tests.{le-ltb}
-use lib.ListN.{length}
+use Rattle.std.proofs.Common.{◌≡◌, ℕ, ◌≤◌, ◌<◌, true, false, List, length, Some, subst, le-ltb}
 use Rattle.model.specs.Judge.{pointed_in, all_startable, seen_in, judge_in, extension_from}
 use Rattle.model.specs.Model.{byte, Session, fits, runs_in, some_started}
 use Rattle.state.specs.Layout.{entry_most, addressable}
@@ -15,8 +9,7 @@ use Rattle.words.specs.Command.{command_of}
 use Rattle.words.specs.declared.Command.{Command}
 use Rattle.words.specs.declared.Resource.{Resource}
 use Rattle.words.specs.declared.Resource.TheVariants.{Calibration}
-use Rattle.words.specs.declared.Seed.{Seed}
-use Rattle.words.specs.declared.Seed.TheVariants.{For}
+use Rattle.words.specs.Values.{Seed}
 use Rattle.words.specs.declared.Pointer.{Pointer}
 use Rattle.model.specs.declared.Deed.{Deed}
 use Rattle.model.specs.Seen.{numbers_of, Seen}
@@ -29,7 +22,7 @@ use Rattle.views.proofs.Verdict.{Keyed, Pointing, Verdict, refused, connects, di
 
 -- UNLOCK with the right key, for the seed that is out
 pub record RightKey (r : Resource) (p : List ℕ) (c : Session) : Type 0 where
-  pub seed : c.seed ≡ For r
+  pub seed : c.seed ≡ Some r
   pub key : brings_key p ≡ true
   pub right : key_matches p r c ≡ true
 
@@ -91,7 +84,7 @@ key_found : (p : List ℕ) (v : Seen) (r : Resource) → byte p 0 ≡ 0xF7 → K
 unfolding brings_key
 key_found p v r code w = simp (code, w.four, le-ltb (length p) 6 w.long)
 
-wrong_found : (seed : Seed) (r : Resource) (p : List ℕ) (c : Session) → seed ≡ For r → brings_key p ≡ true → key_matches p r c ≡ false → wrong_key_by seed p c ≡ true
+wrong_found : (seed : Seed) (r : Resource) (p : List ℕ) (c : Session) → seed ≡ Some r → brings_key p ≡ true → key_matches p r c ≡ false → wrong_key_by seed p c ≡ true
 unfolding wrong_key_by
 wrong_found seed r p c e key off = rw e (simp (key, off))
 

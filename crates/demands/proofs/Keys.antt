@@ -1,17 +1,8 @@
 -- The key to the seed just sent opens its lock, whatever the generator and whatever calls come between in which no command changes the seed. Assumes
 -- nothing.
-use Prim.{tt}
-use Prim.Native.Nat.{ℕ, ◌+◌, ◌*◌, ◌/◌, ◌%◌, ◌^◌, ◌≤◌, ◌<◌}
-use mathlib.Core.Path.{◌≡◌, refl, sym, ap, subst, ◌∙◌}
-use mathlib.Core.Bool.{Bool, true, false}
-use mathlib.Core.List.{List, [], ◌∷◌}
-use native.Mathlib.Omega.{arith}
-use native.Mathlib.Nat.{mod-lt, mod-eq_of_lt}
-use borrow.Author.Tests.{le-ltb, lt-leb, eq-eqb}
-use lib.Dec.{lit<}
-use lib.ListN.{length, get_or, take, length-take}
-use lib.Pow.{low, shr_lt}
-use lib.Seq.{get_or-take}
+use Rattle.std.proofs.Common.{◌≡◌, ℕ, ◌+◌, ◌*◌, ◌/◌, ◌%◌, ◌^◌, ◌≤◌, ◌<◌, Bool, true, false, List, [], ◌∷◌, length, get_or, take, Some, refl, sym, ap, ◌∙◌, subst, arith, mod-lt, mod-eq_of_lt, le-ltb, eq-eqb, lit<, length-take, shr_lt, get_or-take}
+use Rattle.std.proofs.Math.Pow.{low}
+use Rattle.std.proofs.lemmas.Bool.{lt-leb}
 use Rattle.model.specs.Model.{Session, Slave}
 use Rattle.model.specs.Judge.{judge_in, get_seed_deed, judge_the, judge_by, judge}
 use Rattle.model.specs.Step.{with_seed, with_generator, step_in}
@@ -25,7 +16,6 @@ use Rattle.session.specs.Perform.{after}
 use Rattle.session.specs.Receive.{Step, obeyed, receive_of}
 use Rattle.words.specs.declared.Resource.{Resource}
 use Rattle.words.specs.declared.Resource.TheVariants.{Calibration, Lists}
-use Rattle.words.specs.declared.Seed.TheVariants.{For}
 use Rattle.model.specs.declared.Deed.{Deed}
 use Rattle.model.specs.declared.Deed.TheVariants.{GiveSeed}
 use Rattle.state.proofs.Xorshift.{next_fits, next_some, generator_some}
@@ -73,7 +63,7 @@ not_shut s h = lt-leb 3 (wrong_keys_of s) h
 
 -- what GET_SEED leaves
 seeded : (r : Resource) (s cal meas : List ℕ) (b : ℕ) → consistent s ≡ true → (session_of s).generator < 2 ^ 32 → (session_of s).wrong_keys < 3
-    → session_of (after (GiveSeed r) (read_by s b) cal meas) ≡ with_seed (with_generator (session_of s) (next_of (session_of s).generator)) (For r)
+    → session_of (after (GiveSeed r) (read_by s b) cal meas) ≡ with_seed (with_generator (session_of s) (next_of (session_of s).generator)) (Some r)
 unfolding view_of step_in
 seeded r s cal meas b c few still =
     let t : List ℕ = read_by s b in
@@ -117,7 +107,7 @@ seed_opens_lem s cal meas b p r c few still w e locked =
     let x : ℕ = next_of (session_of s).generator in
     let judged : deed_in p (session_of s) cal meas ≡ GiveSeed r = give_judged p (session_of s) r (length cal) (length meas) e still locked in
     let step : receive_of s cal meas b ≡ obeyed (GiveSeed r) p (read_by s b) cal meas = commanded s cal meas b p c w ∙ ap (λ (d : Deed). obeyed d p (read_by s b) cal meas) judged in
-    let given : session_of u ≡ with_seed (with_generator (session_of s) x) (For r) = ap (λ (o : Step). session_of o.state) step ∙ seeded r s cal meas b c few still in
+    let given : session_of u ≡ with_seed (with_generator (session_of s) x) (Some r) = ap (λ (o : Step). session_of o.state) step ∙ seeded r s cal meas b c few still in
     record {
       seed = bytes32 x;
       four = refl;

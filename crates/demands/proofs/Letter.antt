@@ -1,5 +1,5 @@
 -- Our slave does what the letter says, sentence by sentence, and so does every slave that meets the first two demands. Assumes nothing.
-use mathlib.Core.Path.{sym, subst}
+use Rattle.std.proofs.Common.{sym, subst}
 use Rattle.demands.specs.Slave.{AnySlave, ours}
 use Rattle.demands.specs.Demand1.{Demand1}
 use Rattle.demands.specs.Demand2.{Demand2}

@@ -1,15 +1,7 @@
 -- Over a whole life, power-ups in it and one memory that the slave alone writes: the state stays consistent, the memory is as DOWNLOAD left it, and the
 -- CTR begins at 0 with each power-up. Assumes nothing.
-use Prim.Native.Nat.{ℕ, ◌+◌, ◌≤◌}
-use mathlib.Core.Path.{◌≡◌, refl, ap, ap₂, ◌∙◌}
-use mathlib.Core.Logic.{◌⊎◌, ⊎_elim}
-use mathlib.Core.Bool.{true}
-use mathlib.Core.Option.{Option, some}
-use mathlib.Core.List.{List, [], ◌∷◌, ◌++◌}
-use native.Mathlib.Nat.{le_refl}
-use native.Mathlib.Omega.{arith}
-use lib.ListN.{length, length-take}
-use lib.Seq.{sets}
+use Rattle.std.proofs.Common.{◌≡◌, ℕ, ◌+◌, ◌≤◌, ◌⊎◌, ⊎_elim, true, List, [], ◌∷◌, ◌++◌, length, refl, ap, ap₂, ◌∙◌, arith, le_refl, length-take, Option, Some}
+use Rattle.std.proofs.Math.Seq.{sets}
 use Rattle.state.specs.Layout.{size}
 use Rattle.state.specs.Bytes.{block}
 use Rattle.state.specs.State.{consistent}
@@ -61,7 +53,7 @@ life_locked h (m ∷ ms) u = life_locked (after_moment ours h m) ms u.1 ∙ pass
 
 -- ---- n bytes from a stay where no DOWNLOAD or SHORT_DOWNLOAD writes
 abbrev Beside : ℕ → ℕ → Option Deed → Type 0
-Beside a n x = (from at many : ℕ) → x ≡ some (Download from at many) → (at + many ≤ a) ⊎ (a + n ≤ at)
+Beside a n x = (from at many : ℕ) → x ≡ Some (Download from at many) → (at + many ≤ a) ⊎ (a + n ≤ at)
 
 record Leaves (a n : ℕ) (cal new : List ℕ) : Type 0 where
   long : length new ≡ length cal
@@ -81,10 +73,10 @@ module _ (a n : ℕ) where
         few : length (block p from many) ≤ many
         few = rw length-take (omega arith)
 
-  deed_leaves : (d : Deed) (p cal : List ℕ) → Beside a n (some d) → Leaves a n cal (written d p cal)
+  deed_leaves : (d : Deed) (p cal : List ℕ) → Beside a n (Some d) → Leaves a n cal (written d p cal)
   unfolding writes
   deed_leaves d p cal =
-      by_write (λ (e : Deed). Beside a n (some e) → Leaves a n cal (written e p cal))
+      by_write (λ (e : Deed). Beside a n (Some e) → Leaves a n cal (written e p cal))
       (λ e w u. rw w leaves_all) (λ from x m u. download_leaves from x m p cal (u from x m refl)) d
 
   byte_leaves : {s cal meas : List ℕ} {b : ℕ} {o : Step} {x : Option Deed} → Reads s cal meas b o x → Beside a n x → Leaves a n cal o.cal

@@ -1,20 +1,11 @@
 -- While lists are locked no call changes the lists' settings, unless it ends or renews the session. Assumes nothing.
-use Prim.{tt}
-use Prim.Native.Nat.{ℕ, ◌<◌}
-use mathlib.Core.Path.{◌≡◌, refl, sym, subst, ◌∙◌}
-use mathlib.Core.Bool.{Bool, true, false, cond}
-use mathlib.Core.Option.{Option}
-use mathlib.Core.List.{List}
-use borrow.Author.Tests.{eqb-true}
-use lib.Dec.{eqb, ltb, lit≤}
-use lib.ListN.{length}
+use Rattle.std.proofs.Common.{◌≡◌, ℕ, ◌<◌, Bool, true, false, cond, List, length, Option, Some, None, eqb, ltb, refl, sym, ◌∙◌, subst, eqb-true, lit≤}
+use Rattle.std.proofs.lemmas.Bool.{false≢true}
 use Rattle.line.specs.Message.{room}
 use Rattle.line.proofs.Laws.{cond_ind}
-use Rattle.line.proofs.Stuffed.{false_true}
 use Rattle.state.specs.State.{consistent}
 use Rattle.lists.specs.Slot.{Slot, turn_of, sent_by, slot_of}
-use Rattle.model.specs.declared.Turn.{Turn}
-use Rattle.model.specs.declared.Turn.TheVariants.{Nobody, Answer, Packet}
+use Rattle.model.specs.Turn.{Turn}
 use Rattle.words.specs.declared.Resource.TheVariants.{Lists}
 use Rattle.model.specs.declared.Deed.{Deed}
 use Rattle.model.specs.declared.Deed.TheVariants.{Connect}
@@ -28,6 +19,7 @@ use Rattle.fields.proofs.Served.{answer_sent_session, packet_sent_rest}
 use Rattle.model.specs.Model.{byte, Bytes, Session}
 use Rattle.model.specs.Step.{step_in}
 use Rattle.model.specs.View.{session_of, view_of, shown}
+use Rattle.model.specs.declared.Sender.TheVariants.{Answer, Packet}
 use Rattle.views.specs.Commands.{Fresh}
 use Rattle.views.specs.Locked.{SettingsKept, ends_session, Shields}
 use Rattle.views.proofs.SessionLaws.{blank_fresh}
@@ -47,10 +39,10 @@ settings_same e = rw e (record { pointer = refl; freed = refl; lists = refl; mod
 -- a good CONNECT renews it
 connect_ends : (p : List ℕ) (c : Session) (cal meas : List ℕ) → good_connect p ≡ true → Shields p c (done_by Connect p c cal meas)
 unfolding good_connect step_in reply_in
-connect_ends p c cal meas g = record { kept = λ n. absurd (false_true (sym n ∙ ends)); fresh = λ _. blank_fresh c c.wrong_keys true } where
+connect_ends p c cal meas g = record { kept = λ n. absurd (false≢true (sym n ∙ ends)); fresh = λ _. blank_fresh c c.wrong_keys true } where
   code : (b x : Bool) → cond b x false ≡ true → b ≡ true
   code true x e = refl
-  code false x e = absurd (false_true e)
+  code false x e = cc
 
   ends : ends_session p (reply_in Connect c cal meas) ≡ true
   ends = rw (eqb-true (byte p 0) 0xFF (code (eqb (byte p 0) 0xFF) _ g))
@@ -75,7 +67,7 @@ module _ (s cal meas : List ℕ) (b : ℕ) (c : consistent s ≡ true) (w : Byte
 
   guarded_by : {o : Step} {x : Option Deed} → Reads s cal meas b o x → Guarded o
   unfolding view_of
-  guarded_by (rests r n few) = record { kept = λ _. settings_same (read_session s b c); fresh = λ t. absurd (false_true (sym (resting ends_session s cal b r n) ∙ t)) }
+  guarded_by (rests r n few) = record { kept = λ _. settings_same (read_session s b c); fresh = λ t. absurd (false≢true (sym (resting ends_session s cal b r n) ∙ t)) }
   guarded_by (acts d p does) =
       let h : Shields p (session_of s) (shown (after d (read_by s b) cal meas) (written d p cal)) = deed_shields d p does in
       let is = acting ends_session s cal meas b d p does.ended in
@@ -90,9 +82,9 @@ event_keeps s cal meas number clock = settings_read (before (lit≤ tt) (only_ev
 
 sent_keeps : (t : Turn) (s out : List ℕ) → SettingsKept (session_of s) (session_of (sent_by t s out).state)
 unfolding sent_by
-sent_keeps Nobody s out = settings_same refl
-sent_keeps Answer s out = settings_read (same_part (lit≤ tt) (lit≤ tt) (answer_sent_session s))
-sent_keeps (Packet l o) s out = settings_read (same_part (lit≤ tt) (lit≤ tt) (packet_sent_rest s l o))
+sent_keeps None s out = settings_same refl
+sent_keeps (Some Answer) s out = settings_read (same_part (lit≤ tt) (lit≤ tt) (answer_sent_session s))
+sent_keeps (Some (Packet l o)) s out = settings_read (same_part (lit≤ tt) (lit≤ tt) (packet_sent_rest s l o))
 
 slot_keeps : (s out : List ℕ) → SettingsKept (session_of s) (session_of (slot_of s out).state)
 unfolding slot_of

@@ -1,11 +1,5 @@
 -- The locks: while calibration is locked no calibration byte changes, and a right key unlocks its own resource alone. Assumes nothing.
-use Prim.Native.Nat.{ℕ}
-use mathlib.Core.Path.{◌≡◌, refl, sym, ap, ◌∙◌}
-use mathlib.Core.Bool.{Bool, true, false, cond}
-use mathlib.Core.Option.{Option}
-use mathlib.Core.List.{List}
-use lib.ListN.{length}
-use Rattle.line.proofs.Stuffed.{false_true}
+use Rattle.std.proofs.Common.{◌≡◌, ℕ, Bool, true, false, cond, List, length, Option, Some, refl, ap, ◌∙◌}
 use Rattle.state.specs.State.{consistent}
 use Rattle.model.specs.Model.{Session}
 use Rattle.model.specs.Step.{step_in}
@@ -14,7 +8,6 @@ use Rattle.model.specs.View.{session_of}
 use Rattle.session.specs.Receive.{Step, receive_of}
 use Rattle.words.specs.declared.Resource.{Resource}
 use Rattle.words.specs.declared.Resource.TheVariants.{Calibration, Lists}
-use Rattle.words.specs.declared.Seed.TheVariants.{For}
 use Rattle.model.specs.declared.Deed.{Deed}
 use Rattle.model.specs.declared.Deed.TheVariants.{Connect, Unlock}
 use Rattle.demands.specs.Slave.{ours}
@@ -32,7 +25,7 @@ use Rattle.demands.proofs.Refusals.{key_judged}
 locked_written : (d : Deed) (p : List ℕ) (c : Session) (cal : List ℕ) → Found d p c → c.unlocked Calibration ≡ false → written d p cal ≡ cal
 locked_written d p c cal =
     by_write (λ (e : Deed). Found e p c → c.unlocked Calibration ≡ false → written e p cal ≡ cal)
-    (λ e w f n. rw w) (λ from a m f n. absurd (false_true (sym n ∙ f))) d
+    (λ e w f n. rw w) (λ from a m f n. cc) d
 
 connect_written : (d : Deed) (p cal : List ℕ) → d ≡ Connect → written d p cal ≡ cal
 unfolding writes
@@ -42,7 +35,7 @@ shut_by : {s cal meas : List ℕ} {b : ℕ} {o : Step} {x : Option Deed} → cal
 shut_by h (rests r n f) = refl
 shut_by {s} {cal} {meas} {b} h (acts d p w) = go (session_of s).opened ((session_of s).unlocked Calibration) refl refl h where
   go : (o u : Bool) → (session_of s).opened ≡ o → (session_of s).unlocked Calibration ≡ u → cond o (cond u false true) true ≡ true → written d p cal ≡ cal
-  go true true x y z = absurd (false_true z)
+  go true true x y z = cc
   go true false x y z = locked_written d p (session_of s) cal w.found y
   go false u x y z = connect_written d p cal (w.closed x).0
 
@@ -70,7 +63,7 @@ key_alone Calibration c = refl
 key_alone Lists c = refl
 
 pub unlocks_own : (s cal meas : List ℕ) (b : ℕ) (p : List ℕ) (r : Resource) → consistent s ≡ true
-    → Commands s b p → (session_of s).seed ≡ For r → brings_key p ≡ true → key_matches p r (session_of s) ≡ true
+    → Commands s b p → (session_of s).seed ≡ Some r → brings_key p ≡ true → key_matches p r (session_of s) ≡ true
     → ((session_of (ours.receive s cal meas b).state).unlocked r ≡ true)
     × ((session_of (ours.receive s cal meas b).state).unlocked (other_lock r) ≡ (session_of s).unlocked (other_lock r))
 unlocks_own s cal meas b p r c w e k m =

@@ -1,17 +1,8 @@
 -- The first and the second demand leave a slave no choice: two slaves that meet them are the same in every call. Assumes nothing.
-use Prim.Native.Nat.{ℕ, ◌+◌, ◌*◌, ◌≤◌, ◌<◌, zero, suc}
-use mathlib.Core.Path.{◌≡◌, refl, sym, ap, ◌∙◌}
-use mathlib.Core.Logic.{◌≢◌}
-use mathlib.Core.Bool.{Bool, true, false}
-use mathlib.Core.List.{List, [], ◌++◌}
-use native.Mathlib.Omega.{arith}
-use native.Mathlib.Nat.{lt_of_not-le}
-use native.Mathlib.Decide.{dec_le, ℕ_discrete}
-use lib.ListN.{length, take, drop, take-append-drop}
-use lib.Seq.{drop-drop}
-use Rattle.model.specs.Whole.{is_sampled}
+use Rattle.std.proofs.Common.{◌≡◌, ◌≢◌, ℕ, zero, suc, ◌+◌, ◌*◌, ◌≤◌, ◌<◌, Bool, true, false, List, [], ◌++◌, length, take, drop, Some, None, Ok, Err, refl, sym, ap, ◌∙◌, arith, take-append-drop, drop-drop, inl, inr}
+use Rattle.std.proofs.Math.Decide.{ℕ_discrete}
+use Rattle.std.proofs.lemmas.Bool.{cases_lt}
 use Rattle.line.specs.Message.{room}
-use Rattle.line.proofs.Stuffed.{false_true}
 use Rattle.state.specs.Layout.{size, all_odts, sample_size, sample_at}
 use Rattle.state.specs.Pool.{list_count, odts_in, first_odt, odt_count, odt_total}
 use Rattle.state.proofs.Ranges.{start_zero}
@@ -25,10 +16,9 @@ use Rattle.session.specs.PowerUp.{Power}
 use Rattle.words.specs.Number.{evented_number, slotted_number}
 use Rattle.model.specs.declared.Sampling.{Sampling}
 use Rattle.model.specs.declared.Sampling.TheVariants.{Idle, Sampled, Missed}
-use Rattle.words.specs.declared.Evented.{Evented}
-use Rattle.words.specs.declared.Evented.TheVariants as event
-use Rattle.words.specs.declared.Slotted.{Slotted}
-use Rattle.words.specs.declared.Slotted.TheVariants as slot
+use Rattle.words.specs.Values.{Evented, Slotted}
+use Rattle.words.specs.declared.EventRefusal.TheVariants as event
+use Rattle.words.specs.declared.SlotRefusal.TheVariants as slot
 use Rattle.demands.specs.Slave.{AnySlave, ours}
 use Rattle.demands.specs.Waiting.{SameOutside}
 use Rattle.demands.specs.Tight.{Tight}
@@ -40,27 +30,27 @@ use Rattle.demands.proofs.Demand1.{demand1}
 use Rattle.demands.proofs.Demand2.{demand2}
 
 -- ---- a refusal is known by its number
-bad_event_lem : (e : Evented) → evented_number e ≡ 8 → e ≡ event.BadEvent
-bad_event_lem (event.Done sampled missed) n = absurd (let z : ◌≡◌ {A = ℕ} 0 8 = n in omega arith)
-bad_event_lem event.BadEvent n = refl
-bad_event_lem event.NoState n = absurd (let z : ◌≡◌ {A = ℕ} 10 8 = n in omega arith)
+bad_event_lem : (e : Evented) → evented_number e ≡ 8 → e ≡ Err event.BadEvent
+bad_event_lem (Ok counted) n = cc
+bad_event_lem (Err event.BadEvent) n = refl
+bad_event_lem (Err event.NoState) n = cc
 
-no_event : (e : Evented) → evented_number e ≡ 10 → e ≡ event.NoState
-no_event (event.Done sampled missed) n = absurd (let z : ◌≡◌ {A = ℕ} 0 10 = n in omega arith)
-no_event event.BadEvent n = absurd (let z : ◌≡◌ {A = ℕ} 8 10 = n in omega arith)
-no_event event.NoState n = refl
+no_event : (e : Evented) → evented_number e ≡ 10 → e ≡ Err event.NoState
+no_event (Ok counted) n = cc
+no_event (Err event.BadEvent) n = cc
+no_event (Err event.NoState) n = refl
 
-no_room_lem : (e : Slotted) → slotted_number e ≡ 9 → e ≡ slot.NoRoom
-no_room_lem slot.Idle n = absurd (let z : ◌≡◌ {A = ℕ} 0 9 = n in omega arith)
-no_room_lem (slot.Sent k) n = absurd (let z : ◌≡◌ {A = ℕ} 0 9 = n in omega arith)
-no_room_lem slot.NoRoom n = refl
-no_room_lem slot.NoState n = absurd (let z : ◌≡◌ {A = ℕ} 10 9 = n in omega arith)
+no_room_lem : (e : Slotted) → slotted_number e ≡ 9 → e ≡ Err slot.NoRoom
+no_room_lem (Ok None) n = cc
+no_room_lem (Ok (Some k)) n = cc
+no_room_lem (Err slot.NoRoom) n = refl
+no_room_lem (Err slot.NoState) n = cc
 
-no_slot : (e : Slotted) → slotted_number e ≡ 10 → e ≡ slot.NoState
-no_slot slot.Idle n = absurd (let z : ◌≡◌ {A = ℕ} 0 10 = n in omega arith)
-no_slot (slot.Sent k) n = absurd (let z : ◌≡◌ {A = ℕ} 0 10 = n in omega arith)
-no_slot slot.NoRoom n = absurd (let z : ◌≡◌ {A = ℕ} 9 10 = n in omega arith)
-no_slot slot.NoState n = refl
+no_slot : (e : Slotted) → slotted_number e ≡ 10 → e ≡ Err slot.NoState
+no_slot (Ok None) n = cc
+no_slot (Ok (Some k)) n = cc
+no_slot (Err slot.NoRoom) n = cc
+no_slot (Err slot.NoState) n = refl
 
 -- ---- outcomes with the same parts
 same_power : {o o' : Power} → o.powered_up ≡ o'.powered_up → o.state ≡ o'.state → o ≡ o'
@@ -93,12 +83,6 @@ module _ (s t u : List ℕ) where
   same_stores : SameOutside (sample_at 0) (sample_at (odt_total s)) s t → SameOutside (sample_at 0) (sample_at (odt_total s)) s u → ((l : ℕ) → l < list_count s → stores_of t s l ≡ stores_of u s l) → t ≡ u
   same_stores a b e = whole (sample_at 0) t u (a.front ∙ sym b.front) (same_lists (list_count s) e (a.back ∙ sym b.back))
 
-idle_not : Idle ≢ Sampled
-idle_not e = false_true (ap is_sampled e)
-
-missed_not : Missed ≢ Sampled
-missed_not e = false_true (ap is_sampled e)
-
 -- ---- two slaves
 module _ (v w : AnySlave) (v1 : Demand1 v) (v2 : Demand2 v) (w1 : Demand1 w) (w2 : Demand2 w) where
   power_up_same : (s : List ℕ) (start : ℕ) → v.power_up s start ≡ w.power_up s start
@@ -123,9 +107,9 @@ module _ (v w : AnySlave) (v1 : Demand1 v) (v2 : Demand2 v) (w1 : Demand1 w) (w2
       → stores_of (v.event s cal meas event clock).state s l ≡ stores_of (w.event s cal meas event clock).state s l
   store_same s cal meas event clock l c h q = go (sampling_of s l event) refl where
     go : (x : Sampling) → sampling_of s l event ≡ x → stores_of (v.event s cal meas event clock).state s l ≡ stores_of (w.event s cal meas event clock).state s l
-    go Idle e = let n : sampling_of s l event ≢ Sampled = λ f. idle_not (sym e ∙ f) in v2.as_defined.others s cal meas event clock l c q n ∙ sym (w2.as_defined.others s cal meas event clock l c q n)
+    go Idle e = let n : sampling_of s l event ≢ Sampled = λ f. cc in v2.as_defined.others s cal meas event clock l c q n ∙ sym (w2.as_defined.others s cal meas event clock l c q n)
     go Sampled e = v2.as_defined.stores s cal meas event clock l c h e ∙ sym (w2.as_defined.stores s cal meas event clock l c h e)
-    go Missed e = let n : sampling_of s l event ≢ Sampled = λ f. missed_not (sym e ∙ f) in v2.as_defined.others s cal meas event clock l c q n ∙ sym (w2.as_defined.others s cal meas event clock l c q n)
+    go Missed e = let n : sampling_of s l event ≢ Sampled = λ f. cc in v2.as_defined.others s cal meas event clock l c q n ∙ sym (w2.as_defined.others s cal meas event clock l c q n)
 
   event_done : (s cal meas : List ℕ) (event clock : ℕ) → consistent s ≡ true → event ≤ 1 → v.event s cal meas event clock ≡ w.event s cal meas event clock
   event_done s cal meas event clock c h =
@@ -142,7 +126,7 @@ module _ (v w : AnySlave) (v1 : Demand1 v) (v2 : Demand2 v) (w1 : Demand1 w) (w2
   event_same : (s cal meas : List ℕ) (event clock : ℕ) → v.event s cal meas event clock ≡ w.event s cal meas event clock
   event_same s cal meas event clock = go (consistent s) refl where
     go : (t : Bool) → consistent s ≡ t → v.event s cal meas event clock ≡ w.event s cal meas event clock
-    go true c = elim (dec_le event 1) [ yes h ↦ event_done s cal meas event clock c h | no h ↦ event_bad s cal meas event clock c (lt_of_not-le h) ]
+    go true c = elim (cases_lt 1 event) [ inl h ↦ event_bad s cal meas event clock c h | inr h ↦ event_done s cal meas event clock c h ]
     go false c =
         let x = v1.outcomes.no_state s cal meas [] 0 event clock c in
         let y = w1.outcomes.no_state s cal meas [] 0 event clock c in
@@ -157,7 +141,7 @@ module _ (v w : AnySlave) (v1 : Demand1 v) (v2 : Demand2 v) (w1 : Demand1 w) (w2
   slot_same : (s out : List ℕ) → v.slot s out ≡ w.slot s out
   slot_same s out = go (consistent s) refl where
     go : (t : Bool) → consistent s ≡ t → v.slot s out ≡ w.slot s out
-    go true c = elim (dec_le room (length out)) [ yes h ↦ v2.as_defined.serves s out c h ∙ sym (w2.as_defined.serves s out c h) | no h ↦ slot_short s out c (lt_of_not-le h) ]
+    go true c = elim (cases_lt (length out) room) [ inl h ↦ slot_short s out c h | inr h ↦ v2.as_defined.serves s out c h ∙ sym (w2.as_defined.serves s out c h) ]
     go false c =
         let x = v1.outcomes.no_state s [] [] out 0 0 0 c in
         let y = w1.outcomes.no_state s [] [] out 0 0 0 c in

@@ -1,14 +1,7 @@
 -- Every frame of a run is that of the packet whose turn it was, and its CTR is the first one's plus the frames sent before. Assumes nothing.
-use Prim.Native.Nat.{ℕ, suc, ◌+◌, ◌%◌, ◌≤◌, ◌<◌}
-use mathlib.Core.Path.{◌≡◌, refl, sym, ap, ap₂, ◌∙◌}
-use mathlib.Core.Bool.{true}
-use mathlib.Core.List.{List, [], ◌∷◌, ◌++◌}
-use native.Mathlib.Omega.{arith}
-use native.Mathlib.Nat.{lt_of_not-le, mod-eq_of_lt, mod-add-mod}
-use native.Mathlib.Decide.{dec_le}
-use borrow.Author.Tests.{lt-ltb, le-ltb, eq-eqb}
-use lib.Dec.{lit<, lit≤}
-use lib.ListN.{length}
+use Rattle.std.proofs.Common.{◌≡◌, ℕ, suc, ◌+◌, ◌%◌, ◌≤◌, ◌<◌, true, List, [], ◌∷◌, ◌++◌, length, Some, None, refl, sym, ap, ap₂, ◌∙◌, arith, mod-eq_of_lt, lt-ltb, le-ltb, eq-eqb, lit<, lit≤, inl, inr}
+use Rattle.std.proofs.Math.Nat.{mod-add-mod}
+use Rattle.std.proofs.lemmas.Bool.{cases_lt}
 use Rattle.line.specs.Message.{room, frame}
 use Rattle.state.specs.Layout.{size, ctr_at}
 use Rattle.state.specs.State.{consistent}
@@ -16,13 +9,13 @@ use Rattle.session.specs.Receive.{receive_of}
 use Rattle.lists.specs.Event.{event_of}
 use Rattle.lists.specs.Slot.{slot_of}
 use Rattle.session.specs.PowerUp.{powered, power_up_of}
-use Rattle.model.specs.declared.Turn.{Turn}
-use Rattle.model.specs.declared.Turn.TheVariants.{Nobody, Answer, Packet}
+use Rattle.model.specs.Turn.{Turn}
 use Rattle.fields.proofs.Kept.{receive_kept, event_kept, slot_kept}
 use Rattle.views.proofs.Calls.{powered_nought}
 use Rattle.model.specs.Model.{Slave}
 use Rattle.model.specs.Calls.{turn_in, packet_for}
 use Rattle.model.specs.View.{view_of}
+use Rattle.model.specs.declared.Sender.TheVariants.{Answer, Packet}
 use Rattle.demands.specs.Slave.{ours}
 use Rattle.demands.specs.Runs.{Call, Byte, Event, SendingSlot, Elsewhere, sends, frames}
 use Rattle.demands.specs.Wire.{due_at, due, numbered}
@@ -54,12 +47,12 @@ pub record Numbered (c i : ℕ) (frames' packets : List (List ℕ)) (u : List �
   pub ctr : At c (i + length packets) u
 
 turn_numbers : (c i : ℕ) (s u : List ℕ) (t : Turn) → view_of u ≡ turned t (view_of s) → At c i s → Numbered c i (frames_of (view_of s).ctr (packet_for t (view_of s))) (packet_for t (view_of s)) u
-turn_numbers c i s u Nobody e a = record { sent = refl; ctr = at_same c i u (ap (λ (v : Slave). v.ctr) e ∙ a) }
-turn_numbers c i s u Answer e a = record { sent = rw a; ctr = at_next c i (ap (λ (v : Slave). v.ctr) e) a }
-turn_numbers c i s u (Packet l o) e a = record { sent = rw a; ctr = at_next c i (ap (λ (v : Slave). v.ctr) e) a }
+turn_numbers c i s u None e a = record { sent = refl; ctr = at_same c i u (ap (λ (v : Slave). v.ctr) e ∙ a) }
+turn_numbers c i s u (Some Answer) e a = record { sent = rw a; ctr = at_next c i (ap (λ (v : Slave). v.ctr) e) a }
+turn_numbers c i s u (Some (Packet l o)) e a = record { sent = rw a; ctr = at_next c i (ap (λ (v : Slave). v.ctr) e) a }
 
 pub slot_numbers : (c i : ℕ) (s out : List ℕ) → consistent s ≡ true → At c i s → Numbered c i (sends ours s (SendingSlot out)) (due_at s (SendingSlot out)) (slot_of s out).state
-slot_numbers c i s out h a = elim (dec_le room (length out)) [ yes r ↦ with_room r | no r ↦ without (lt_of_not-le r) ] where
+slot_numbers c i s out h a = elim (cases_lt (length out) room) [ inl r ↦ without r | inr r ↦ with_room r ] where
   with_room : room ≤ length out → Numbered c i (sends ours s (SendingSlot out)) (due_at s (SendingSlot out)) (slot_of s out).state
   with_room r =
       rw (slot_sends s out h r, le-ltb (length out) room r) (turn_numbers c i s (slot_of s out).state (turn_in (view_of s)) (slot_shows s out h r) a)

@@ -1,15 +1,7 @@
 -- A command that is heard does what the model does, so every law of document 01's list of commands stands of it. Assumes nothing.
-use Prim.Native.Nat.{ℕ, ◌^◌, ◌<◌}
-use mathlib.Core.Path.{◌≡◌, refl, sym, ap, subst, ◌∙◌}
-use mathlib.Core.Bool.{Bool, true, false, cond}
-use mathlib.Core.Option.{Option, some}
-use mathlib.Core.List.{List}
-use borrow.Author.Tests.{eqb-true}
-use lib.Dec.{eqb, ltb}
-use lib.ListN.{length}
-use Rattle.line.specs.declared.Outcome.{Outcome}
-use Rattle.line.specs.declared.Outcome.TheVariants as line
-use Rattle.line.proofs.Laws.{false_true}
+use Rattle.std.proofs.Common.{◌≡◌, ℕ, ◌^◌, ◌<◌, Bool, true, false, cond, List, length, Option, Some, None, Ok, Err, eqb, ltb, refl, sym, ap, ◌∙◌, subst, eqb-true}
+use Rattle.std.proofs.lemmas.Option.{same_Some}
+use Rattle.line.specs.Values.{Outcome}
 use Rattle.state.specs.Bytes.{block}
 use Rattle.state.specs.State.{consistent, generator_of, wrong_keys_of}
 use Rattle.model.specs.Answers.{written, done_by, command_in}
@@ -35,20 +27,13 @@ use Rattle.demands.specs.Slave.{ours}
 use Rattle.demands.specs.Heard.{packet_by, packet_ended, read_by, Commands, deed_in}
 use Rattle.demands.specs.Obeyed.{Obeyed}
 use Rattle.demands.proofs.ReadBy.{read_length, read_session}
-use Rattle.demands.proofs.Received.{Performed, Reads, rests, acts, some_none, received, commanded, read_can}
+use Rattle.demands.proofs.Received.{Performed, Reads, rests, acts, received, commanded, read_can}
 
 -- the packet of a good message is of bytes
-packet_bytes : (o : Outcome) (m p : List ℕ) → Bytes m → packet_by o m ≡ some p → Bytes p
-packet_bytes line.Nothing m p w e = absurd (some_none (sym e))
-packet_bytes (line.Good ctr at n) m p w e = let same : block m at n ≡ p = cc in subst Bytes same (bytes_block m at n w)
-packet_bytes line.BadLength m p w e = absurd (some_none (sym e))
-packet_bytes line.BadEscape m p w e = absurd (some_none (sym e))
-packet_bytes line.BadChecksum m p w e = absurd (some_none (sym e))
-packet_bytes line.CutOff m p w e = absurd (some_none (sym e))
-packet_bytes line.ShortBuffer m p w e = absurd (some_none (sym e))
-
-some_same : {A : Type 0} {x y : A} → some x ≡ some y → x ≡ y
-some_same e = cc
+packet_bytes : (o : Outcome) (m p : List ℕ) → Bytes m → packet_by o m ≡ Some p → Bytes p
+packet_bytes (Ok None) m p w e = cc
+packet_bytes (Ok (Some good)) m p w e = let same : block m good.at good.len ≡ p = cc in subst Bytes same (bytes_block m good.at good.len w)
+packet_bytes (Err fault) m p w e = cc
 
 connect_judged : (p : List ℕ) (c : Session) (nc nm : ℕ) → good_connect p ≡ true → judge_in p c nc nm ≡ Connect
 unfolding judge_in judge judge_by judge_the connect_deed command_of good_connect
@@ -56,9 +41,9 @@ connect_judged p c nc nm g = go (eqb (byte p 0) 0xFF) (ltb (length p) 2) (eqb (b
   go : (x y z : Bool) → eqb (byte p 0) 0xFF ≡ x → ltb (length p) 2 ≡ y → eqb (byte p 1) 0 ≡ z → cond x (cond y false z) false ≡ true
       → judge_in p c nc nm ≡ Connect
   go true false true a b d e = simp (eqb-true (byte p 0) 0xFF a, b, d)
-  go true false false a b d e = absurd (false_true e)
-  go true true z a b d e = absurd (false_true e)
-  go false y z a b d e = absurd (false_true e)
+  go true false false a b d e = cc
+  go true true z a b d e = cc
+  go false y z a b d e = cc
 
 -- what is done at a byte is what its packet is judged to lead to, also a good CONNECT without a session
 pub does_judged : (s cal meas : List ℕ) (b : ℕ) (d : Deed) (p : List ℕ) → Performed s cal meas b d p → d ≡ deed_in p (session_of s) cal meas
@@ -68,7 +53,7 @@ does_judged s cal meas b d p w = go (session_of s).opened refl where
   go false e = (w.closed e).0 ∙ sym (connect_judged p (session_of s) (length cal) (length meas) (w.closed e).1)
 
 module _ (s : List ℕ) (b : ℕ) (c : consistent s ≡ true) (w : Bytes s) (low : b < 256) where
-  pub ended_bytes : (p : List ℕ) → packet_ended s b ≡ some p → Bytes p
+  pub ended_bytes : (p : List ℕ) → packet_ended s b ≡ Some p → Bytes p
   unfolding view_of
   ended_bytes p e = packet_bytes (fed_of s b).taken.outcome (fed_of s b).message p (fed_bytes s b w low) e
 
@@ -96,13 +81,13 @@ module _ (s : List ℕ) (b : ℕ) (c : consistent s ≡ true) (w : Bytes s) (low
   does_shown d p cal meas does =
       ap (λ (x : Deed). shown (after x (read_by s b) cal meas) (written x p cal)) (does_judged s cal meas b d p does) ∙ command_done p cal meas (ended_bytes p does.ended)
 
-  taken_by : (p cal meas : List ℕ) {o : Step} {x : Option Deed} → packet_ended s b ≡ some p → received_number o.received ≡ 1 → Reads s cal meas b o x → shown o.state o.cal ≡ command_in p (session_of s) cal meas
+  taken_by : (p cal meas : List ℕ) {o : Step} {x : Option Deed} → packet_ended s b ≡ Some p → received_number o.received ≡ 1 → Reads s cal meas b o x → shown o.state o.cal ≡ command_in p (session_of s) cal meas
   taken_by p cal meas e one (rests r n few) = absurd (n one)
   taken_by p cal meas e one (acts d q does) =
-      let same : q ≡ p = some_same (sym does.ended ∙ e) in
+      let same : q ≡ p = same_Some q p (sym does.ended ∙ e) in
       does_shown d q cal meas does ∙ ap (λ (x : List ℕ). command_in x (session_of s) cal meas) same
 
-  pub taken_shown : (p cal meas : List ℕ) → packet_ended s b ≡ some p → received_number (receive_of s cal meas b).received ≡ 1
+  pub taken_shown : (p cal meas : List ℕ) → packet_ended s b ≡ Some p → received_number (receive_of s cal meas b).received ≡ 1
       → shown (receive_of s cal meas b).state (receive_of s cal meas b).cal ≡ command_in p (session_of s) cal meas
   taken_shown p cal meas e one = taken_by p cal meas e one (received s cal meas b c)
 

@@ -1,14 +1,7 @@
 -- A lock opens by its own right key alone; so through a life without one a memory that nothing else writes stays as it is. Assumes nothing.
-use Prim.Native.Nat.{ℕ}
-use mathlib.Core.Path.{◌≡◌, refl, sym, ap, ap₂, ◌∙◌}
-use mathlib.Core.Logic.{◌⊎◌, inl, inr, ⊎_elim}
-use mathlib.Core.Bool.{Bool, true, false, cond}
-use mathlib.Core.Option.{Option}
-use mathlib.Core.List.{List, [], ◌∷◌}
-use native.Mathlib.Omega.{arith}
-use lib.Dec.{lit<, lit≤}
+use Rattle.std.proofs.Common.{◌≡◌, ℕ, ◌⊎◌, inl, inr, ⊎_elim, Bool, true, false, cond, List, [], ◌∷◌, refl, sym, ap, ap₂, ◌∙◌, lit<, lit≤, Option}
+use Rattle.std.proofs.lemmas.Bool.{false≢true}
 use Rattle.line.proofs.Laws.{cond_ind}
-use Rattle.line.proofs.Stuffed.{false_true}
 use Rattle.state.specs.Layout.{open_at}
 use Rattle.state.specs.State.{consistent, flag_of}
 use Rattle.model.specs.Model.{Session}
@@ -92,7 +85,7 @@ opens (AllocEntries l o n) p c r f e = inr e
 
 -- ---- a byte
 connect_unlocks : (r : Resource) → Connect ≡ Unlock r → ⊥
-connect_unlocks r e = let z : ◌≡◌ {A = ℕ} 0 1 = cc in omega arith
+connect_unlocks r e = cc
 
 module _ (s cal meas : List ℕ) (b : ℕ) (r : Resource) (c : consistent s ≡ true) where
   done_lock : (d : Deed) (p : List ℕ) → Performed s cal meas b d p → (session_of (after d (read_by s b) cal meas)).unlocked r ≡ (step_in d (session_of s)).unlocked r
@@ -106,8 +99,8 @@ module _ (s cal meas : List ℕ) (b : ℕ) (r : Resource) (c : consistent s ≡ 
         open_then false e = absurd (connect_unlocks r (sym (w.closed e).0 ∙ k.deed))
 
   opens_by : {o : Step} {x : Option Deed} → Reads s cal meas b o x → (session_of s).unlocked r ≡ false → (session_of o.state).unlocked r ≡ true → RightKeyEnds s b r
-  opens_by (rests q n f) e t = absurd (false_true (sym e ∙ sym (ap (λ (x : Session). x.unlocked r) (read_session s b c)) ∙ t))
-  opens_by (acts d p w) e t = ⊎_elim (turned_key d p w) (λ still. absurd (false_true (sym (done_lock d p w ∙ still) ∙ t))) (opens d p (session_of s) r w.found e)
+  opens_by (rests q n f) e t = absurd (false≢true (sym e ∙ sym (ap (λ (x : Session). x.unlocked r) (read_session s b c)) ∙ t))
+  opens_by (acts d p w) e t = ⊎_elim (turned_key d p w) (λ still. absurd (false≢true (sym (done_lock d p w ∙ still) ∙ t))) (opens d p (session_of s) r w.found e)
 
 pub opens_by_key_lem : (s cal meas : List ℕ) (b : ℕ) (r : Resource) → consistent s ≡ true → (session_of s).unlocked r ≡ false → (session_of (ours.receive s cal meas b).state).unlocked r ≡ true
     → RightKeyEnds s b r
@@ -133,7 +126,7 @@ byte_shut : (s cal meas : List ℕ) (b : ℕ) → consistent s ≡ true → cali
 byte_shut s cal meas b c h none = go (session_of s).opened ((session_of s).unlocked Calibration) ((session_of (receive_of s cal meas b).state).unlocked Calibration) refl refl refl h where
   go : (o u t : Bool) → (session_of s).opened ≡ o → (session_of s).unlocked Calibration ≡ u → (session_of (receive_of s cal meas b).state).unlocked Calibration ≡ t → cond o (cond u false true) true ≡ true
       → calibration_shut (session_of (receive_of s cal meas b).state) ≡ true
-  go true true t x y z q = absurd (false_true q)
+  go true true t x y z q = cc
   go true false true x y z q = absurd (none (opens_by_key_lem s cal meas b Calibration c y z))
   go true false false x y z q = shut_locked (session_of (receive_of s cal meas b).state) z
   go false u t x y z q = closed_by c x h (received s cal meas b c)

@@ -1,12 +1,5 @@
 -- The whole pool can be had: of any way of commands that leads where the model does, and so of the slave. Assumes nothing.
-use Prim.Native.Nat.{ℕ, zero, suc, ◌+◌, ◌≤◌, ◌<◌}
-use mathlib.Core.Path.{◌≡◌, refl, sym, ap, ap₂, subst, ◌∙◌}
-use mathlib.Core.Logic.{◌≢◌, ◌⊎◌, inl, inr, ⊎_elim}
-use mathlib.Core.Bool.{true, false}
-use mathlib.Core.List.{List, [], ◌∷◌, ◌++◌, map}
-use native.Mathlib.Omega.{arith}
-use borrow.Author.Tests.{le-ltb}
-use lib.ListN.{length}
+use Rattle.std.proofs.Common.{◌≡◌, ◌≢◌, ℕ, zero, suc, ◌+◌, ◌≤◌, ◌<◌, ◌⊎◌, inl, inr, ⊎_elim, true, false, List, [], ◌∷◌, ◌++◌, map, length, refl, sym, ap, ap₂, ◌∙◌, subst, arith, le-ltb, eq-zero-or-pos}
 use Rattle.state.specs.State.{consistent}
 use Rattle.words.specs.Command.{command_of}
 use Rattle.words.specs.declared.Command.TheVariants as command
@@ -20,7 +13,7 @@ use Rattle.session.specs.Receive.{receive_of}
 use Rattle.fields.proofs.Kept.{receive_kept}
 use Rattle.views.proofs.BytesKept.{receive_bytes}
 use Rattle.views.specs.Words.{total}
-use Rattle.views.specs.Commands.{two, Way, TheLocks, HowManyLists, TheLists, FREE_DAQ, ALLOC_DAQ, ALLOC_ODT, ALLOC_ODT_ENTRY}
+use Rattle.views.specs.Commands.{two, Way, TheLocks, HowManyLists, FREE_DAQ, ALLOC_DAQ, ALLOC_ODT, ALLOC_ODT_ENTRY}
 use Rattle.views.proofs.FaultWords.{odts_sum, entries_sum}
 use Rattle.views.proofs.Listed.{unstarted_rests}
 use Rattle.views.proofs.Parts.{this_or_other}
@@ -94,20 +87,6 @@ not_empty : (p : List ℕ) → byte p 0 ≡ 0xD6 → 1 ≤ length p
 not_empty [] e = absurd (omega arith)
 not_empty (b ∷ p) e = omega arith
 
-none_or_some : (n : ℕ) {P : Type 0} → (n ≡ 0 → P) → (1 ≤ n → P) → P
-none_or_some zero f g = f refl
-none_or_some (suc n) f g = g (omega arith)
-
--- the locks and the number of lists are other parts than the lists
-locks_lists : TheLocks ≢ TheLists
-locks_lists e = let z : ◌≡◌ {A = ℕ} 0 1 = cc in omega arith
-
-locks_count : TheLocks ≢ HowManyLists
-locks_count e = let z : ◌≡◌ {A = ℕ} 0 1 = cc in omega arith
-
-count_lists : HowManyLists ≢ TheLists
-count_lists e = let z : ◌≡◌ {A = ℕ} 0 1 = cc in omega arith
-
 -- ---- one command after the other, by R and with any memories, each by a packet that asks what is to be asked; between them what is allocated stays.
 -- From session c on each is answered FF, and after the last of them E stands
 abbrev Goes : Way → (Session → Type 0) → Session → List Request → Type 0
@@ -162,7 +141,7 @@ module _ (w : Plan) where
     out = s.out;
     odts = λ l p. ⊎_elim (λ i. absurd i) (λ e. e) (s.made l p);
     due = λ x i. s.empty x.list x.odt;
-    made = λ l o p q. none_or_some (w.entries l o) (λ z. inr (s.empty l o ∙ sym z)) (λ some. inl (every (record { list = l; odt = o }) (p, q, some)));
+    made = λ l o p q. ⊎_elim (λ z. inr (s.empty l o ∙ sym z)) (λ some. inl (every (record { list = l; odt = o }) (p, q, some))) (eq-zero-or-pos (w.entries l o));
   }
 
   -- and all entries
@@ -198,7 +177,7 @@ module _ (w : Plan) where
         let law : ALLOC_ODT p c cal meas o = (obeys R way).alloc_odt p c cal meas o r code (ap (λ (a : List ℕ). byte a 0) ff) in (
           ff,
           record {
-            out = record { unlocked = law.rest TheLocks locks_lists Lists ∙ s.out.unlocked; lists = law.rest HowManyLists count_lists ∙ s.out.lists; still = λ j. law.started j ∙ s.out.still j };
+            out = record { unlocked = law.rest TheLocks (λ e. cc) Lists ∙ s.out.unlocked; lists = law.rest HowManyLists (λ e. cc) ∙ s.out.lists; still = λ j. law.started j ∙ s.out.still j };
             due = λ j i. this_or_other j l (λ e. absurd (once (subst (λ (k : ℕ). In k ls) e i))) (λ ne. law.others j ne ∙ s.due j (inr i));
             made = λ j q. this_or_other j l
                 (λ e. inr (subst (λ (k : ℕ). (o.session.list k).odts ≡ w.odts k) (sym e) (law.count ∙ count)))
@@ -262,7 +241,7 @@ module _ (w : Plan) where
         λ x e. subst (λ (z : OdtAt). ((o.session.list z.list).odt z.odt).entries ≡ w.entries z.list z.odt) (sym e) (law.count ∙ count) in (
           ff,
           record {
-            out = record { unlocked = law.rest TheLocks locks_lists Lists ∙ s.out.unlocked; lists = law.rest HowManyLists count_lists ∙ s.out.lists; still = λ j. left_started law j ∙ s.out.still j };
+            out = record { unlocked = law.rest TheLocks (λ e. cc) Lists ∙ s.out.unlocked; lists = law.rest HowManyLists (λ e. cc) ∙ s.out.lists; still = λ j. left_started law j ∙ s.out.still j };
             odts = λ j q. left_odts law j ∙ s.odts j q;
             due = λ x i. left_entries law x (λ e. once (subst (λ (z : OdtAt). In z xs) e i)) ∙ s.due x (inr i);
             made = λ j i q h. let x : OdtAt = record { list = j; odt = i } in
@@ -297,9 +276,9 @@ module _ (w : Plan) where
         let bare : (l : ℕ) → (o.session.list l).odts ≡ 0 = λ l. ap (λ (y : DaqList). y.odts) (law.nothing l) in (
           ff,
           record {
-            out = record { unlocked = law.rest TheLocks locks_count locks_lists Lists ∙ free; lists = law.count ∙ is; still = λ l. ap (λ (y : DaqList). y.started) (law.nothing l) };
+            out = record { unlocked = law.rest TheLocks (λ e. cc) (λ e. cc) Lists ∙ free; lists = law.count ∙ is; still = λ l. ap (λ (y : DaqList). y.started) (law.nothing l) };
             due = λ l i. bare l;
-            made = λ l q. none_or_some (w.odts l) (λ z. inr (bare l ∙ sym z)) (λ some. inl (every l (q, some)));
+            made = λ l q. ⊎_elim (λ z. inr (bare l ∙ sym z)) (λ some. inl (every l (q, some))) (eq-zero-or-pos (w.odts l));
             empty = λ l k. ap (λ (y : DaqList). (y.odt k).entries) (law.nothing l);
           },
         )

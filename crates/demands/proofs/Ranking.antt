@@ -1,10 +1,5 @@
 -- Of L lists, whatever each has: the next packet of one list leaves by the counted slot 2 L, p packets of it by 2 L p. Assumes nothing.
-use Prim.Native.Nat.{ℕ, suc, ◌+◌, ◌*◌, ◌≤◌}
-use mathlib.Core.Path.{refl, ap}
-use mathlib.Core.Bool.{Bool, true, false}
-use mathlib.Core.List.{List, [], ◌∷◌}
-use native.Mathlib.Omega.{arith}
-use lib.ListN.{length}
+use Rattle.std.proofs.Common.{ℕ, suc, ◌+◌, ◌*◌, ◌≤◌, Bool, true, false, List, [], ◌∷◌, length, refl, ap, arith}
 use Rattle.demands.specs.Demand3.{Begins}
 use Rattle.demands.specs.Ranking.{Proceeds, at_end, answer_first, own_packet, other_list}
 

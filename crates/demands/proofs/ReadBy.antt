@@ -1,19 +1,12 @@
 -- A byte that is read changes the reader's place alone, and there is always room for it. Assumes nothing.
-use Prim.{tt}
-use Prim.Native.Nat.{ℕ, ◌≤◌}
-use mathlib.Core.Path.{◌≡◌, sym, ap, ◌∙◌}
-use mathlib.Core.Bool.{true}
-use mathlib.Core.List.{List}
-use native.Mathlib.Omega.{arith}
-use lib.Dec.{eqb, ltb}
-use lib.ListN.{length}
+use Rattle.std.proofs.Common.{◌≡◌, ℕ, ◌≤◌, true, List, length, Some, None, Ok, Err, eqb, ltb, sym, ap, ◌∙◌, arith}
 use Rattle.line.specs.Message.{longest}
 use Rattle.line.specs.Unstuffing.{Fed, cut_of, place_by}
 use Rattle.line.specs.Reader.{messages, take_of}
 use Rattle.line.specs.declared.Place.{Place}
 use Rattle.line.specs.declared.Place.TheVariants.{Outside, Inside, Escaped}
-use Rattle.line.specs.declared.Outcome.{Outcome}
-use Rattle.line.specs.declared.Outcome.TheVariants.{Nothing, Good, BadLength, BadEscape, BadChecksum, CutOff, ShortBuffer}
+use Rattle.line.specs.Values.{Outcome}
+use Rattle.line.specs.declared.Fault.TheVariants.{BadLength, BadEscape, BadChecksum, CutOff, ShortBuffer}
 use Rattle.line.proofs.Laws.{cond_ind}
 use Rattle.line.proofs.Unframing.{Takes, begins, passes, escapes, brings, breaks, takes}
 use Rattle.line.proofs.Steps.{Puts, refuses, goes, fills, spoils, puts, take_long}
@@ -56,13 +49,13 @@ module _ (s : List ℕ) (b : ℕ) (c : consistent s ≡ true) where
 
 -- ---- the state's message buffer has room for every message
 abbrev pub Roomy : Outcome → Type 0
-Roomy Nothing = Unit
-Roomy (Good ctr at n) = Unit
-Roomy BadLength = Unit
-Roomy BadEscape = Unit
-Roomy BadChecksum = Unit
-Roomy CutOff = Unit
-Roomy ShortBuffer = ⊥
+Roomy (Ok None) = Unit
+Roomy (Ok (Some good)) = Unit
+Roomy (Err BadLength) = Unit
+Roomy (Err BadEscape) = Unit
+Roomy (Err BadChecksum) = Unit
+Roomy (Err CutOff) = Unit
+Roomy (Err ShortBuffer) = ⊥
 
 cut_roomy : (q : Place) → Roomy (cut_of q)
 cut_roomy Outside = tt

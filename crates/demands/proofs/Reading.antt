@@ -1,16 +1,7 @@
 -- Whatever calls come between, the state holds what the line's reader makes of the bytes received so far; so a whole frame ends in its packet.
 -- Assumes nothing.
-use Prim.Native.Nat.{ℕ, ◌-◌, ◌≤◌}
-use mathlib.Core.Path.{◌≡◌, refl, sym, ap, ◌∙◌}
-use mathlib.Core.Bool.{true}
-use mathlib.Core.Option.{Option, some}
-use mathlib.Core.List.{List, [], ◌∷◌, ◌++◌, append_assoc}
-use native.Mathlib.Omega.{arith}
-use native.Mathlib.Nat.{lt_of_not-le}
-use native.Mathlib.Decide.{dec_le}
-use lib.Dec.{lit≤}
-use lib.ListN.{length, replicate}
-use lib.Seq.{take_at}
+use Rattle.std.proofs.Common.{◌≡◌, ℕ, ◌-◌, ◌≤◌, true, List, [], ◌∷◌, ◌++◌, length, replicate, Option, Some, None, Ok, refl, sym, ap, ◌∙◌, arith, append_assoc, lit≤, take_at, inl, inr}
+use Rattle.std.proofs.lemmas.Bool.{cases_lt}
 use Rattle.line.specs.Message.{most, longest, room, message, frame}
 use Rattle.line.specs.Stuffing.{stuff}
 use Rattle.line.specs.Unstuffing.{Fed, place_by, cut_of}
@@ -19,8 +10,7 @@ use Rattle.line.specs.Run.{Ran, run_of as reads}
 use Rattle.line.specs.Wire.{and_then, heard}
 use Rattle.line.specs.Writer.{at_front}
 use Rattle.line.specs.declared.Place.{Place}
-use Rattle.line.specs.declared.Outcome.{Outcome}
-use Rattle.line.specs.declared.Outcome.TheVariants.{Nothing, Good}
+use Rattle.line.specs.Values.{Outcome, good_message}
 use Rattle.line.proofs.Fronts.{front_split}
 use Rattle.line.proofs.RoundTrip.{round_trip}
 use Rattle.line.proofs.Runs.{run_append}
@@ -32,14 +22,14 @@ use Rattle.session.specs.Receive.{Step, receive_of}
 use Rattle.session.specs.Perform.{effect, reply, after}
 use Rattle.lists.specs.Event.{event_of}
 use Rattle.lists.specs.Slot.{slot_of}
-use Rattle.model.specs.declared.Turn.{Turn}
-use Rattle.model.specs.declared.Turn.TheVariants.{Nobody, Answer, Packet}
+use Rattle.model.specs.Turn.{Turn}
 use Rattle.model.specs.Model.{Slave}
 use Rattle.model.specs.Calls.{turn_in}
 use Rattle.model.specs.Whole.{fed_in}
 use Rattle.views.proofs.Receiving.{message_long}
 use Rattle.model.specs.View.{session_of, view_of}
 use Rattle.model.specs.declared.Deed.{Deed}
+use Rattle.model.specs.declared.Sender.TheVariants.{Answer, Packet}
 use Rattle.state.proofs.Consistent.{consistent_size}
 use Rattle.fields.proofs.Frames.{only_answered}
 use Rattle.fields.proofs.Readers.{apart, same_part, place_reads, message_reads}
@@ -90,15 +80,15 @@ unfolding view_of
 event_holds s cal meas event clock = let w = event_back s cal meas event clock in record { place = place_reads (same_part (lit≤ tt) (lit≤ tt) w); message = message_reads (same_part (lit≤ tt) (lit≤ tt) w) }
 
 turned_holds : (t : Turn) (v w : Slave) → w ≡ turned t v → ReaderAt w v.place v.message
-turned_holds Nobody v w e = record { place = ap (λ (u : Slave). u.place) e; message = ap (λ (u : Slave). u.message) e }
-turned_holds Answer v w e = record { place = ap (λ (u : Slave). u.place) e; message = ap (λ (u : Slave). u.message) e }
-turned_holds (Packet l o) v w e = record { place = ap (λ (u : Slave). u.place) e; message = ap (λ (u : Slave). u.message) e }
+turned_holds None v w e = record { place = ap (λ (u : Slave). u.place) e; message = ap (λ (u : Slave). u.message) e }
+turned_holds (Some Answer) v w e = record { place = ap (λ (u : Slave). u.place) e; message = ap (λ (u : Slave). u.message) e }
+turned_holds (Some (Packet l o)) v w e = record { place = ap (λ (u : Slave). u.place) e; message = ap (λ (u : Slave). u.message) e }
 
 slot_holds : (s out : List ℕ) → consistent s ≡ true → ReaderAt (view_of (slot_of s out).state) (view_of s).place (view_of s).message
 slot_holds s out c =
-    elim (dec_le room (length out)) [
-      | yes h ↦ turned_holds (turn_in (view_of s)) (view_of s) (view_of (slot_of s out).state) (slot_shows s out c h)
-      | no h ↦ rw (slot_refused s out c (lt_of_not-le h)) (record { place = refl; message = refl })
+    elim (cases_lt (length out) room) [
+      | inl h ↦ rw (slot_refused s out c h) (record { place = refl; message = refl })
+      | inr h ↦ turned_holds (turn_in (view_of s)) (view_of s) (view_of (slot_of s out).state) (slot_shows s out c h)
     ]
 
 -- ---- a run
@@ -120,7 +110,7 @@ reader_runs (Elsewhere ∷ cs) s c = reader_runs cs s c
 -- ---- a whole frame
 -- the last of outcomes
 last_of : List Outcome → Outcome
-last_of [] = Nothing
+last_of [] = Ok None
 last_of (x ∷ []) = x
 last_of (x ∷ y ∷ ys) = last_of (y ∷ ys)
 
@@ -138,15 +128,15 @@ packet_front p m ctr few h =
 
 ends_so : (f : Fed) (R : Ran) (p m : List ℕ) (ctr : ℕ) (place : Place) → length p ≤ most → length m ≡ longest
     → and_then R (record { outcomes = f.taken.outcome ∷ []; place = f.taken.place; message = f.message }) ≡ heard place m ctr p
-    → packet_by f.taken.outcome f.message ≡ some p
+    → packet_by f.taken.outcome f.message ≡ Some p
 ends_so f R p m ctr place few h e =
-    let z : List Outcome = cut_of (place_by messages place m) ∷ replicate (length (stuff (message ctr p)) - 1) Nothing in
-    let o : f.taken.outcome ≡ Good ctr 2 (length p) =
-    sym (last_is R.outcomes f.taken.outcome) ∙ ap (λ (r : Ran). last_of r.outcomes) e ∙ last_is z (Good ctr 2 (length p)) in
+    let z : List Outcome = cut_of (place_by messages place m) ∷ replicate (length (stuff (message ctr p)) - 1) (Ok None) in
+    let o : f.taken.outcome ≡ good_message ctr 2 (length p) =
+    sym (last_is R.outcomes f.taken.outcome) ∙ ap (λ (r : Ran). last_of r.outcomes) e ∙ last_is z (good_message ctr 2 (length p)) in
     let b : f.message ≡ at_front (message ctr p) m = ap (λ (r : Ran). r.message) e in
     by f.taken.outcome f.message o b where
-      by : (o : Outcome) (x : List ℕ) → o ≡ Good ctr 2 (length p) → x ≡ at_front (message ctr p) m → packet_by o x ≡ some p
-      by o x a b = rw (a, b) (ap some (packet_front p m ctr few h))
+      by : (o : Outcome) (x : List ℕ) → o ≡ good_message ctr 2 (length p) → x ≡ at_front (message ctr p) m → packet_by o x ≡ Some p
+      by o x a b = rw (a, b) (ap Some (packet_front p m ctr few h))
 
 message_shown : (s : List ℕ) → length s ≡ size → length (view_of s).message ≡ longest
 unfolding view_of
@@ -154,7 +144,7 @@ message_shown s h = message_long s h
 
 -- its bytes interleaved with any other calls, its last byte ends its packet
 pub frame_ends : (s : List ℕ) (before : List Call) (b ctr : ℕ) (p : List ℕ) → consistent s ≡ true → 1 ≤ length p → length p ≤ most
-    → received before ++ b ∷ [] ≡ frame ctr p → packet_ended (run ours s before) b ≡ some p
+    → received before ++ b ∷ [] ≡ frame ctr p → packet_ended (run ours s before) b ≡ Some p
 frame_ends s before b ctr p c one few e =
     let h : length s ≡ size = consistent_size s c in
     let v : Slave = view_of s in

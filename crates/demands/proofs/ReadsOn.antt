@@ -1,11 +1,5 @@
 -- SHORT_UPLOAD and SHORT_DOWNLOAD set the MTA behind their block, and UPLOAD goes on behind SHORT_UPLOAD. Assumes nothing.
-use Prim.{tt}
-use Prim.Native.Nat.{ℕ, ◌+◌}
-use mathlib.Core.Path.{◌≡◌, refl, sym, ap, subst, ◌∙◌}
-use mathlib.Core.Bool.{true}
-use mathlib.Core.List.{List, ◌++◌}
-use lib.ListN.{length, drop, take}
-use lib.Seq.{drop-drop, take-add}
+use Rattle.std.proofs.Common.{◌≡◌, ℕ, ◌+◌, true, List, ◌++◌, length, take, drop, refl, sym, ap, ◌∙◌, subst, drop-drop, take-add}
 use Rattle.state.specs.Bytes.{block, u32_at}
 use Rattle.state.specs.Memory.{pick}
 use Rattle.state.specs.State.{consistent}

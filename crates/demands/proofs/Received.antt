@@ -1,19 +1,8 @@
 -- How a received byte is read: either the reader's place alone changes, or one deed is done. Assumes nothing.
-use Prim.{tt}
-use Prim.Native.Nat.{ℕ, ◌≤◌}
-use mathlib.Core.Path.{◌≡◌, refl, sym, ap, ap₂, ◌∙◌, subst}
-use mathlib.Core.Logic.{◌≢◌}
-use mathlib.Core.Bool.{Bool, true, false, cond}
-use mathlib.Core.Option.{Option, none, some}
-use mathlib.Core.List.{List}
-use native.Mathlib.Omega.{arith}
-use borrow.Author.Tests.{ne_eqb}
-use lib.Dec.{ltb}
-use lib.ListN.{length}
-use Rattle.line.specs.declared.Outcome.{Outcome}
-use Rattle.line.specs.declared.Outcome.TheVariants as line
+use Rattle.std.proofs.Common.{◌≡◌, ◌≢◌, ℕ, ◌≤◌, Bool, true, false, cond, List, length, Option, Some, None, Ok, Err, ltb, refl, sym, ap, ap₂, ◌∙◌, subst, arith, ne_eqb}
+use Rattle.line.specs.Values.{Outcome}
+use Rattle.line.specs.declared.Fault.TheVariants as line
 use Rattle.line.proofs.Laws.{cond_ind}
-use Rattle.line.proofs.Stuffed.{false_true}
 use Rattle.state.specs.Bytes.{block}
 use Rattle.state.specs.State.{consistent}
 use Rattle.session.specs.Perform.{after}
@@ -26,8 +15,8 @@ use Rattle.model.specs.View.{session_of, view_of}
 use Rattle.words.specs.Number.{received_number}
 use Rattle.model.specs.declared.Deed.{Deed}
 use Rattle.model.specs.declared.Deed.TheVariants.{Connect}
-use Rattle.words.specs.declared.Received.{Received}
-use Rattle.words.specs.declared.Received.TheVariants.{Nothing, Silent, BadLength, BadEscape, BadChecksum, Unread, CutOff}
+use Rattle.words.specs.Values.{Received}
+use Rattle.words.specs.declared.Heard.TheVariants.{Nothing, Silent, BadLength, BadEscape, BadChecksum, Unread, CutOff}
 use Rattle.look.proofs.Looked.{judged_doable}
 use Rattle.fields.proofs.Effects.{after_answer}
 use Rattle.demands.specs.Heard.{packet_by, packet_ended, read_by, Commands, deed_in, answer_to, deed_by, heeds, deed_at, of_answered}
@@ -36,7 +25,7 @@ use Rattle.demands.proofs.ReadBy.{waits_shown, Roomy, read_roomy, read_length, r
 
 -- byte b ends packet p, and deed d is done: the one that p is judged to lead to, or a good CONNECT's while no session is open
 pub record Performed (s cal meas : List ℕ) (b : ℕ) (d : Deed) (p : List ℕ) : Type 0 where
-  pub ended : packet_ended s b ≡ some p
+  pub ended : packet_ended s b ≡ Some p
   pub free : has_answer (view_of s) ≡ false
   pub can : Doable d (session_of s) (length p) (length cal) (length meas)
   pub found : Found d p (session_of s)
@@ -44,8 +33,8 @@ pub record Performed (s cal meas : List ℕ) (b : ℕ) (d : Deed) (p : List ℕ)
   pub closed : (session_of s).opened ≡ false → (d ≡ Connect) × (good_connect p ≡ true)
 
 pub data Reads (s cal meas : List ℕ) (b : ℕ) : Step → Option Deed → Type 0 where
-  rests : (r : Received) → received_number r ≢ 1 → received_number r ≤ 7 → Reads s cal meas b (only r (read_by s b) cal) none
-  acts : (d : Deed) (p : List ℕ) → Performed s cal meas b d p → Reads s cal meas b (obeyed d p (read_by s b) cal meas) (some d)
+  rests : (r : Received) → received_number r ≢ 1 → received_number r ≤ 7 → Reads s cal meas b (only r (read_by s b) cal) None
+  acts : (d : Deed) (p : List ℕ) → Performed s cal meas b d p → Reads s cal meas b (obeyed d p (read_by s b) cal meas) (Some d)
 
 -- a good message is heeded by what the state showed before its last byte
 pub heeded_at : (s cal meas : List ℕ) (b : ℕ) (p : List ℕ) → consistent s ≡ true
@@ -58,10 +47,10 @@ heeded_at s cal meas b p c =
 
 module _ (s cal meas : List ℕ) (b : ℕ) (c : consistent s ≡ true) where
   -- a packet that came whole
-  heeded_reads : (p : List ℕ) → packet_ended s b ≡ some p → Reads s cal meas b (heeded p (read_by s b) cal meas) (heeds (some p) (view_of s) (length cal) (length meas))
+  heeded_reads : (p : List ℕ) → packet_ended s b ≡ Some p → Reads s cal meas b (heeded p (read_by s b) cal meas) (heeds (Some p) (view_of s) (length cal) (length meas))
   unfolding heeds heeding_in view_of
   heeded_reads p e =
-      subst (λ (o : Step). Reads s cal meas b o (heeds (some p) (view_of s) (length cal) (length meas))) (sym (heeded_at s cal meas b p c))
+      subst (λ (o : Step). Reads s cal meas b o (heeds (Some p) (view_of s) (length cal) (length meas))) (sym (heeded_at s cal meas b p c))
       (go (has_answer (view_of s)) (session_of s).opened (good_connect p) refl refl refl) where
         d : Deed
         d = deed_in p (session_of s) cal meas
@@ -70,7 +59,7 @@ module _ (s cal meas : List ℕ) (b : ℕ) (c : consistent s ≡ true) where
             → Reads s cal meas b
             (heeded_by (cond w Dropped (cond o (Obeyed d) (cond g (Obeyed Connect) Ignored))) p (read_by s b) cal meas)
             (deed_by (cond w Dropped (cond o (Obeyed d) (cond g (Obeyed Connect) Ignored))))
-        go true o g u v x = rests Unread (omega arith) (omega arith)
+        go true o g u v x = rests (Ok Unread) (omega arith) (omega arith)
         go false true g u v x =
             acts d p (record {
               ended = e;
@@ -78,53 +67,46 @@ module _ (s cal meas : List ℕ) (b : ℕ) (c : consistent s ≡ true) where
               can = judged_doable p s (length cal) (length meas);
               found = judged p (session_of s) (length cal) (length meas);
               opened = λ _. refl;
-              closed = λ n. absurd (false_true (sym n ∙ v));
+              closed = λ n. cc;
             })
         go false false true u v x =
-            acts Connect p (record { ended = e; free = u; can = tt; found = tt; opened = λ n. absurd (false_true (sym v ∙ n)); closed = λ _. (refl, x) })
-        go false false false u v x = rests Silent (omega arith) (omega arith)
+            acts Connect p (record { ended = e; free = u; can = tt; found = tt; opened = λ n. cc; closed = λ _. (refl, x) })
+        go false false false u v x = rests (Ok Silent) (omega arith) (omega arith)
 
   meant_reads : (o : Outcome) → Roomy o → (fed_of s b).taken.outcome ≡ o
       → Reads s cal meas b (meant o (fed_of s b).message (read_by s b) cal meas) (heeds (packet_by o (fed_of s b).message) (view_of s) (length cal) (length meas))
   unfolding meant heeds view_of
-  meant_reads line.Nothing y e = rests Nothing (omega arith) (omega arith)
-  meant_reads (line.Good ctr at n) y e = heeded_reads (block (fed_of s b).message at n) (rw e)
-  meant_reads line.BadLength y e = rests BadLength (omega arith) (omega arith)
-  meant_reads line.BadEscape y e = rests BadEscape (omega arith) (omega arith)
-  meant_reads line.BadChecksum y e = rests BadChecksum (omega arith) (omega arith)
-  meant_reads line.CutOff y e = rests CutOff (omega arith) (omega arith)
-  meant_reads line.ShortBuffer y e = absurd y
+  meant_reads (Ok None) y e = rests (Ok Nothing) (omega arith) (omega arith)
+  meant_reads (Ok (Some good)) y e = heeded_reads (block (fed_of s b).message good.at good.len) (rw e)
+  meant_reads (Err line.BadLength) y e = rests (Ok BadLength) (omega arith) (omega arith)
+  meant_reads (Err line.BadEscape) y e = rests (Ok BadEscape) (omega arith) (omega arith)
+  meant_reads (Err line.BadChecksum) y e = rests (Ok BadChecksum) (omega arith) (omega arith)
+  meant_reads (Err line.CutOff) y e = rests (Ok CutOff) (omega arith) (omega arith)
+  meant_reads (Err line.ShortBuffer) y e = absurd y
 
   pub received : Reads s cal meas b (receive_of s cal meas b) (deed_at s cal meas b)
   unfolding receive_of view_of
   received =
       cond_ind (λ (o : Step). Reads s cal meas b o (deed_at s cal meas b)) (consistent s)
       (λ _. meant_reads (fed_of s b).taken.outcome (read_roomy s b c) refl)
-      (λ n. absurd (false_true (sym n ∙ c)))
+      (λ n. cc)
 
 -- ---- a good message is heeded
-pub some_none : {A : Type 0} {x : A} → some x ≡ none → ⊥
-some_none e = let z : ◌≡◌ {A = ℕ} 0 1 = cc in omega arith
-
-heeded_by_lem : (o : Outcome) (m t cal meas p : List ℕ) → packet_by o m ≡ some p → meant o m t cal meas ≡ heeded p t cal meas
+heeded_by_lem : (o : Outcome) (m t cal meas p : List ℕ) → packet_by o m ≡ Some p → meant o m t cal meas ≡ heeded p t cal meas
 unfolding meant
-heeded_by_lem line.Nothing m t cal meas p e = absurd (some_none (sym e))
-heeded_by_lem (line.Good ctr at n) m t cal meas p e = let same : block m at n ≡ p = cc in rw same
-heeded_by_lem line.BadLength m t cal meas p e = absurd (some_none (sym e))
-heeded_by_lem line.BadEscape m t cal meas p e = absurd (some_none (sym e))
-heeded_by_lem line.BadChecksum m t cal meas p e = absurd (some_none (sym e))
-heeded_by_lem line.CutOff m t cal meas p e = absurd (some_none (sym e))
-heeded_by_lem line.ShortBuffer m t cal meas p e = absurd (some_none (sym e))
+heeded_by_lem (Ok None) m t cal meas p e = cc
+heeded_by_lem (Ok (Some good)) m t cal meas p e = let same : block m good.at good.len ≡ p = cc in rw same
+heeded_by_lem (Err fault) m t cal meas p e = cc
 
 pub received_by_lem : (s cal meas : List ℕ) (b : ℕ) → consistent s ≡ true → receive_of s cal meas b ≡ received_by (fed_of s b) s cal meas
 unfolding receive_of
 received_by_lem s cal meas b c = rw c refl
 
-pub heeded_whole : (s cal meas : List ℕ) (b : ℕ) (p : List ℕ) → packet_ended s b ≡ some p → received_by (fed_of s b) s cal meas ≡ heeded p (read_by s b) cal meas
+pub heeded_whole : (s cal meas : List ℕ) (b : ℕ) (p : List ℕ) → packet_ended s b ≡ Some p → received_by (fed_of s b) s cal meas ≡ heeded p (read_by s b) cal meas
 unfolding view_of
 heeded_whole s cal meas b p e = heeded_by_lem (fed_of s b).taken.outcome (fed_of s b).message (read_by s b) cal meas p e
 
-pub heeds_right : (s cal meas : List ℕ) (b : ℕ) (p : List ℕ) → consistent s ≡ true → packet_ended s b ≡ some p → receive_of s cal meas b ≡ heeded p (read_by s b) cal meas
+pub heeds_right : (s cal meas : List ℕ) (b : ℕ) (p : List ℕ) → consistent s ≡ true → packet_ended s b ≡ Some p → receive_of s cal meas b ≡ heeded p (read_by s b) cal meas
 heeds_right s cal meas b p c e = received_by_lem s cal meas b c ∙ heeded_whole s cal meas b p e
 
 -- a command is judged, and what it leads to is done
@@ -148,7 +130,7 @@ done_answer s cal meas b d n c can =
 pub resting : (test : List ℕ → List ℕ → Bool) (s cal : List ℕ) (b : ℕ) (r : Received) → received_number r ≢ 1 → of_answered test (only r (read_by s b) cal) s b ≡ false
 resting test s cal b r n = rw (ne_eqb (received_number r) 1 n)
 
-pub acting : (test : List ℕ → List ℕ → Bool) (s cal meas : List ℕ) (b : ℕ) (d : Deed) (p : List ℕ) → packet_ended s b ≡ some p
+pub acting : (test : List ℕ → List ℕ → Bool) (s cal meas : List ℕ) (b : ℕ) (d : Deed) (p : List ℕ) → packet_ended s b ≡ Some p
     → of_answered test (obeyed d p (read_by s b) cal meas) s b ≡ test p (view_of (after d (read_by s b) cal meas)).answer
 acting test s cal meas b d p e = rw e
 

@@ -1,23 +1,14 @@
 -- The refusals: which deeds are answered FE, and what a wrong key and DISCONNECT are judged to be. Assumes nothing.
-use Prim.Native.Nat.{ℕ, ◌≤◌}
-use mathlib.Core.Path.{◌≡◌, refl, ◌∙◌}
-use mathlib.Core.Logic.{◌≢◌}
-use mathlib.Core.Bool.{Bool, true, false, cond}
-use mathlib.Core.List.{List, [], ◌∷◌}
-use native.Mathlib.Omega.{arith}
-use borrow.Author.Tests.{eqb-true, ltb-false, le-ltb, not-true}
-use lib.Dec.{eqb, ltb}
-use lib.ListN.{length}
+use Rattle.std.proofs.Common.{◌≡◌, ◌≢◌, ℕ, ◌≤◌, Bool, true, false, cond, List, [], ◌∷◌, length, Some, None, eqb, ltb, refl, ◌∙◌, arith, eqb-true, ltb-false, le-ltb}
+use Rattle.std.proofs.lemmas.Bool.{not-true}
 use Rattle.model.specs.Judge.{judge_in, unlock_by, judge_the, judge_by, judge}
 use Rattle.model.specs.Answers.{reply_in, written, writes}
 use Rattle.model.specs.Model.{byte, Session}
 use Rattle.line.proofs.Laws.{cond_ind}
-use Rattle.line.proofs.Stuffed.{false_true}
 use Rattle.words.specs.Command.{command_of}
 use Rattle.session.specs.Perform.{effect}
 use Rattle.words.specs.declared.Resource.{Resource}
-use Rattle.words.specs.declared.Seed.{Seed}
-use Rattle.words.specs.declared.Seed.TheVariants.{None, For}
+use Rattle.words.specs.Values.{Seed}
 use Rattle.model.specs.declared.Deed.{Deed}
 use Rattle.model.specs.declared.Deed.TheVariants.{Refuse, RefuseSize, WrongKey, Connect, Disconnect, Status, Synch, NoSeed, GiveSeed, Unlock, SetMta, Upload, Checksum, Download, ClearList, SetPointer, ClearEntry, WriteEntry, SetMode, Stop, Start, KeepRunning, Select, StopAll, StartSelected, StopSelected, ProcessorInfo, ResolutionInfo, FreeLists, AllocLists, AllocOdts, AllocEntries}
 use Rattle.demands.specs.Heard.{brings_key, key_matches, wrong_key_by, wrong_key}
@@ -81,11 +72,11 @@ keyed p =
     cond_ind P (eqb (byte p 0) 0xF7)
     (λ c. cond_ind P (eqb (byte p 1) 4)
     (λ f l. record { code = eqb-true (byte p 0) 0xF7 c; four = eqb-true (byte p 1) 4 f; long = ltb-false (length p) 6 (not-true (ltb (length p) 6) l) })
-    (λ _ f. absurd (false_true f)))
-    (λ _ f. absurd (false_true f))
+    (λ _ f. cc))
+    (λ _ f. cc)
 
 -- with a key for the seed that is out, whether it matches is all that is left
-pub key_judged : (p : List ℕ) (c : Session) (r : Resource) (nc nm : ℕ) → brings_key p ≡ true → c.seed ≡ For r → judge_in p c nc nm ≡ cond (key_matches p r c) (Unlock r) WrongKey
+pub key_judged : (p : List ℕ) (c : Session) (r : Resource) (nc nm : ℕ) → brings_key p ≡ true → c.seed ≡ Some r → judge_in p c nc nm ≡ cond (key_matches p r c) (Unlock r) WrongKey
 unfolding judge_in judge judge_by judge_the command_of unlock_by
 key_judged p c r nc nm k e =
     let w : Keyed p = keyed p k in
@@ -95,17 +86,17 @@ key_judged p c r nc nm k e =
 -- what wrong_key says
 pub record Wrong (p : List ℕ) (c : Session) (seed : Seed) : Type 0 where
   pub resource : Resource
-  pub out : seed ≡ For resource
+  pub out : seed ≡ Some resource
   pub key : brings_key p ≡ true
   pub wrong : key_matches p resource c ≡ false
 
 pub wrong_by : (seed : Seed) (p : List ℕ) (c : Session) → wrong_key_by seed p c ≡ true → Wrong p c seed
 unfolding wrong_key_by
-wrong_by None p c e = absurd (false_true e)
-wrong_by (For r) p c e =
-    cond_ind (λ (t : Bool). t ≡ true → Wrong p c (For r)) (brings_key p)
+wrong_by None p c e = absurd cc
+wrong_by (Some r) p c e =
+    cond_ind (λ (t : Bool). t ≡ true → Wrong p c (Some r)) (brings_key p)
     (λ k n. record { resource = r; out = refl; key = k; wrong = not-true (key_matches p r c) n })
-    (λ _ f. absurd (false_true f)) e
+    (λ _ f. cc) e
 
 pub wrong_judged : (p : List ℕ) (c : Session) (nc nm : ℕ) → wrong_key p c ≡ true → judge_in p c nc nm ≡ WrongKey
 wrong_judged p c nc nm e =
@@ -115,7 +106,7 @@ wrong_judged p c nc nm e =
 -- ---- DISCONNECT
 pub disconnect_judged : (q : List ℕ) (c : Session) (nc nm : ℕ) → byte q 0 ≡ 0xFE → judge_in q c nc nm ≡ Disconnect
 unfolding judge_in judge judge_by judge_the command_of
-disconnect_judged [] c nc nm e = absurd (let z : ◌≡◌ {A = ℕ} 0 0xFE = e in omega arith)
+disconnect_judged [] c nc nm e = cc
 disconnect_judged (x ∷ q) c nc nm e =
     let h : x ≡ 0xFE = e in
     simp (h, le-ltb (length (x ∷ q)) 1 (omega arith))

@@ -1,15 +1,7 @@
 -- What a slot sends: the frame of the packet whose turn it is, one at most, and what it leaves. Assumes nothing.
-use Prim.Native.Nat.{ℕ, suc, ◌+◌, ◌≤◌, ◌<◌}
-use mathlib.Core.Path.{◌≡◌, refl, ap, ◌∙◌}
-use mathlib.Core.Bool.{true, false}
-use mathlib.Core.List.{List, [], ◌∷◌}
-use native.Mathlib.Omega.{arith}
-use borrow.Author.Tests.{ne_eqb, lt-ltb, le-ltb, ltb-true, ltb-false}
-use lib.Dec.{eqb, ltb}
-use lib.ListN.{length, take}
+use Rattle.std.proofs.Common.{◌≡◌, ℕ, suc, ◌+◌, ◌≤◌, ◌<◌, true, false, List, [], ◌∷◌, length, take, Some, None, Ok, Err, eqb, ltb, refl, ap, ◌∙◌, arith, ne_eqb, lt-ltb, le-ltb, ltb-true, ltb-false}
 use Rattle.line.specs.Message.{most, room, frame}
 use Rattle.line.specs.Writer.{Sent, at_front, write_of}
-use Rattle.line.specs.declared.Written.TheVariants.{Frame}
 use Rattle.line.proofs.Fronts.{take_front, drop_front}
 use Rattle.line.proofs.Laws.{cond_ind, length_front}
 use Rattle.line.proofs.RoundTrip.{round_trip}
@@ -20,14 +12,14 @@ use Rattle.state.specs.State.{consistent, ctr_of, answer_of}
 use Rattle.state.specs.Lists.{stored_length}
 use Rattle.lists.specs.Slot.{Slot, sent_as, answer_sent, packet_sent, sent_by, slot_of}
 use Rattle.words.specs.Number.{slotted_value}
-use Rattle.words.specs.declared.Slotted.TheVariants.{NoRoom}
-use Rattle.model.specs.declared.Turn.{Turn}
-use Rattle.model.specs.declared.Turn.TheVariants.{Nobody, Answer, Packet}
+use Rattle.words.specs.declared.SlotRefusal.TheVariants.{NoRoom}
+use Rattle.model.specs.Turn.{Turn}
 use Rattle.state.proofs.Consistent.{consistent_size}
 use Rattle.state.proofs.Allocated.{odt_most_lem}
 use Rattle.model.specs.Model.{Slave, first_of, has_answer}
 use Rattle.model.specs.Calls.{turn_in, packet_from, packet_for, answer_gone, packet_gone}
 use Rattle.model.specs.View.{session_of, view_of}
+use Rattle.model.specs.declared.Sender.TheVariants.{Answer, Packet}
 use Rattle.model.proofs.Shown.{stored_most_lem, stored_long, odts_at_lem, first_of_lem, packet_by_lem, answer_most, answer_long}
 use Rattle.views.proofs.Calls.{view_answer_sent, view_packet_sent}
 use Rattle.demands.specs.Slave.{ours}
@@ -41,7 +33,7 @@ pub slot_is : (s out : List ℕ) → consistent s ≡ true → room ≤ length o
 unfolding slot_of
 slot_is s out c h = rw (c, le-ltb (length out) room h)
 
-pub slot_refused : (s out : List ℕ) → consistent s ≡ true → length out < room → slot_of s out ≡ record { slotted = NoRoom; state = s; out = out }
+pub slot_refused : (s out : List ℕ) → consistent s ≡ true → length out < room → slot_of s out ≡ record { slotted = Err NoRoom; state = s; out = out }
 unfolding slot_of
 slot_refused s out c h = rw (c, lt-ltb (length out) room h)
 
@@ -50,9 +42,9 @@ slot_stays s out c h = ap (λ (o : Slot). o.state) (slot_refused s out c h)
 
 -- the slave after a turn
 abbrev pub turned : Turn → Slave → Slave
-turned Nobody v = v
-turned Answer v = answer_gone v
-turned (Packet l o) v = packet_gone l o v
+turned None v = v
+turned (Some Answer) v = answer_gone v
+turned (Some (Packet l o)) v = packet_gone l o v
 
 -- a packet that is next is of an ODT that there is
 pub next_there : (s : List ℕ) (j o : ℕ) → Next (view_of s) j o → (j < list_count s) × (o < odt_count s j)
@@ -96,7 +88,7 @@ packet_packed s l o h n =
     let long = packet_length s l o h w.0 w.1 in
     record { some = rw long (omega arith); few = rw long (omega (arith, stored_most_lem s (first_odt s l + o))) }
 
-written_frame : (p out : List ℕ) (c : ℕ) → Packed p → room ≤ length out → write_of p c out ≡ record { written = Frame (length (frame c p)); out = at_front (frame c p) out }
+written_frame : (p out : List ℕ) (c : ℕ) → Packed p → room ≤ length out → write_of p c out ≡ record { written = Ok (length (frame c p)); out = at_front (frame c p) out }
 unfolding write_of
 written_frame p out c k h =
     let a : eqb (length p) 0 ≡ false = ne_eqb (length p) 0 (omega (arith, k.some)) in
@@ -162,9 +154,9 @@ written_past p out s c =
 
 sent_past : (t : Turn) (s out : List ℕ) → Past out (sent_by t s out)
 unfolding sent_by
-sent_past Nobody s out = untouched
-sent_past Answer s out = written_past (answer_of s) out (answer_sent s) (ctr_of s)
-sent_past (Packet l o) s out = written_past (packet_from (session_of s) l o) out (packet_sent s l o) (ctr_of s)
+sent_past None s out = untouched
+sent_past (Some Answer) s out = written_past (answer_of s) out (answer_sent s) (ctr_of s)
+sent_past (Some (Packet l o)) s out = written_past (packet_from (session_of s) l o) out (packet_sent s l o) (ctr_of s)
 
 pub slot_past : (s out : List ℕ) → SameOutside 0 (slotted_value (slot_of s out).slotted) out (slot_of s out).out
 unfolding slot_of

@@ -1,8 +1,5 @@
 -- What each call of ours shows is what document 01 says of it. Assumes nothing.
-use Prim.Native.Nat.{ℕ, ◌≤◌}
-use mathlib.Core.Path.{◌≡◌, sym, ap, subst}
-use mathlib.Core.Bool.{true}
-use mathlib.Core.List.{List}
+use Rattle.std.proofs.Common.{◌≡◌, ℕ, ◌≤◌, true, List, sym, ap, subst}
 use Rattle.state.specs.State.{consistent}
 use Rattle.model.specs.Calls.{turn_in}
 use Rattle.model.specs.Whole.{AfterEvent, AfterSlot}

@@ -1,47 +1,27 @@
 -- A slice is the byte call repeated, however the wire is cut. Assumes nothing.
-use Prim.Native.Nat.{ℕ, zero, suc, ◌≤◌}
-use mathlib.Core.Path.{◌≡◌, refl, sym, ap, subst, ◌∙◌}
-use mathlib.Core.Bool.{Bool, true, false, cond}
-use mathlib.Core.List.{List, [], ◌∷◌, ◌++◌}
-use native.Mathlib.Omega.{arith}
-use borrow.Author.Tests.{eqb-true, eqb-false}
-use lib.Dec.{eqb}
-use lib.ListN.{length, take, drop, length-take}
-use lib.Seq.{take_all, take-add}
+use Rattle.std.proofs.Common.{◌≡◌, ℕ, zero, suc, ◌≤◌, Bool, true, false, cond, List, [], ◌∷◌, ◌++◌, length, take, drop, Ok, Err, eqb, refl, sym, ap, ◌∙◌, subst, arith, eqb-true, length-take, take_all, take-add, take-take}
+use Rattle.std.proofs.lemmas.Bool.{eqb-false}
+use Rattle.std.proofs.Math.Seq.{take-nil}
+use Rattle.line.proofs.Laws.{cond_ind}
 use Rattle.state.specs.State.{consistent}
 use Rattle.session.specs.Receive.{Step, fed_of, received_by, receive_of}
 use Rattle.session.specs.Slice.{Slice, taking, then, bytes_of, taken_most, receive_bytes_of}
 use Rattle.session.proofs.Slicing.{bytes_within}
 use Rattle.fields.proofs.Kept.{receive_kept}
 use Rattle.words.specs.Number.{received_number}
-use Rattle.words.specs.declared.Received.TheVariants.{Nothing, NoState}
+use Rattle.words.specs.declared.Heard.TheVariants.{Nothing}
+use Rattle.words.specs.Values.{no_state}
 use Rattle.demands.specs.Slave.{AnySlave, ours}
 use Rattle.demands.specs.Runs.{run}
 use Rattle.demands.specs.Slices.{SliceCall, Repeated, before, repeated, by_bytes, told_of, told, Drained, drained, BySlices, TakesSlices}
-
--- ---- one byte in a consistent state
-byte_so : (s cal meas : List ℕ) (b : ℕ) → consistent s ≡ true → receive_of s cal meas b ≡ received_by (fed_of s b) s cal meas
-unfolding receive_of
-byte_so s cal meas b e = simp e
-
--- what follows a byte whose number is 0, or is not
-module _ (t : Step) (o : Slice) where
-  goes : eqb (received_number t.received) 0 ≡ true → then t o ≡ taking o.received (suc o.taken) o.state o.cal
-  goes e = simp e
-
-  stops : eqb (received_number t.received) 0 ≡ false → then t o ≡ taking t.received 1 t.state t.cal
-  stops e = simp e
+use Rattle.demands.proofs.Received.{received_by_lem}
 
 -- ---- bytes in a consistent state
 -- by cases of what the first byte gives
 module _ (P : Slice → Type 0) (t : Step) (o : Slice) where
   by_first : (eqb (received_number t.received) 0 ≡ true → P (taking o.received (suc o.taken) o.state o.cal))
       → (eqb (received_number t.received) 0 ≡ false → P (taking t.received 1 t.state t.cal)) → P (then t o)
-  by_first f g = go (eqb (received_number t.received) 0) refl
-    where
-      go : (x : Bool) → eqb (received_number t.received) 0 ≡ x → P (then t o)
-      go true e = subst P (sym (goes t o e)) (f e)
-      go false e = subst P (sym (stops t o e)) (g e)
+  by_first f g = cond_ind P (eqb (received_number t.received) 0) f g
 
 bytes_some : (s cal meas : List ℕ) (b : ℕ) (bs : List ℕ) → 1 ≤ (bytes_of s cal meas (b ∷ bs)).taken
 bytes_some s cal meas b bs =
@@ -82,7 +62,7 @@ bytes_same s cal meas (b ∷ bs) e =
     o = bytes_of t.state t.cal meas bs
 
     same : receive_of s cal meas b ≡ t
-    same = byte_so s cal meas b e
+    same = received_by_lem s cal meas b e
 
     kept : consistent t.state ≡ true
     kept = ap (λ (x : Step). consistent x.state) (sym same) ∙ receive_kept s cal meas b e
@@ -110,28 +90,18 @@ repeated_more v s cal meas (b ∷ bs) cs =
     ap (before (received_number (v.receive s cal meas b).received)) (repeated_more v (v.receive s cal meas b).state (v.receive s cal meas b).cal meas bs cs)
 
 -- ---- the slice call, of at most n bytes
-take_within : (k n : ℕ) (l : List ℕ) → k ≤ n → take k (take n l) ≡ take k l
-take_within zero n l h = refl
-take_within (suc k) zero l h = absurd (omega arith)
-take_within (suc k) (suc n) [] h = refl
-take_within (suc k) (suc n) (x ∷ l) h = ap (λ (r : List ℕ). x ∷ r) (take_within k n l (omega arith))
-
-take_none : (n : ℕ) → ◌≡◌ {A = List ℕ} (take n []) []
-take_none zero = refl
-take_none (suc n) = refl
-
 abbrev calls : ℕ → SliceCall
-calls n s cal meas bs = cond (consistent s) (bytes_of s cal meas (take n bs)) (taking NoState 0 s cal)
+calls n s cal meas bs = cond (consistent s) (bytes_of s cal meas (take n bs)) (taking (Err no_state) 0 s cal)
 
 module _ (n : ℕ) (s cal meas : List ℕ) where
-  refused : (bs : List ℕ) → consistent s ≡ false → calls n s cal meas bs ≡ taking NoState 0 s cal
+  refused : (bs : List ℕ) → consistent s ≡ false → calls n s cal meas bs ≡ taking (Err no_state) 0 s cal
   refused bs e = simp e
 
   done : (bs : List ℕ) → consistent s ≡ true → calls n s cal meas bs ≡ bytes_of s cal meas (take n bs)
   done bs e = simp e
 
-  done_empty : consistent s ≡ true → calls n s cal meas [] ≡ taking Nothing 0 s cal
-  done_empty e = done [] e ∙ ap (bytes_of s cal meas) (take_none n)
+  done_empty : consistent s ≡ true → calls n s cal meas [] ≡ taking (Ok Nothing) 0 s cal
+  done_empty e = done [] e ∙ ap (bytes_of s cal meas) (take-nil n)
 
   done_some : 1 ≤ n → (bs : List ℕ) → consistent s ≡ true → 1 ≤ length bs → 1 ≤ (calls n s cal meas bs).taken
   done_some h bs e g = subst (λ (o : Slice). 1 ≤ o.taken) (sym (done bs e)) (go n h bs g)
@@ -144,7 +114,7 @@ module _ (n : ℕ) (s cal meas : List ℕ) where
   done_most : (bs : List ℕ) → ((calls n s cal meas bs).taken ≤ length bs) × ((calls n s cal meas bs).taken ≤ n)
   done_most bs = go (consistent s)
     where
-      go : (x : Bool) → ((cond x (bytes_of s cal meas (take n bs)) (taking NoState 0 s cal)).taken ≤ length bs) × ((cond x (bytes_of s cal meas (take n bs)) (taking NoState 0 s cal)).taken ≤ n)
+      go : (x : Bool) → ((cond x (bytes_of s cal meas (take n bs)) (taking (Err no_state) 0 s cal)).taken ≤ length bs) × ((cond x (bytes_of s cal meas (take n bs)) (taking (Err no_state) 0 s cal)).taken ≤ n)
       go true = (omega (arith, bytes_within s cal meas (take n bs), length-take n bs), omega (arith, bytes_within s cal meas (take n bs), length-take n bs))
       go false = (omega arith, omega arith)
 
@@ -156,7 +126,7 @@ module _ (n : ℕ) (s cal meas : List ℕ) where
   done_same : (bs : List ℕ) → consistent s ≡ true → repeated ours s cal meas (take (calls n s cal meas bs).taken bs) ≡ told (calls n s cal meas bs)
   done_same bs e =
       subst (λ (o : Slice). repeated ours s cal meas (take o.taken bs) ≡ told o) (sym (done bs e))
-      (ap (repeated ours s cal meas) (sym (take_within (bytes_of s cal meas (take n bs)).taken n bs (omega (arith, bytes_within s cal meas (take n bs), length-take n bs))))
+      (ap (repeated ours s cal meas) (sym (take-take (bytes_of s cal meas (take n bs)).taken n bs (omega (arith, bytes_within s cal meas (take n bs), length-take n bs))))
       ∙ bytes_same s cal meas (take n bs) e)
 
 -- a slice of m bytes, and then those behind what it took
@@ -180,7 +150,7 @@ done_cuts n s cal meas bs (m ∷ ns) e =
     few = omega (arith, (done_most n s cal meas (take m bs)).0, length-take m bs)
 
     first : repeated ours s cal meas (take o.taken bs) ≡ told o
-    first = ap (repeated ours s cal meas) (sym (take_within o.taken m bs few)) ∙ done_same n s cal meas (take m bs) e
+    first = ap (repeated ours s cal meas) (sym (take-take o.taken m bs few)) ∙ done_same n s cal meas (take m bs) e
 
     kept : consistent o.state ≡ true
     kept = ap (λ (r : Repeated). consistent r.state) (sym first) ∙ repeated_kept s cal meas (take o.taken bs) e

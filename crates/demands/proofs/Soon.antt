@@ -1,14 +1,6 @@
 -- A waiting answer leaves in the first or second counted slot, once, whatever calls come between. Assumes nothing.
-use Prim.Native.Nat.{ℕ, suc, ◌+◌, ◌≤◌, ◌<◌}
-use mathlib.Core.Path.{◌≡◌, refl, sym, ap, ◌∙◌, subst}
-use mathlib.Core.Bool.{Bool, true, false}
-use mathlib.Core.List.{List, [], ◌∷◌}
-use native.Mathlib.Omega.{arith}
-use native.Mathlib.Nat.{lt_of_not-le}
-use native.Mathlib.Decide.{dec_le}
-use borrow.Author.Tests.{le-leb, lt-leb}
-use lib.Dec.{ltb, leb}
-use lib.ListN.{length}
+use Rattle.std.proofs.Common.{◌≡◌, ℕ, suc, ◌+◌, ◌≤◌, ◌<◌, Bool, true, false, List, [], ◌∷◌, length, Some, ltb, leb, refl, sym, ap, ◌∙◌, subst, arith, le-leb, inl, inr}
+use Rattle.std.proofs.lemmas.Bool.{lt-leb, cases_lt}
 use Rattle.line.specs.Message.{room, frame}
 use Rattle.line.proofs.Laws.{cond_ind}
 use Rattle.state.specs.State.{consistent}
@@ -18,8 +10,8 @@ use Rattle.lists.specs.Slot.{slot_of}
 use Rattle.model.specs.Model.{Slave, has_answer}
 use Rattle.model.specs.Calls.{turn_in, or_else, round_in, packet_from, packet_for, answer_gone, packet_gone}
 use Rattle.model.specs.View.{view_of}
-use Rattle.model.specs.declared.Turn.{Turn}
-use Rattle.model.specs.declared.Turn.TheVariants.{Answer, Packet}
+use Rattle.model.specs.Turn.{Turn}
+use Rattle.model.specs.declared.Sender.TheVariants.{Answer, Packet}
 use Rattle.fields.proofs.Kept.{receive_kept, event_kept, slot_kept}
 use Rattle.demands.specs.Slave.{ours}
 use Rattle.demands.specs.Runs.{Call, Byte, Event, SendingSlot, Elsewhere, after_call, frames, sends, one_more, slots}
@@ -49,10 +41,10 @@ slots_cons Elsewhere cs = omega arith
 
 -- ---- an answer that waits goes now, or a list's packet goes and the last frame was an answer
 data Soon (v : Slave) : Turn → Type 0 where
-  now : Soon v Answer
-  next : (j o : ℕ) → Next v j o → v.last_answer ≡ true → Soon v (Packet j o)
+  now : Soon v (Some Answer)
+  next : (j o : ℕ) → Next v j o → v.last_answer ≡ true → Soon v (Some (Packet j o))
 
-or_soon : (v : Slave) (t : Turn) → v.last_answer ≡ true → Fair v t → Soon v (or_else t Answer)
+or_soon : (v : Slave) (t : Turn) → v.last_answer ≡ true → Fair v t → Soon v (or_else t (Some Answer))
 or_soon v _ f nobody = now
 or_soon v _ f (answer w) = now
 or_soon v _ f (list j o n) = next j o n f
@@ -144,7 +136,7 @@ goes (Event cal meas event clock ∷ cs) a last s w h =
     (goes cs a last (event_of s cal meas event clock).state
     (waits_on (event_kept s cal meas event clock w.fit) (event_answer s cal meas event clock) (event_sent s cal meas event clock).last_answer w) h)
     (omega arith) refl
-goes (SendingSlot out ∷ cs) a last s w h = elim (dec_le room (length out)) [ yes r ↦ with_room r (goes cs) | no r ↦ without (lt_of_not-le r) (goes cs) ] where
+goes (SendingSlot out ∷ cs) a last s w h = elim (cases_lt (length out) room) [ inl r ↦ without r (goes cs) | inr r ↦ with_room r (goes cs) ] where
   with_room : room ≤ length out → Later cs → LeavesWithin (need last) ours s a (SendingSlot out ∷ cs)
   with_room r later =
       slot_by cs a last s out w r (rw (counted out (slots cs) r) at h) later (turn_in (view_of s)) refl (soon (view_of s) w.waits)

@@ -1,22 +1,11 @@
 -- Our slave stays shut after three wrong keys. Assumes nothing.
-use Prim.{tt}
-use Prim.Native.Nat.{ℕ, suc, ◌+◌, ◌≤◌, ◌<◌}
-use mathlib.Core.Path.{◌≡◌, refl, sym, ap, subst, ◌∙◌}
-use mathlib.Core.Logic.{◌≢◌}
-use mathlib.Core.Bool.{Bool, true, false, cond}
-use mathlib.Core.Option.{Option}
-use mathlib.Core.List.{List, [], ◌∷◌}
-use native.Mathlib.Omega.{arith}
-use borrow.Author.Tests.{eqb-true, leb-false}
-use lib.Dec.{eqb}
-use lib.ListN.{length}
+use Rattle.std.proofs.Common.{◌≡◌, ◌≢◌, ℕ, suc, ◌+◌, ◌≤◌, ◌<◌, Bool, true, false, cond, List, [], ◌∷◌, length, Option, Some, None, eqb, refl, sym, ap, ◌∙◌, subst, arith, eqb-true, leb-false}
+use Rattle.std.proofs.lemmas.Bool.{false≢true, false_from_ne_true}
 use Rattle.line.proofs.Laws.{cond_ind}
-use Rattle.line.proofs.Stuffed.{false_true}
 use Rattle.state.specs.Layout.{size}
 use Rattle.state.specs.State.{consistent, wrong_keys_of}
 use Rattle.words.specs.declared.Resource.{Resource}
 use Rattle.words.specs.declared.Resource.TheVariants.{Calibration}
-use Rattle.words.specs.declared.Seed.TheVariants.{None, For}
 use Rattle.session.specs.Perform.{after}
 use Rattle.session.specs.PowerUp.{powered}
 use Rattle.session.specs.Receive.{Step, only, obeyed, receive_of}
@@ -53,9 +42,9 @@ said p a = go (eqb (byte p 0) 0xF7) (eqb (byte a 0) 0xFE) (eqb (byte a 1) 0x25) 
   go : (x y z : Bool) → eqb (byte p 0) 0xF7 ≡ x → eqb (byte a 0) 0xFE ≡ y → eqb (byte a 1) 0x25 ≡ z → cond x (cond y z false) false ≡ true
       → (byte p 0 ≡ 0xF7) × (byte a 0 ≡ 0xFE) × (byte a 1 ≡ 0x25)
   go true true true e f g t = (eqb-true (byte p 0) 0xF7 e, eqb-true (byte a 0) 0xFE f, eqb-true (byte a 1) 0x25 g)
-  go true true false e f g t = absurd (false_true t)
-  go true false z e f g t = absurd (false_true t)
-  go false y z e f g t = absurd (false_true t)
+  go true true false e f g t = cc
+  go true false z e f g t = cc
+  go false y z e f g t = cc
 
 says : (p : List ℕ) (c : Session) (cal meas : List ℕ) → wrong_key p c ≡ true → says_wrong p (reply_in WrongKey c cal meas) ≡ true
 unfolding reply_in
@@ -63,7 +52,7 @@ says p c cal meas e = rw (keyed p (wrong_by c.seed p c e).key).code
 
 connect_code : (p : List ℕ) → good_connect p ≡ true → byte p 0 ≡ 0xFF
 unfolding good_connect
-connect_code p = cond_ind (λ (t : Bool). t ≡ true → byte p 0 ≡ 0xFF) (eqb (byte p 0) 0xFF) (λ e _. eqb-true (byte p 0) 0xFF e) (λ _ t. absurd (false_true t))
+connect_code p = cond_ind (λ (t : Bool). t ≡ true → byte p 0 ≡ 0xFF) (eqb (byte p 0) 0xFF) (λ e _. eqb-true (byte p 0) 0xFF e) (λ _ t. cc)
 
 -- every other deed leaves the count
 step_count : (d : Deed) (c : Session) → d ≢ WrongKey → (step_in d c).wrong_keys ≡ c.wrong_keys
@@ -102,7 +91,7 @@ step_count (AllocOdts l m) c n = refl
 step_count (AllocEntries l o m) c n = refl
 
 -- ---- the count and the seed: none is out once there were three
-few_then : (s : List ℕ) (r : Resource) → (session_of s).seed ≡ For r → (session_of s).wrong_keys < 3
+few_then : (s : List ℕ) (r : Resource) → (session_of s).seed ≡ Some r → (session_of s).wrong_keys < 3
 unfolding session_of
 few_then s r e = leb-false 3 (wrong_keys_of s) (seed_few s r e)
 
@@ -143,7 +132,7 @@ module _ (s cal meas : List ℕ) (b : ℕ) (c : consistent s ≡ true) where
     found_wrong e = (subst (λ (x : Deed). Performed s cal meas b x p) e w).found
 
     not_wrong : says_wrong p (reply_in d (session_of s) cal meas) ≡ false → d ≢ WrongKey
-    not_wrong f e = false_true (sym f ∙ ap (λ (x : Deed). says_wrong p (reply_in x (session_of s) cal meas)) e ∙ says p (session_of s) cal meas (found_wrong e))
+    not_wrong f e = false≢true (sym f ∙ ap (λ (x : Deed). says_wrong p (reply_in x (session_of s) cal meas)) e ∙ says p (session_of s) cal meas (found_wrong e))
 
     wrong_few : d ≡ WrongKey → (session_of s).wrong_keys < 3
     wrong_few e = let k : Wrong p (session_of s) (session_of s).seed = wrong_by (session_of s).seed p (session_of s) (found_wrong e) in few_then s k.resource k.out
@@ -160,9 +149,9 @@ module _ (s cal meas : List ℕ) (b : ℕ) (c : consistent s ≡ true) where
   counted_by (rests r n f) =
       let still : judged_wrong (only r (read_by s b) cal) s b ≡ false = resting says_wrong s cal b r n in
       record {
-        few = λ t. absurd (false_true (sym still ∙ t));
-        more = λ t. absurd (false_true (sym still ∙ t));
-        locked = λ t. absurd (false_true (sym still ∙ t));
+        few = λ t. cc;
+        more = λ t. cc;
+        locked = λ t. cc;
         same = λ _. ap (λ (x : Session). x.wrong_keys) (read_session s b c);
       }
   counted_by (acts d p w) = record {
@@ -177,10 +166,8 @@ module _ (s cal meas : List ℕ) (b : ℕ) (c : consistent s ≡ true) where
 
   -- a lock that is shut after three wrong keys stays so
   byte_locked : (r : Resource) → (session_of s).wrong_keys ≡ 3 → (session_of s).unlocked r ≡ false → (session_of (receive_of s cal meas b).state).unlocked r ≡ false
-  byte_locked r three e = go ((session_of (receive_of s cal meas b).state).unlocked r) refl where
-    go : (x : Bool) → (session_of (receive_of s cal meas b).state).unlocked r ≡ x → (session_of (receive_of s cal meas b).state).unlocked r ≡ false
-    go true t = absurd (no_right_key s b r three (opens_by_key_lem s cal meas b r c e t))
-    go false f = f
+  byte_locked r three e =
+      false_from_ne_true ((session_of (receive_of s cal meas b).state).unlocked r) (λ t. no_right_key s b r three (opens_by_key_lem s cal meas b r c e t))
 
   -- and three they stay
   byte_three : (session_of s).wrong_keys ≡ 3 → (session_of (receive_of s cal meas b).state).wrong_keys ≡ 3

@@ -1,30 +1,25 @@
 -- Each public function's promise leaves one outcome: two outcomes that meet it are the same, result, next state and every lent byte. The promise is the
 -- function's own contract, as its callers' proofs read it. Assumes nothing.
-use Prim.Native.Nat.{ℕ}
-use mathlib.Core.Path.{◌≡◌, sym, ◌∙◌}
-use mathlib.Core.List.{List}
+use Rattle.std.proofs.Common.{◌≡◌, ℕ, List, sym, ◌∙◌}
 use Rattle.line.specs.declared.Taken.{Taken}
-use Rattle.line.specs.declared.Written.{Written}
+use Rattle.line.specs.Values.{Written}
 use Rattle.state.specs.declared.Generator.{Generator}
-use Rattle.words.specs.declared.Received.{Received}
-use Rattle.words.specs.declared.Evented.{Evented}
-use Rattle.words.specs.declared.Slotted.{Slotted}
-use Rattle.words.specs.declared.PoweredUp.{PoweredUp}
+use Rattle.words.specs.Values.{Received, Evented, Slotted, PoweredUp}
 use Rattle.line.proofs.take.Reads as take
 use Rattle.line.proofs.write.Reads as write
 use Rattle.line.proofs.next_ctr.Reads as next_ctr_reads
-use Rattle.line.proofs.Outcome.number.Reads as outcome_number
-use Rattle.line.proofs.Written.number.Reads as written_number
+use Rattle.line.proofs.Taken.number.Reads as outcome_number
+use Rattle.line.proofs.written_number.Reads as written_number
 use Rattle.session.proofs.power_up.Reads as power_up_reads
 use Rattle.session.proofs.receive_byte.Reads as receive_byte_reads
 use Rattle.session.proofs.receive_bytes.Reads as receive_bytes
 use Rattle.session.proofs.event.Reads as event
 use Rattle.session.proofs.slot.Reads as slot
 use Rattle.session.proofs.state_size.Reads as state_size_reads
-use Rattle.words.proofs.Received.number.Reads as received_number
-use Rattle.words.proofs.Evented.number.Reads as evented_number
-use Rattle.words.proofs.Slotted.number.Reads as slotted_number
-use Rattle.words.proofs.PoweredUp.number.Reads as powered_up_number
+use Rattle.words.proofs.numbers.ResultHeardNoStateNumbered.number.Reads as received_number
+use Rattle.words.proofs.numbers.ResultCountedEventRefusalNumbered.number.Reads as evented_number
+use Rattle.words.proofs.numbers.ResultOptionUsizeSlotRefusalNumbered.number.Reads as slotted_number
+use Rattle.words.proofs.numbers.ResultUnitNoStateNumbered.number.Reads as powered_up_number
 use Rattle.state.proofs.Generator.new.Reads as generator_new
 use Rattle.state.proofs.Generator.next.Reads as generator_next
 use Rattle.slave.proofs.xcp_power_up.Reads as xcp_power_up_reads

@@ -1,19 +1,11 @@
 -- Whose turn it is has something waiting, and with a packet of a list waiting its turn comes. Assumes nothing.
-use Prim.Native.Nat.{ℕ, suc, ◌+◌, ◌-◌, ◌%◌, ◌≤◌, ◌<◌}
-use mathlib.Core.Path.{◌≡◌, refl, sym, ap, ◌∙◌, subst}
-use mathlib.Core.Logic.{◌≢◌}
-use mathlib.Core.Bool.{true, false}
-use mathlib.Core.List.{List, [], ◌∷◌}
-use native.Mathlib.Omega.{arith}
-use native.Mathlib.Nat.{mod-lt}
-use native.Mathlib.Decide.{ℕ_discrete}
-use borrow.Author.Tests.{lt-ltb}
-use lib.ListN.{length}
+use Rattle.std.proofs.Common.{◌≡◌, ◌≢◌, ℕ, suc, ◌+◌, ◌-◌, ◌%◌, ◌≤◌, ◌<◌, true, false, List, [], ◌∷◌, length, Some, None, refl, sym, ap, ◌∙◌, subst, arith, mod-lt, lt-ltb}
+use Rattle.std.proofs.Math.Decide.{ℕ_discrete}
 use Rattle.line.proofs.Laws.{cond_ind}
 use Rattle.model.specs.Model.{DaqList, Session, Slave, first_of, runs_in, has_packet, in_stores, waiting_in, has_answer}
 use Rattle.model.specs.Calls.{packet_gone, packet_in, or_else, round_in, packet_from, list_after, turn_in}
-use Rattle.model.specs.declared.Turn.{Turn}
-use Rattle.model.specs.declared.Turn.TheVariants.{Nobody, Answer, Packet}
+use Rattle.model.specs.Turn.{Turn}
+use Rattle.model.specs.declared.Sender.TheVariants.{Answer, Packet}
 use Rattle.lists.proofs.Round.{lists_hold, turn_holds}
 use Rattle.model.proofs.Bounded.{either}
 use Rattle.views.proofs.TurnLaws as turns
@@ -31,8 +23,8 @@ pub record Next (v : Slave) (j o : ℕ) : Type 0 where
 
 -- what list j has
 pub data Has (v : Slave) (j : ℕ) : Turn → Type 0 where
-  nothing : waiting_in v.session j ≡ [] → Has v j Nobody
-  packet : (o : ℕ) → Next v j o → Has v j (Packet j o)
+  nothing : waiting_in v.session j ≡ [] → Has v j None
+  packet : (o : ℕ) → Next v j o → Has v j (Some (Packet j o))
 
 module _ (v : Slave) (j : ℕ) (q : j < v.session.lists) where
   abbrev c : Session
@@ -66,9 +58,9 @@ module _ (v : Slave) (j : ℕ) (q : j < v.session.lists) where
 
 -- ---- whose turn it is has something waiting
 pub data Fair (v : Slave) : Turn → Type 0 where
-  nobody : Fair v Nobody
-  answer : has_answer v ≡ true → Fair v Answer
-  list : (j o : ℕ) → Next v j o → Fair v (Packet j o)
+  nobody : Fair v None
+  answer : has_answer v ≡ true → Fair v (Some Answer)
+  list : (j o : ℕ) → Next v j o → Fair v (Some (Packet j o))
 
 fair_has : (v : Slave) (j : ℕ) (t : Turn) → Has v j t → Fair v t
 fair_has v j _ (nothing e) = nobody
@@ -83,21 +75,18 @@ fair v = turn_holds (Fair v) v nobody (λ j q. fair_has v j (packet_in v.session
 -- ---- while a packet of list l waits, and its turn is `far` lists on: an answer goes, after a frame that was none; or its own packet; or that of a
 -- list behind which it is nearer
 pub data Moves (v : Slave) (l far : ℕ) : Turn → Type 0 where
-  by_answer : has_answer v ≡ true → v.last_answer ≡ false → Moves v l far Answer
-  by_own : (o : ℕ) → Next v l o → Moves v l far (Packet l o)
-  by_other : (j o : ℕ) → Next v j o → l ≢ j → (near : ℕ) → near < far → (list_after v.session.lists j + near) % v.session.lists ≡ l → Moves v l far (Packet j o)
+  by_answer : has_answer v ≡ true → v.last_answer ≡ false → Moves v l far (Some Answer)
+  by_own : (o : ℕ) → Next v l o → Moves v l far (Some (Packet l o))
+  by_other : (j o : ℕ) → Next v j o → l ≢ j → (near : ℕ) → near < far → (list_after v.session.lists j + near) % v.session.lists ≡ l → Moves v l far (Some (Packet j o))
 
-or_moves : (v : Slave) (l far : ℕ) (t : Turn) → Moves v l far t → Moves v l far (or_else t Answer)
+or_moves : (v : Slave) (l far : ℕ) (t : Turn) → Moves v l far t → Moves v l far (or_else t (Some Answer))
 or_moves v l far _ (by_answer w f) = by_answer w f
 or_moves v l far _ (by_own o x) = by_own o x
 or_moves v l far _ (by_other j o x n near b e) = by_other j o x n near b e
 
-pub nothing_some : (p : List ℕ) (ps : List (List ℕ)) → [] ≡ p ∷ ps → ⊥
-nothing_some p ps x = let y : ◌≡◌ {A = ℕ} 0 (suc (length ps)) = ap length x in omega arith
-
 -- a list that has a packet has a turn
-has_some : (v : Slave) (l : ℕ) (p : List ℕ) (ps : List (List ℕ)) → waiting_in v.session l ≡ p ∷ ps → (t : Turn) → Has v l t → t ≢ Nobody
-has_some v l p ps e _ (nothing w) n = absurd (nothing_some p ps (sym w ∙ e))
+has_some : (v : Slave) (l : ℕ) (p : List ℕ) (ps : List (List ℕ)) → waiting_in v.session l ≡ p ∷ ps → (t : Turn) → Has v l t → t ≢ None
+has_some v l p ps e _ (nothing w) n = absurd cc
 has_some v l p ps e _ (packet o x) n = packet_some l o n
 
 module _ (v : Slave) (l : ℕ) (p : List ℕ) (ps : List (List ℕ)) (q : l < v.session.lists) (e : waiting_in v.session l ≡ p ∷ ps) (f : Far v.session.lists v.session.round l) where
@@ -108,19 +97,19 @@ module _ (v : Slave) (l : ℕ) (p : List ℕ) (ps : List (List ℕ)) (q : l < v.
   L = s.lists
 
   -- a list that the round found, i lists on
-  found_moves : (i : ℕ) → i ≤ f.far → (t : Turn) → t ≢ Nobody → Has v ((s.round + i) % L) t → Moves v l f.far t
+  found_moves : (i : ℕ) → i ≤ f.far → (t : Turn) → t ≢ None → Has v ((s.round + i) % L) t → Moves v l f.far t
   found_moves i h _ n (nothing w) = absurd (n refl)
   found_moves i h _ n (packet o x) = elim (ℕ_discrete l ((s.round + i) % L)) [ yes y ↦ own y | no y ↦ other y ] where
     j : ℕ
     j = (s.round + i) % L
 
-    own : l ≡ j → Moves v l f.far (Packet j o)
-    own y = subst (λ (m : ℕ). Moves v m f.far (Packet j o)) (sym y) (by_own o x)
+    own : l ≡ j → Moves v l f.far (Some (Packet j o))
+    own y = subst (λ (m : ℕ). Moves v m f.far (Some (Packet j o))) (sym y) (by_own o x)
 
     before : l ≢ j → i < f.far
     before y = elim (ℕ_discrete i f.far) [ yes z ↦ absurd (y (sym (ap (λ (m : ℕ). (s.round + m) % L) z ∙ f.turn))) | no z ↦ omega arith ]
 
-    other : l ≢ j → Moves v l f.far (Packet j o)
+    other : l ≢ j → Moves v l f.far (Some (Packet j o))
     other y = by_other j o x y (f.far - (i + 1)) (less (before y)) (nearer L s.round l f.far i (omega arith) f.turn (before y)) where
       less : i < f.far → f.far - (i + 1) < f.far
       less z = omega arith
@@ -128,7 +117,7 @@ module _ (v : Slave) (l : ℕ) (p : List ℕ) (ps : List (List ℕ)) (q : l < v.
   -- the next list round
   round_moves : Moves v l f.far (round_in s)
   round_moves =
-      let there : packet_in s ((s.round + f.far) % L) ≢ Nobody = rw f.turn (has_some v l p ps e (packet_in s l) (has v l q)) in
+      let there : packet_in s ((s.round + f.far) % L) ≢ None = rw f.turn (has_some v l p ps e (packet_in s l) (has v l q)) in
       let r = round_finds L (packet_in s) s.round f.far L f.few there in
       found_moves r.steps r.near (round_in s) r.some (rw r.whose (has v ((s.round + r.steps) % L) (mod-lt (s.round + r.steps) (omega arith))))
 

@@ -1,9 +1,6 @@
 -- What a change leaves: all but its own bytes, and states that begin alike begin alike after the same stores. Assumes nothing.
-use Prim.Native.Nat.{ℕ, suc}
-use mathlib.Core.List.{List, [], ◌∷◌}
-use native.Mathlib.Nat.{le_refl}
-use lib.ListN.{set}
-use lib.Seq.{sets}
+use Rattle.std.proofs.Common.{ℕ, suc, List, [], ◌∷◌, set, le_refl}
+use Rattle.std.proofs.Math.Seq.{sets}
 use Rattle.fields.proofs.Frames.{Only, only_take, only_drop}
 use Rattle.fields.proofs.Readers.{Same, same_set}
 use Rattle.demands.specs.Waiting.{SameOutside}

@@ -1,26 +1,19 @@
 -- What waits of a list leaves whole: every run goes for the list as the ranking asks. Assumes nothing.
-use Prim.Native.Nat.{ℕ, suc, ◌+◌, ◌-◌, ◌*◌, ◌%◌, ◌≤◌, ◌<◌}
-use mathlib.Core.Path.{◌≡◌, refl, sym, ap, ◌∙◌, subst}
-use mathlib.Core.Bool.{Bool, true, false, cond}
-use mathlib.Core.List.{List, [], ◌∷◌, ◌++◌, append-nil}
-use native.Mathlib.Omega.{arith}
-use native.Mathlib.Nat.{lt_of_not-le}
-use native.Mathlib.Decide.{dec_le}
-use lib.Dec.{ltb}
-use lib.ListN.{length}
+use Rattle.std.proofs.Common.{◌≡◌, ℕ, suc, ◌+◌, ◌-◌, ◌*◌, ◌%◌, ◌≤◌, ◌<◌, Bool, true, false, cond, List, [], ◌∷◌, ◌++◌, length, Some, ltb, refl, sym, ap, ◌∙◌, subst, arith, append-nil, inl, inr}
+use Rattle.std.proofs.lemmas.Bool.{cases_lt}
 use Rattle.line.specs.Message.{room}
 use Rattle.line.proofs.Laws.{cond_ind}
 use Rattle.state.specs.State.{consistent}
 use Rattle.session.specs.Receive.{receive_of}
 use Rattle.lists.specs.Event.{event_of}
 use Rattle.lists.specs.Slot.{slot_of}
-use Rattle.model.specs.declared.Turn.{Turn}
-use Rattle.model.specs.declared.Turn.TheVariants.{Answer, Packet}
+use Rattle.model.specs.Turn.{Turn}
 use Rattle.state.proofs.Consistent.{consistent_size}
 use Rattle.fields.proofs.Kept.{receive_kept, event_kept, slot_kept}
 use Rattle.model.specs.Model.{Session, Slave, first_of, runs_in, waiting_in}
 use Rattle.model.specs.Calls.{turn_in, packet_from, packet_for, answer_gone, without_packet, list_after, packet_gone}
 use Rattle.model.specs.View.{session_of, view_of}
+use Rattle.model.specs.declared.Sender.TheVariants.{Answer, Packet}
 use Rattle.model.proofs.Bounded.{either}
 use Rattle.views.proofs.Listed.{listed, runs_listed}
 use Rattle.views.proofs.Waits.{rests, odts_kept, sampled_empty}
@@ -31,13 +24,12 @@ use Rattle.demands.specs.Waiting.{waiting_of, sample_of, is_of, packets_in}
 use Rattle.demands.specs.Demand3.{Undisturbed, Begins}
 use Rattle.views.specs.Events.{takes_sample}
 use Rattle.views.proofs.EventLaws.{sampled_if}
-use Rattle.views.proofs.Listed.{listed}
 use Rattle.demands.specs.Kept.{gains}
 use Rattle.demands.specs.Ranking.{Proceeds, all_gone, at_end, answer_first, own_packet, other_list}
 use Rattle.demands.proofs.Ranking.{leaves_next, leaves_whole}
 use Rattle.views.proofs.Round.{Far, far_of, last_round}
 use Rattle.demands.proofs.Deeds.{SameNumbers, SameLists}
-use Rattle.demands.proofs.Turns.{Next, Moves, by_answer, by_own, by_other, nothing_some, moves}
+use Rattle.demands.proofs.Turns.{Next, Moves, by_answer, by_own, by_other, moves}
 use Rattle.demands.proofs.Sends.{next_low, turned, frames_of, slot_shows, slot_stays, slot_sends, slot_silent}
 use Rattle.demands.proofs.Carried.{carried_append, carried_alike, carries, carries_none, packet_own, packet_other, of_same, answer_answers, answer_of_none}
 use Rattle.demands.proofs.ByteKeeps.{SameSent, byte_waiting, byte_lists, byte_sent}
@@ -46,7 +38,7 @@ use Rattle.demands.proofs.Soon.{counted, uncounted}
 
 -- ---- a list of which something waits runs
 waits_runs : (c : Session) (l : ℕ) (p : List ℕ) (ps : List (List ℕ)) → waiting_in c l ≡ p ∷ ps → runs_in c l ≡ true
-waits_runs c l p ps e = either (runs_in c l) (λ r. r) (λ r. absurd (nothing_some p ps (sym (rests c.opened (first_of c l) (c.list l) r) ∙ e)))
+waits_runs c l p ps e = either (runs_in c l) (λ r. r) (λ r. let n = rests c.opened (first_of c l) (c.list l) r in absurd cc)
 
 -- ---- what the round sees of list l in a state that has the lists of session c: its turn is `on` lists on
 record Seen (c : Session) (l on : ℕ) (last : Bool) (q : List (List ℕ)) (s : List ℕ) : Type 0 where
@@ -81,7 +73,7 @@ no_gain : (s cal meas : List ℕ) (event clock l : ℕ) (p : List ℕ) (ps : Lis
 no_gain s cal meas event clock l p ps e =
     cond_ind (λ (x : List (List ℕ)). x ≡ []) (ltb 1 event) (λ _. refl) (λ _. go (takes_sample (session_of s) event l) refl) where
       go : (t : Bool) → takes_sample (session_of s) event l ≡ t → cond t (sample_of s l clock cal meas) [] ≡ []
-      go true z = absurd (nothing_some p ps (sym (sampled_empty (session_of s) l event (sampled_if (session_of s) (listed s) event l z)) ∙ e))
+      go true z = let n = sampled_empty (session_of s) l event (sampled_if (session_of s) (listed s) event l z) in absurd cc
       go false z = refl
 
 event_seen : (c : Session) (s cal meas : List ℕ) (event clock l on : ℕ) (last : Bool) (p : List ℕ) (ps : List (List ℕ)) → Seen c l on last (p ∷ ps) s
@@ -116,7 +108,7 @@ module _ (c : Session) (l : ℕ) (cs : List Call) (later : Later c l cs) (s out 
   sent_of = packets_in c l (frames ours s (SendingSlot out ∷ cs))
 
   -- an answer went
-  by_the_answer : (on : ℕ) (q : List (List ℕ)) → Seen c l on false q s → turn_in v ≡ Answer → is_of c l v.answer ≡ false → Proceeds L q (suc on) false (suc (slots cs)) sent_of
+  by_the_answer : (on : ℕ) (q : List (List ℕ)) → Seen c l on false q s → turn_in v ≡ Some Answer → is_of c l v.answer ≡ false → Proceeds L q (suc on) false (suc (slots cs)) sent_of
   unfolding view_of
   by_the_answer on q x e n =
       let fit : consistent s ≡ true = x.fit in
@@ -130,11 +122,11 @@ module _ (c : Session) (l : ℕ) (cs : List Call) (later : Later c l cs) (s out 
         few = x.few;
         turn = ap (λ (w : Slave). (w.session.round + on) % L) gone ∙ x.turn;
       } in
-      subst (λ (z : List (List ℕ)). Proceeds L q (suc on) false (suc (slots cs)) z) (sym (sent_on c l s out cs Answer [] fit r e (carries_none (is_of c l) v.ctr v.answer n)))
+      subst (λ (z : List (List ℕ)). Proceeds L q (suc on) false (suc (slots cs)) z) (sym (sent_on c l s out cs (Some Answer) [] fit r e (carries_none (is_of c l) v.ctr v.answer n)))
       (answer_first (later on true q (slot_of s out).state y k))
 
   -- a packet of list j went, and then list l is `near` lists on
-  seen_packet : (j o near : ℕ) (q : List (List ℕ)) → SameNumbers c v.session → consistent s ≡ true → turn_in v ≡ Packet j o → waiting_in (packet_gone j o v).session l ≡ q → near < L
+  seen_packet : (j o near : ℕ) (q : List (List ℕ)) → SameNumbers c v.session → consistent s ≡ true → turn_in v ≡ Some (Packet j o) → waiting_in (packet_gone j o v).session l ≡ q → near < L
       → (list_after L j + near) % L ≡ l → Seen c l near false q (slot_of s out).state
   unfolding view_of
   seen_packet j o near q same fit e w few t =
@@ -160,23 +152,23 @@ module _ (c : Session) (l : ℕ) (cs : List Call) (later : Later c l cs) (s out 
     other_fails : (l ≡ j → ⊥) → is_of c l p ≡ false
     other_fails ne = sym (of_same c v.session same l p) ∙ packet_other v.session j o (next_low s j o n) l n.in_list ne
 
-  by_its_own : (on : ℕ) (last : Bool) (o : ℕ) → l < L → SameNumbers c v.session → Next v l o → consistent s ≡ true → turn_in v ≡ Packet l o
+  by_its_own : (on : ℕ) (last : Bool) (o : ℕ) → l < L → SameNumbers c v.session → Next v l o → consistent s ≡ true → turn_in v ≡ Some (Packet l o)
       → Proceeds L (waiting_in v.session l) (suc on) last (suc (slots cs)) sent_of
   by_its_own on last o inside same n fit e =
       let y : Seen c l (L - 1) false n.rest (slot_of s out).state = seen_packet l o (L - 1) n.rest same fit e n.left (omega arith) (last_round L l inside) in
       let whole : suc (L - 1) ≡ L = omega arith in
       let g : Proceeds L n.rest L false (slots cs) (packets_in c l (frames ours (slot_of s out).state cs)) =
       subst (λ (m : ℕ). Proceeds L n.rest m false (slots cs) (packets_in c l (frames ours (slot_of s out).state cs))) whole (later (L - 1) false n.rest (slot_of s out).state y k) in
-      rw (n.waiting, sent_on c l s out cs (Packet l o) (packet_from v.session l o ∷ []) fit r e (carries (is_of c l) v.ctr (packet_from v.session l o) (own_passes same l o n))) (own_packet g)
+      rw (n.waiting, sent_on c l s out cs (Some (Packet l o)) (packet_from v.session l o ∷ []) fit r e (carries (is_of c l) v.ctr (packet_from v.session l o) (own_passes same l o n))) (own_packet g)
 
   by_another : (on : ℕ) (last : Bool) (q : List (List ℕ)) (j o near : ℕ) → Seen c l on last q s → SameNumbers c v.session → Next v j o → (l ≡ j → ⊥) → near < on
-      → (list_after L j + near) % L ≡ l → turn_in v ≡ Packet j o → Proceeds L q (suc on) last (suc (slots cs)) sent_of
+      → (list_after L j + near) % L ≡ l → turn_in v ≡ Some (Packet j o) → Proceeds L q (suc on) last (suc (slots cs)) sent_of
   unfolding view_of
   by_another on last q j o near x same n ne b t e =
       let fit : consistent s ≡ true = x.fit in
       let y : Seen c l near false q (slot_of s out).state = seen_packet j o near q same fit e (n.others l ne ∙ x.waiting) (omega (arith, x.few)) t in
       subst (λ (z : List (List ℕ)). Proceeds L q (suc on) last (suc (slots cs)) z)
-      (sym (sent_on c l s out cs (Packet j o) [] fit r e (carries_none (is_of c l) v.ctr (packet_from v.session j o) (other_fails same j o n ne))))
+      (sym (sent_on c l s out cs (Some (Packet j o)) [] fit r e (carries_none (is_of c l) v.ctr (packet_from v.session j o) (other_fails same j o n ne))))
       (other_list (suc near) (omega arith) (omega arith) (later near false q (slot_of s out).state y k))
 
   by_turn : (on : ℕ) (last : Bool) (q : List (List ℕ)) (t : Turn) → l < L → Seen c l on last q s → SameNumbers c v.session → turn_in v ≡ t → Moves v l on t
@@ -199,7 +191,7 @@ goes_so c l (Byte cal meas b ∷ cs) on last (p ∷ ps) s x k = goes_so c l cs o
 goes_so c l (Event cal meas event clock ∷ cs) on last [] s x k = all_gone
 goes_so c l (Event cal meas event clock ∷ cs) on last (p ∷ ps) s x k = goes_so c l cs on last (p ∷ ps) (event_of s cal meas event clock).state (event_seen c s cal meas event clock l on last p ps x) k
 goes_so c l (SendingSlot out ∷ cs) on last [] s x k = all_gone
-goes_so c l (SendingSlot out ∷ cs) on last (p ∷ ps) s x k = elim (dec_le room (length out)) [ yes r ↦ with_room r (goes_so c l cs) | no r ↦ without (lt_of_not-le r) (goes_so c l cs) ] where
+goes_so c l (SendingSlot out ∷ cs) on last (p ∷ ps) s x k = elim (cases_lt (length out) room) [ inl r ↦ without r (goes_so c l cs) | inr r ↦ with_room r (goes_so c l cs) ] where
   with_room : room ≤ length out → Later c l cs → Proceeds c.lists (p ∷ ps) (suc on) last (slots (SendingSlot out ∷ cs)) (packets_in c l (frames ours s (SendingSlot out ∷ cs)))
   with_room r later =
       let there : l < (session_of s).lists = runs_listed (session_of s) (listed s) l (waits_runs (session_of s) l p ps x.waiting) in

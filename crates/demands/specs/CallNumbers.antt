@@ -1,13 +1,9 @@
 -- The numbers that the calls return, 0 to 10, and the values beside them, in document 01's words. That the numbers 0 and 2 to 7 change the reader's place
 -- alone is `unanswered` of Demand1.
-use Rattle.std.specs.Prelude.{ℕ, ◌+◌, ◌*◌, ◌≤◌, ◌<◌, ◌≡◌, ◌≢◌, ◌⊎◌, Bool, true, cond, ◌&&◌, List, [], ◌∷◌, eqb, leb, length, take}
-use Rattle.std.proofs.Math.Option.{some}
+use Rattle.std.specs.Prelude.{ℕ, ◌+◌, ◌*◌, ◌≤◌, ◌<◌, ◌≡◌, ◌≢◌, ◌⊎◌, Bool, true, cond, ◌&&◌, List, [], ◌∷◌, eqb, leb, length, take, Some}
 use Rattle.state.specs.State.{consistent}
 use Rattle.words.specs.Number.{received_number, evented_number, slotted_number, powered_up_number, evented_value, slotted_value, received_c, evented_c, slotted_c, powered_up_c}
-use Rattle.words.specs.declared.Received.{Received}
-use Rattle.words.specs.declared.Evented.{Evented}
-use Rattle.words.specs.declared.Slotted.{Slotted}
-use Rattle.words.specs.declared.PoweredUp.{PoweredUp}
+use Rattle.words.specs.Values.{Received, Evented, Slotted, PoweredUp}
 use Rattle.model.specs.Model.{byte, Bytes, has_answer}
 use Rattle.model.specs.View.{session_of, view_of}
 use Rattle.views.specs.Events.{takes_sample, misses_sample, how_many_of}
@@ -68,7 +64,7 @@ pub data Unmarked (s : List ℕ) : Type 0 where
 
 pub record CallNumbers (v : AnySlave) : Type 0 where
   -- a whole message on the line is just what every law of a command is over
-  pub whole_is : (s : List ℕ) (b : ℕ) (p : List ℕ) → consistent s ≡ true → (comes_at s b ≡ Whole p → packet_ended s b ≡ some p) × (packet_ended s b ≡ some p → comes_at s b ≡ Whole p)
+  pub whole_is : (s : List ℕ) (b : ℕ) (p : List ℕ) → consistent s ≡ true → (comes_at s b ≡ Whole p → packet_ended s b ≡ Some p) × (packet_ended s b ≡ Some p → comes_at s b ≡ Whole p)
   -- a received byte: 0 to 7
   pub received : (s cal meas : List ℕ) (b : ℕ) → consistent s ≡ true
       → ByteTells (v.receive s cal meas b).received (byte_number (comes_at s b) (has_answer (view_of s)) (session_of s).opened)

@@ -1,12 +1,11 @@
 -- Nobody waits for ever.
-use Rattle.std.specs.Prelude.{ℕ, ◌*◌, ◌≤◌, ◌<◌, ◌≡◌, true, false, List, [], ◌∷◌, ◌++◌, length}
-use Rattle.std.proofs.Math.Option.{some}
+use Rattle.std.specs.Prelude.{ℕ, ◌*◌, ◌≤◌, ◌<◌, ◌≡◌, true, false, List, [], ◌∷◌, ◌++◌, length, Some, Ok}
 use Rattle.line.specs.Message.{most, room, frame}
 use Rattle.state.specs.Layout.{place_at, answer_at}
 use Rattle.state.specs.State.{consistent}
 use Rattle.model.specs.Model.{has_answer}
 use Rattle.model.specs.View.{session_of, view_of}
-use Rattle.words.specs.declared.Received.TheVariants.{Answered, Unread}
+use Rattle.words.specs.declared.Heard.TheVariants.{Answered, Unread}
 use Rattle.views.specs.Events.{takes_sample}
 use Rattle.demands.specs.Slave.{AnySlave}
 use Rattle.demands.specs.Runs.{Call, SendingSlot, after_call, run, frames, sends, slots, received, Never}
@@ -28,7 +27,7 @@ pub record LeavesWithin (n : ℕ) (v : AnySlave) (s : List ℕ) (a : List ℕ) (
 
 -- byte b ends command p in state s: it is answered, and the answer that the definitions give leaves in one of the first n counted slots after
 pub record AnsweredSoon (n : ℕ) (v : AnySlave) (s cal meas : List ℕ) (b : ℕ) (p : List ℕ) (later : List Call) : Type 0 where
-  pub number : (v.receive s cal meas b).received ≡ Answered
+  pub number : (v.receive s cal meas b).received ≡ Ok Answered
   pub waiting : has_answer (view_of (v.receive s cal meas b).state) ≡ true
   pub answer : (view_of (v.receive s cal meas b).state).answer ≡ answer_to p (session_of s) cal meas
   pub leaves : n ≤ slots later → LeavesWithin n v (v.receive s cal meas b).state (answer_to p (session_of s) cal meas) later
@@ -77,8 +76,8 @@ pub record Demand3 (v : AnySlave) : Type 0 where
   -- so does an answer that waits, of whatever command
   pub leaves : (s : List ℕ) (cs : List Call) → consistent s ≡ true → has_answer (view_of s) ≡ true → 2 ≤ slots cs → LeavesWithin 2 v s (view_of s).answer cs
   -- good messages meanwhile are number 6 and change the reader's place alone
-  pub meanwhile : (s cal meas : List ℕ) (b : ℕ) (p : List ℕ) → consistent s ≡ true → has_answer (view_of s) ≡ true → packet_ended s b ≡ some p
-      → ((v.receive s cal meas b).received ≡ Unread) × ChangesOnly place_at answer_at v s cal meas b
+  pub meanwhile : (s cal meas : List ℕ) (b : ℕ) (p : List ℕ) → consistent s ≡ true → has_answer (view_of s) ≡ true → packet_ended s b ≡ Some p
+      → ((v.receive s cal meas b).received ≡ Ok Unread) × ChangesOnly place_at answer_at v s cal meas b
   -- with L lists the next packet of a list leaves by the counted slot 2 L, p packets of it by 2 L p, and so a sample of p packets
   pub next : NextBy (λ L. 2 * L) v
   pub whole : WholeBy (λ L p. 2 * (L * p)) v

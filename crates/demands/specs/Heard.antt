@@ -1,8 +1,6 @@
 -- What a received byte means to a state: the packet whose message it ends, and the deed that this leads to.
-use Rattle.std.specs.Prelude.{ℕ, ◌≡◌, Bool, true, false, cond, not, List, eqb, ltb, length}
-use Rattle.std.proofs.Math.Option.{Option, none, some}
-use Rattle.line.specs.declared.Outcome.{Outcome}
-use Rattle.line.specs.declared.Outcome.TheVariants.{Nothing, Good, BadLength, BadEscape, BadChecksum, CutOff, ShortBuffer}
+use Rattle.std.specs.Prelude.{ℕ, ◌≡◌, Bool, true, false, cond, not, List, eqb, ltb, length, Option, Some, None, Ok, Err}
+use Rattle.line.specs.Values.{Outcome}
 use Rattle.state.specs.Bytes.{block, u32_at}
 use Rattle.state.specs.Generator.{key_of}
 use Rattle.session.specs.Receive.{Step, fed_of, read_on}
@@ -14,20 +12,15 @@ use Rattle.model.specs.Answers.{command_in}
 use Rattle.model.specs.Whole.{fed_in}
 use Rattle.model.specs.View.{session_of, view_of}
 use Rattle.words.specs.declared.Resource.{Resource}
-use Rattle.words.specs.declared.Seed.{Seed}
-use Rattle.words.specs.declared.Seed.TheVariants.{None, For}
+use Rattle.words.specs.Values.{Seed}
 use Rattle.model.specs.declared.Deed.{Deed}
 use Rattle.model.specs.declared.Deed.TheVariants.{Refuse, RefuseSize, WrongKey, Connect, Disconnect, Status, Synch, NoSeed, GiveSeed, Unlock, SetMta, Upload, Checksum, Download, ClearList, SetPointer, ClearEntry, WriteEntry, SetMode, Stop, Start, KeepRunning, Select, StopAll, StartSelected, StopSelected, ProcessorInfo, ResolutionInfo, FreeLists, AllocLists, AllocOdts, AllocEntries}
 
 -- the packet of a good message that has just ended
 abbrev pub packet_by : Outcome → List ℕ → Option (List ℕ)
-packet_by Nothing m = none
-packet_by (Good ctr at n) m = some (block m at n)
-packet_by BadLength m = none
-packet_by BadEscape m = none
-packet_by BadChecksum m = none
-packet_by CutOff m = none
-packet_by ShortBuffer m = none
+packet_by (Ok None) m = None
+packet_by (Ok (Some good)) m = Some (block m good.at good.len)
+packet_by (Err fault) m = None
 
 abbrev pub packet_ended : List ℕ → ℕ → Option (List ℕ)
 packet_ended s b = packet_by (fed_in b (view_of s)).taken.outcome (fed_in b (view_of s)).message
@@ -38,7 +31,7 @@ read_by s b = read_on s (fed_of s b)
 
 -- byte b ends a whole good message with packet p, while a session is open and no answer waits
 pub record Commands (s : List ℕ) (b : ℕ) (p : List ℕ) : Type 0 where
-  pub ends : packet_ended s b ≡ some p
+  pub ends : packet_ended s b ≡ Some p
   pub opened : (session_of s).opened ≡ true
   pub free : has_answer (view_of s) ≡ false
 
@@ -51,21 +44,21 @@ answer_to p c cal meas = (command_in p c cal meas).answer
 
 -- ---- what is done at byte b, if anything is
 abbrev pub deed_by : Heeding → Option Deed
-deed_by Dropped = none
-deed_by (Obeyed d) = some d
-deed_by Ignored = none
+deed_by Dropped = None
+deed_by (Obeyed d) = Some d
+deed_by Ignored = None
 
 unfoldable pub heeds : Option (List ℕ) → Slave → ℕ → ℕ → Option Deed
-heeds none v nc nm = none
-heeds (some p) v nc nm = deed_by (heeding_in (has_answer v) p v.session nc nm)
+heeds None v nc nm = None
+heeds (Some p) v nc nm = deed_by (heeding_in (has_answer v) p v.session nc nm)
 
 abbrev pub deed_at : List ℕ → List ℕ → List ℕ → ℕ → Option Deed
 deed_at s cal meas b = heeds (packet_ended s b) (view_of s) (length cal) (length meas)
 
 -- ---- a test of the command that byte b ended and of its answer, by what the call did; of no other byte it holds
 abbrev pub of_ended : (List ℕ → List ℕ → Bool) → Option (List ℕ) → List ℕ → Bool
-of_ended test none answer = false
-of_ended test (some p) answer = test p answer
+of_ended test None answer = false
+of_ended test (Some p) answer = test p answer
 
 abbrev pub of_answered : (List ℕ → List ℕ → Bool) → Step → List ℕ → ℕ → Bool
 of_answered test o s b = cond (eqb (received_number o.received) 1) (of_ended test (packet_ended s b) (view_of o.state).answer) false
@@ -79,15 +72,15 @@ key_matches p r c = eqb (u32_at p 2) (key_of r c.generator)
 
 unfoldable pub wrong_key_by : Seed → List ℕ → Session → Bool
 wrong_key_by None p c = false
-wrong_key_by (For r) p c = cond (brings_key p) (not (key_matches p r c)) false
+wrong_key_by (Some r) p c = cond (brings_key p) (not (key_matches p r c)) false
 
 abbrev pub wrong_key : List ℕ → Session → Bool
 wrong_key p c = wrong_key_by c.seed p c
 
 -- byte b ends such a message with a wrong key
 abbrev pub wrong_key_in : Option (List ℕ) → Session → Bool
-wrong_key_in none c = false
-wrong_key_in (some p) c = wrong_key p c
+wrong_key_in None c = false
+wrong_key_in (Some p) c = wrong_key p c
 
 abbrev pub wrong_key_at : List ℕ → ℕ → Bool
 wrong_key_at s b = wrong_key_in (packet_ended s b) (session_of s)
@@ -128,8 +121,8 @@ stops l (AllocOdts j n) c = false
 stops l (AllocEntries j o n) c = false
 
 abbrev pub stops_by : ℕ → Option Deed → Session → Bool
-stops_by l none c = false
-stops_by l (some d) c = stops l d c
+stops_by l None c = false
+stops_by l (Some d) c = stops l d c
 
 -- at byte b list l is stopped or freed, or its session ends or is renewed
 abbrev pub stops_at : ℕ → List ℕ → List ℕ → List ℕ → ℕ → Bool

@@ -1,10 +1,10 @@
 -- Nothing lost, nothing invented: what slots sent, and what waits, is what waited before and what was accepted since.
-use Rattle.std.specs.Prelude.{ℕ, ◌≡◌, true, cond, List, [], ◌∷◌, ◌++◌, ltb}
+use Rattle.std.specs.Prelude.{ℕ, ◌≡◌, true, cond, List, [], ◌∷◌, ◌++◌, ltb, Ok, Err}
 use Rattle.state.specs.State.{consistent}
 use Rattle.model.specs.View.{session_of, view_of}
 use Rattle.views.specs.Events.{takes_sample}
-use Rattle.words.specs.declared.Received.{Received}
-use Rattle.words.specs.declared.Received.TheVariants.{Nothing, Answered, Silent, BadLength, BadEscape, BadChecksum, Unread, CutOff, NoState}
+use Rattle.words.specs.Values.{Received}
+use Rattle.words.specs.declared.Heard.TheVariants.{Nothing, Answered, Silent, BadLength, BadEscape, BadChecksum, Unread, CutOff}
 use Rattle.demands.specs.Slave.{AnySlave}
 use Rattle.demands.specs.Runs.{Call, Byte, Event, SendingSlot, Elsewhere, run, sends, each, frames}
 use Rattle.demands.specs.Heard.{stops_at}
@@ -12,15 +12,15 @@ use Rattle.demands.specs.Waiting.{waiting_answer, waiting_of, sample_of, answers
 
 -- an answer is accepted with number 1 alone
 abbrev pub answer_by : Received → List ℕ → List (List ℕ)
-answer_by Nothing s = []
-answer_by Answered s = (view_of s).answer ∷ []
-answer_by Silent s = []
-answer_by BadLength s = []
-answer_by BadEscape s = []
-answer_by BadChecksum s = []
-answer_by Unread s = []
-answer_by CutOff s = []
-answer_by NoState s = []
+answer_by (Ok Nothing) s = []
+answer_by (Ok Answered) s = (view_of s).answer ∷ []
+answer_by (Ok Silent) s = []
+answer_by (Ok BadLength) s = []
+answer_by (Ok BadEscape) s = []
+answer_by (Ok BadChecksum) s = []
+answer_by (Ok Unread) s = []
+answer_by (Ok CutOff) s = []
+answer_by (Err _) s = []
 
 abbrev pub accepts : AnySlave → List ℕ → Call → List (List ℕ)
 accepts v s (Byte cal meas b) = answer_by (v.receive s cal meas b).received (v.receive s cal meas b).state

@@ -1,5 +1,5 @@
 -- Seeds and keys: the right key to the seed last given opens its lock, and nothing else opens one.
-use Rattle.std.specs.Prelude.{ℕ, ◌<◌, ◌+◌, ◌%◌, ◌^◌, ◌≡◌, true, false, List, [], ◌∷◌, ◌++◌, length, take, drop}
+use Rattle.std.specs.Prelude.{ℕ, ◌<◌, ◌+◌, ◌%◌, ◌^◌, ◌≡◌, true, false, List, [], ◌∷◌, ◌++◌, length, take, drop, Some}
 use Rattle.state.specs.State.{consistent, bit_of}
 use Rattle.model.specs.View.{session_of, view_of}
 use Rattle.demands.specs.Slave.{AnySlave}
@@ -7,7 +7,6 @@ use Rattle.demands.specs.Heard.{Commands, brings_key, key_matches}
 use Rattle.state.specs.Bytes.{bytes32, u32_at}
 use Rattle.words.specs.declared.Resource.{Resource}
 use Rattle.words.specs.declared.Resource.TheVariants.{Calibration, Lists}
-use Rattle.words.specs.declared.Seed.TheVariants.{For}
 use Rattle.demands.specs.Runs.{Call, run}
 use Rattle.demands.specs.Between.{changes_seed, Without}
 use Rattle.views.specs.Words.{key_number}
@@ -20,7 +19,7 @@ other_lock Lists = Calibration
 pub record RightKeyEnds (s : List ℕ) (b : ℕ) (r : Resource) : Type 0 where
   pub packet : List ℕ
   pub command : Commands s b packet
-  pub seed : (session_of s).seed ≡ For r
+  pub seed : (session_of s).seed ≡ Some r
   pub key : brings_key packet ≡ true
   pub right : key_matches packet r (session_of s) ≡ true
 
@@ -45,7 +44,7 @@ pub record SeedOpens (v : AnySlave) (r : Resource) (s t : List ℕ) : Type 0 whe
 pub record Keys (v : AnySlave) : Type 0 where
   -- a right key unlocks its own resource alone
   pub unlocks : (s cal meas : List ℕ) (b : ℕ) (p : List ℕ) (r : Resource) → consistent s ≡ true
-      → Commands s b p → (session_of s).seed ≡ For r → brings_key p ≡ true → key_matches p r (session_of s) ≡ true
+      → Commands s b p → (session_of s).seed ≡ Some r → brings_key p ≡ true → key_matches p r (session_of s) ≡ true
       → ((session_of (v.receive s cal meas b).state).unlocked r ≡ true)
       × ((session_of (v.receive s cal meas b).state).unlocked (other_lock r) ≡ (session_of s).unlocked (other_lock r))
   -- and nothing else opens a lock

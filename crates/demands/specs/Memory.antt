@@ -1,5 +1,5 @@
 -- What was written is read back, at its place and nowhere else.
-use Rattle.std.specs.Prelude.{ℕ, ◌≤◌, ◌+◌, ◌≡◌, ◌⊎◌, true, List, [], ◌∷◌, ◌++◌, length, take, drop}
+use Rattle.std.specs.Prelude.{ℕ, ◌≤◌, ◌+◌, ◌≡◌, ◌⊎◌, true, List, [], ◌∷◌, ◌++◌, length, take, drop, Some}
 use Rattle.state.specs.Layout.{addressable}
 use Rattle.state.specs.State.{consistent}
 use Rattle.model.specs.Model.{byte, Session}
@@ -8,7 +8,6 @@ use Rattle.demands.specs.Slave.{AnySlave}
 use Rattle.demands.specs.Life.{Device, Moment, lived, Hears, after_moment, OfBytes}
 use Rattle.demands.specs.Heard.{Commands, deed_at}
 use Rattle.demands.specs.Waiting.{SameOutside}
-use Rattle.std.proofs.Math.Option.{some}
 use Rattle.state.specs.Bytes.{block, u32_at}
 use Rattle.state.specs.Memory.{pick}
 use Rattle.session.specs.Receive.{Step}
@@ -53,7 +52,7 @@ pub record Brings (v : AnySlave) (number : ℕ) (s cal meas : List ℕ) (b : ℕ
 
 -- it ends no DOWNLOAD or SHORT_DOWNLOAD that writes one of the n bytes from a
 abbrev pub Spares : ℕ → ℕ → Device → List ℕ → ℕ → Type 0
-Spares a n h meas b = (from at many : ℕ) → deed_at h.state h.cal meas b ≡ some (Download from at many) → (at + many ≤ a) ⊎ (a + n ≤ at)
+Spares a n h meas b = (from at many : ℕ) → deed_at h.state h.cal meas b ≡ Some (Download from at many) → (at + many ≤ a) ⊎ (a + n ≤ at)
 
 pub record Memory (v : AnySlave) : Type 0 where
   -- only the first 4,096 bytes of a memory matter, and the rest stays

@@ -1,23 +1,18 @@
 -- Which answers of one call share a number, and which reasons of a refusal share a code: those of one sort, and no others.
-use Rattle.words.specs.declared.Evented.{Evented}
-use Rattle.words.specs.declared.Evented.TheVariants as event
-use Rattle.words.specs.declared.Slotted.{Slotted}
-use Rattle.words.specs.declared.Slotted.TheVariants as slot
+use Rattle.std.specs.Prelude.{None, Ok, Err}
+use Rattle.words.specs.Values.{Evented, event_done, Slotted}
 use Rattle.words.specs.declared.Reason.{Reason}
 use Rattle.words.specs.declared.Reason.TheVariants.{Unknown, TooShort, Locked, Sequence, OutOfRange, DataMissing, ListRuns, ReadOnly, NotInside, CannotStart, PoolFull, WrongKey}
 
 -- an event that is done, whatever it counted
 abbrev pub event_sort : Evented → Evented
-event_sort (event.Done sampled missed) = event.Done 0 0
-event_sort event.BadEvent = event.BadEvent
-event_sort event.NoState = event.NoState
+event_sort (Ok counted) = event_done 0 0
+event_sort (Err refusal) = Err refusal
 
 -- a slot that is done, with a frame or without
 abbrev pub slot_sort : Slotted → Slotted
-slot_sort slot.Idle = slot.Idle
-slot_sort (slot.Sent n) = slot.Idle
-slot_sort slot.NoRoom = slot.NoRoom
-slot_sort slot.NoState = slot.NoState
+slot_sort (Ok sent) = Ok None
+slot_sort (Err refusal) = Err refusal
 
 -- a packet too short and bytes missing in it; a lock and a wrong key
 abbrev pub reason_sort : Reason → Reason

@@ -1,6 +1,5 @@
 -- A command that is taken, in the words of the model: what the laws of document 01's list of commands are over.
-use Rattle.std.specs.Prelude.{ℕ, ◌<◌, ◌≡◌, true, List}
-use Rattle.std.proofs.Math.Option.{some}
+use Rattle.std.specs.Prelude.{ℕ, ◌<◌, ◌≡◌, true, List, Some}
 use Rattle.state.specs.State.{consistent}
 use Rattle.words.specs.Number.{received_number}
 use Rattle.model.specs.Model.{Bytes, Session}
@@ -16,7 +15,7 @@ pub record Obeyed (v : AnySlave) (p : List ℕ) (c : Session) (cal meas : List �
   pub sound : consistent state ≡ true
   pub bytes : Bytes state
   pub low : last < 256
-  pub ends : packet_ended state last ≡ some p
+  pub ends : packet_ended state last ≡ Some p
   pub taken : received_number (v.receive state cal meas last).received ≡ 1
   pub before : c ≡ session_of state
   pub leaves : o ≡ shown (v.receive state cal meas last).state (v.receive state cal meas last).cal

@@ -1,9 +1,8 @@
 -- Runs: calls in any order, folded over a slave.
-use Rattle.std.specs.Prelude.{ℕ, suc, ◌<◌, ◌≡◌, Bool, false, cond, List, [], ◌∷◌, ◌++◌, leb, length, take}
+use Rattle.std.specs.Prelude.{ℕ, suc, ◌<◌, ◌≡◌, Bool, false, cond, List, [], ◌∷◌, ◌++◌, leb, length, take, Some, None, Ok, Err}
 use Rattle.line.specs.Message.{room}
 use Rattle.model.specs.Model.{Bytes}
-use Rattle.words.specs.declared.Slotted.{Slotted}
-use Rattle.words.specs.declared.Slotted.TheVariants.{Idle, Sent, NoRoom, NoState}
+use Rattle.words.specs.Values.{Slotted}
 use Rattle.demands.specs.Slave.{AnySlave}
 
 -- a call: a byte or an event, with the calibration and the measured memory that are lent to it; a slot, with the bytes lent to it; or any
@@ -26,10 +25,9 @@ run v s (c ∷ cs) = run v (after_call v s c) cs
 
 -- the frame that a slot sent: the first bytes of what was lent
 abbrev pub frame_sent : Slotted → List ℕ → List (List ℕ)
-frame_sent Idle out = []
-frame_sent (Sent n) out = take n out ∷ []
-frame_sent NoRoom out = []
-frame_sent NoState out = []
+frame_sent (Ok None) out = []
+frame_sent (Ok (Some n)) out = take n out ∷ []
+frame_sent (Err refusal) out = []
 
 abbrev pub sends : AnySlave → List ℕ → Call → List (List ℕ)
 sends v s (Byte cal meas b) = []

@@ -9,7 +9,7 @@ use Rattle.model.specs.Calls.{powered_up}
 use Rattle.model.specs.Whole.{received_in, event_in, slot_in}
 use Rattle.model.specs.View.{session_of, view_of}
 use Rattle.views.specs.Events.{EventLeaves}
-use Rattle.model.specs.declared.Turn.{Turn}
+use Rattle.model.specs.Turn.{Turn}
 use Rattle.views.specs.Turns.{Goes, Leaves}
 use Rattle.views.specs.PoweredUp.{PowerUpLeaves}
 use Rattle.views.specs.Shown.{byte_shown, event_shown, slot_shown}

@@ -1,9 +1,10 @@
 -- Bytes by slices: what is lent at once is taken as if each byte had come by a call of its own, however the wire is cut.
-use Rattle.std.specs.Prelude.{ℕ, zero, suc, ◌+◌, ◌≤◌, ◌≡◌, true, false, List, [], ◌∷◌, ◌++◌, length, take, drop, replicate}
+use Rattle.std.specs.Prelude.{ℕ, zero, suc, ◌+◌, ◌≤◌, ◌≡◌, true, false, List, [], ◌∷◌, ◌++◌, length, take, drop, replicate, Ok, Err}
 use Rattle.state.specs.State.{consistent}
 use Rattle.session.specs.Slice.{Slice, taking}
 use Rattle.words.specs.Number.{received_number}
-use Rattle.words.specs.declared.Received.TheVariants.{Nothing, NoState}
+use Rattle.words.specs.declared.Heard.TheVariants.{Nothing}
+use Rattle.words.specs.Values.{no_state}
 use Rattle.demands.specs.Slave.{AnySlave}
 use Rattle.demands.specs.Runs.{Call, Byte, run}
 
@@ -58,9 +59,9 @@ drained call s cal meas bs (n ∷ ns) =
 -- ---- what is promised of a slice call beside a slave's byte call
 pub record BySlices (v : AnySlave) (call : SliceCall) : Type 0 where
   -- a state that is not consistent: number 10, no byte is taken and nothing changes
-  pub refuses : (s cal meas bs : List ℕ) → consistent s ≡ false → call s cal meas bs ≡ taking NoState 0 s cal
+  pub refuses : (s cal meas bs : List ℕ) → consistent s ≡ false → call s cal meas bs ≡ taking (Err no_state) 0 s cal
   -- an empty slice changes nothing
-  pub empty : (s cal meas : List ℕ) → consistent s ≡ true → call s cal meas [] ≡ taking Nothing 0 s cal
+  pub empty : (s cal meas : List ℕ) → consistent s ≡ true → call s cal meas [] ≡ taking (Ok Nothing) 0 s cal
   -- of a slice that is not empty at least one byte is taken, and never more than there are, nor than 2^32 - 1
   pub some : (s cal meas bs : List ℕ) → consistent s ≡ true → 1 ≤ length bs → 1 ≤ (call s cal meas bs).taken
   pub most : (s cal meas bs : List ℕ) → ((call s cal meas bs).taken ≤ length bs) × ((call s cal meas bs).taken ≤ 4294967295)

@@ -1,9 +1,8 @@
 -- Three wrong keys and it stays shut: from then on until the next power-up no seed is given, no key is judged, and no lock opens.
-use Rattle.std.specs.Prelude.{ℕ, suc, ◌+◌, ◌≤◌, ◌<◌, ◌≡◌, Bool, true, false, cond, List, [], ◌∷◌, eqb, length}
+use Rattle.std.specs.Prelude.{ℕ, suc, ◌+◌, ◌≤◌, ◌<◌, ◌≡◌, Bool, true, false, cond, List, [], ◌∷◌, eqb, length, None}
 use Rattle.state.specs.Layout.{size}
 use Rattle.state.specs.State.{consistent}
 use Rattle.words.specs.declared.Resource.{Resource}
-use Rattle.words.specs.declared.Seed.TheVariants.{None}
 use Rattle.session.specs.Receive.{Step}
 use Rattle.model.specs.Model.{byte}
 use Rattle.model.specs.View.{session_of}

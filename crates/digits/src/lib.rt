@@ -1,4 +1,4 @@
-// A byte in capital hex: io::print_hex writes small digits.
+// A byte in capital hex, as two bytes: io::print_hex writes small digits, and {:02X} of std writes to a writer.
 #![tactic(auto)]
 
 ghost use Rattle.std.specs.Prelude.{◌≡◌, ◌<◌};

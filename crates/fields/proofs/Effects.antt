@@ -1,11 +1,5 @@
 -- What a deed changes of the state, and that its answer is read as it was given. Assumes nothing.
-use Prim.Native.Nat.{ℕ, zero, suc, ◌+◌, ◌*◌, ◌-◌, ◌%◌, ◌≤◌, ◌<◌}
-use mathlib.Core.Path.{◌≡◌, ◌∙◌}
-use mathlib.Core.Bool.{Bool, true, cond}
-use mathlib.Core.List.{List, ◌∷◌}
-use native.Mathlib.Omega.{arith}
-use lib.Dec.{T, leb, lit<, lit≤}
-use lib.ListN.{length, get_or, set, length-take}
+use Rattle.std.proofs.Common.{◌≡◌, ℕ, zero, suc, ◌+◌, ◌-◌, ◌*◌, ◌%◌, ◌<◌, ◌≤◌, Bool, true, cond, T, leb, List, ◌∷◌, length, get_or, set, Some, None, ◌∙◌, arith, lit<, lit≤, length-take}
 use Rattle.model.specs.Answers.{reply_in}
 use Rattle.model.specs.View.{session_of}
 use Rattle.line.proofs.Laws.{cond_ind}
@@ -25,14 +19,13 @@ use Rattle.model.specs.Step.{next_entry}
 use Rattle.session.specs.Perform.{entry_written, effect, reply, after}
 use Rattle.words.specs.declared.Extension.{Extension}
 use Rattle.words.specs.declared.Extension.TheVariants.{Calibration}
-use Rattle.words.specs.declared.Seed.TheVariants.{None, For}
 use Rattle.words.specs.declared.Mta.{Mta}
 use Rattle.words.specs.declared.Pointer.{Pointer}
 use Rattle.model.specs.declared.Deed.{Deed}
 use Rattle.model.specs.declared.Deed.TheVariants.{Refuse, RefuseSize, WrongKey, Connect, Disconnect, Status, Synch, NoSeed, GiveSeed, Unlock, SetMta, Upload, Checksum, Download, ClearList, SetPointer, ClearEntry, WriteEntry, SetMode, Stop, Start, KeepRunning, Select, StopAll, StartSelected, StopSelected, ProcessorInfo, ResolutionInfo, FreeLists, AllocLists, AllocOdts, AllocEntries}
 use Rattle.fields.proofs.Fields.{kindly, Answering, answer_same, waits_answered}
-use Rattle.fields.proofs.Frames.{Only, only_none, only_then, only_wider, only_set, only_sets, only_cleared, only_dropped, only_generator, only_counted, only_lock, only_seed, only_mta, only_pointer, only_closed, only_fresh}
-use Rattle.fields.proofs.Readers.{Same, apart, same_then, same_part, place_reads, message_reads}
+use Rattle.fields.proofs.Frames.{Only, among, only_none, only_then, only_wider, only_within, only_set, only_sets, only_cleared, only_dropped, only_generator, only_counted, only_lock, only_seed, only_mta, only_pointer, only_closed, only_fresh}
+use Rattle.fields.proofs.Readers.{Same, apart, same_then, same_within, place_reads, message_reads}
 
 block_short : (s : List ℕ) (i n : ℕ) → length (block s i n) ≤ n
 block_short s i n = rw length-take (omega arith)
@@ -97,7 +90,7 @@ only_new_odts : (s : List ℕ) (l n : ℕ) → l < lists → Only odts_at size s
 unfolding odts_allocated
 only_new_odts s l n h =
     let s₁ : List ℕ = dropped s 0 all_odts in
-    only_then (only_wider (lit≤ tt) (lit≤ tt) (only_dropped s 0 all_odts))
+    only_then (only_within tt (only_dropped s 0 all_odts))
     (only_then (only_cleared s₁ counts_at all_odts (lit≤ tt) (lit≤ tt)) (only_set (cleared s₁ counts_at all_odts) (odts_at + l) n (omega arith) (omega arith)))
 
 only_copied : {lo hi : ℕ} (d : List ℕ) (i : ℕ) (s : List ℕ) (from n : ℕ) → lo ≤ i → i + n ≤ hi → Only lo hi d (copied d i s from n)
@@ -117,7 +110,7 @@ only_new_entries s k n h q =
     let s₁ : List ℕ = room_made s (first_entry s k) (entry_total s) n in
     only_then (only_wider (omega arith) (lit≤ tt) (only_room s (first_entry s k) (entry_total s) n (omega (arith, entry_inside s k h)) q))
     (only_then (only_set s₁ (counts_at + k) n (omega arith) (omega (arith, first_most_lem s (list_count s))))
-    (only_wider (lit≤ tt) (lit≤ tt) (only_pointer (set s₁ (counts_at + k) n) (pointer_of s))))
+    (only_within tt (only_pointer (set s₁ (counts_at + k) n) (pointer_of s))))
 
 -- ---- the deeds
 -- t differs from s in the generator, the count of wrong keys, with which list the round begins, and the session alone: not in the mark, the CTR, the reader or
@@ -129,14 +122,17 @@ pub record Effected (s t : List ℕ) : Type 0 where
 
 -- the session alone
 within : {s t : List ℕ} → Only session_at size s t → Effected s t
-within w = record { range = only_wider (lit≤ tt) (lit≤ tt) w; ctr = apart tt w; between = apart tt w }
+within w = record { range = only_within tt w; ctr = apart tt w; between = apart tt w }
+
+inside : {lo hi : ℕ} {s t : List ℕ} → T (among lo hi session_at size) → Only lo hi s t → Effected s t
+inside i w = within (only_within i w)
 
 -- what runs on across sessions alone; the round alone; one after the other
 beside : {s t : List ℕ} → Only generator_at ctr_at s t → Effected s t
-beside w = record { range = only_wider (lit≤ tt) (lit≤ tt) w; ctr = apart tt w; between = apart tt w }
+beside w = record { range = only_within tt w; ctr = apart tt w; between = apart tt w }
 
 rounded : {s t : List ℕ} → Only round_at last_at s t → Effected s t
-rounded w = record { range = only_wider (lit≤ tt) (lit≤ tt) w; ctr = apart tt w; between = apart tt w }
+rounded w = record { range = only_within tt w; ctr = apart tt w; between = apart tt w }
 
 then : {s t u : List ℕ} → Effected s t → Effected t u → Effected s u
 then w v = record { range = only_then w.range v.range; ctr = same_then w.ctr v.ctr; between = same_then w.between v.between }
@@ -145,10 +141,10 @@ none : {s : List ℕ} → Effected s s
 none = within only_none
 
 mta : (s : List ℕ) (m : Mta) → Effected s (set_mta s m)
-mta s m = within (only_wider (lit≤ tt) (lit≤ tt) (only_mta s m))
+mta s m = inside tt (only_mta s m)
 
 pointer : {s t : List ℕ} (p : Pointer) → Only (mode_at 0) (sample_at 0) s t → Effected s (set_pointer t p)
-pointer {s} {t} p w = within (only_then (only_wider (lit≤ tt) (lit≤ tt) w) (only_wider (lit≤ tt) (lit≤ tt) (only_pointer t p)))
+pointer {s} {t} p w = within (only_then (only_within tt w) (only_within tt (only_pointer t p)))
 
 -- ALLOC_DAQ begins the round anew
 new_lists_lem : (s : List ℕ) (n : ℕ) → Effected s (lists_allocated s n)
@@ -160,7 +156,7 @@ new_lists_lem s n =
 
 -- the lists alone
 listed : {s t : List ℕ} → Only (mode_at 0) size s t → Effected s t
-listed w = within (only_wider (lit≤ tt) (lit≤ tt) w)
+listed w = inside tt w
 
 -- a deed is about lists, ODTs and entries that there are
 module _ (s : List ℕ) where
@@ -188,26 +184,26 @@ pub effected : (d : Deed) (s : List ℕ) (n nc nm : ℕ) → Doable d (session_o
 unfolding effect
 effected (Refuse r) s n nc nm h = none
 effected RefuseSize s n nc nm h = none
-effected WrongKey s n nc nm h = then (within (only_wider (lit≤ tt) (lit≤ tt) (only_closed s))) (beside (only_wider (lit≤ tt) (lit≤ tt) (only_counted (closed s))))
-effected Connect s n nc nm h = within (only_wider (lit≤ tt) (lit≤ tt) (only_fresh s))
-effected Disconnect s n nc nm h = within (only_wider (lit≤ tt) (lit≤ tt) (only_closed s))
+effected WrongKey s n nc nm h = then (inside tt (only_closed s)) (beside (only_within tt (only_counted (closed s))))
+effected Connect s n nc nm h = inside tt (only_fresh s)
+effected Disconnect s n nc nm h = inside tt (only_closed s)
 effected Status s n nc nm h = none
 effected Synch s n nc nm h = none
 effected NoSeed s n nc nm h = none
 effected (GiveSeed r) s n nc nm h =
     let x : ℕ = next_of (generator_of s) in
-    then (beside (only_wider (lit≤ tt) (lit≤ tt) (only_generator s x))) (within (only_wider (lit≤ tt) (lit≤ tt) (only_seed (set_generator s x) (For r))))
+    then (beside (only_within tt (only_generator s x))) (inside tt (only_seed (set_generator s x) (Some r)))
 effected (Unlock r) s n nc nm h =
-    within (only_then (only_wider (lit≤ tt) (lit≤ tt) (only_lock s r 1)) (only_wider (lit≤ tt) (lit≤ tt) (only_seed (set s (lock_at r) 1) None)))
+    within (only_then (only_within tt (only_lock s r 1)) (only_within tt (only_seed (set s (lock_at r) 1) None)))
 effected (SetMta e a) s n nc nm h = mta s _
 effected (Upload e a m) s n nc nm h = mta s _
 effected (Checksum e a m) s n nc nm h = mta s _
 effected (Download from a m) s n nc nm h = mta s _
-effected (ClearList l) s n nc nm h = listed (only_wider (lit≤ tt) (lit≤ tt) (only_list_cleared s l (list_few s l h)))
+effected (ClearList l) s n nc nm h = listed (only_within tt (only_list_cleared s l (list_few s l h)))
 effected (SetPointer l o e) s n nc nm h = pointer _ only_none
 effected (ClearEntry l o e) s n nc nm h = entered s l o e 0 Calibration 0 h
 effected (WriteEntry l o e m x a) s n nc nm h = entered s l o e m x a h
-effected (SetMode l event) s n nc nm h = listed (only_wider (lit≤ tt) (lit≤ tt) (only_mode_set s l event (list_few s l h.0)))
+effected (SetMode l event) s n nc nm h = listed (only_within tt (only_mode_set s l event (list_few s l h.0)))
 effected (Stop l) s n nc nm h = listed (only_switched s l 0 (list_few s l h))
 effected (Start l) s n nc nm h = listed (only_switched s l 1 (list_few s l h))
 effected (KeepRunning l) s n nc nm h = none
@@ -219,17 +215,17 @@ effected ProcessorInfo s n nc nm h = none
 effected ResolutionInfo s n nc nm h = none
 effected FreeLists s n nc nm h = within (only_set s phase_at 1 (lit≤ tt) (lit< tt))
 effected (AllocLists m) s n nc nm h = new_lists_lem s m
-effected (AllocOdts l m) s n nc nm h = within (only_wider (lit≤ tt) (lit≤ tt) (only_new_odts s l m (list_few s l h.0)))
+effected (AllocOdts l m) s n nc nm h = inside tt (only_new_odts s l m (list_few s l h.0))
 effected (AllocEntries l o m) s n nc nm h =
     let there : l < list_count s = list_there s l h.0 in
     let its : o < odt_count s l = odt_there s l o there h.1 in
-    within (only_wider (lit≤ tt) (lit≤ tt) (only_new_entries s (first_odt s l + o) m (omega (arith, odt_inside s l there)) (rw (entries_taken_lem s) at h.3)))
+    inside tt (only_new_entries s (first_odt s l + o) m (omega (arith, odt_inside s l there)) (rw (entries_taken_lem s) at h.3))
 
 pub effect_place : (d : Deed) (s : List ℕ) (n nc nm : ℕ) → Doable d (session_of s) n nc nm → place_of (effect d s) ≡ place_of s
-effect_place d s n nc nm h = place_reads (same_part (lit≤ tt) (lit≤ tt) (effected d s n nc nm h).between)
+effect_place d s n nc nm h = place_reads (same_within tt (effected d s n nc nm h).between)
 
 pub effect_message : (d : Deed) (s : List ℕ) (n nc nm : ℕ) → Doable d (session_of s) n nc nm → message_of (effect d s) ≡ message_of s
-effect_message d s n nc nm h = message_reads (same_part (lit≤ tt) (lit≤ tt) (effected d s n nc nm h).between)
+effect_message d s n nc nm h = message_reads (same_within tt (effected d s n nc nm h).between)
 
 -- ---- the answers
 -- one that is written out

@@ -1,15 +1,9 @@
 -- A field of the state reads as it was set; what a closed session and a fresh one hold. Assumes nothing.
-use Prim.Native.Nat.{ℕ, zero, suc, ◌+◌, ◌*◌, ◌%◌, ◌^◌, ◌≤◌, ◌<◌}
-use mathlib.Core.Path.{◌≡◌, refl, sym, ap, subst, ◌∙◌}
-use mathlib.Core.Logic.{◌≢◌}
-use mathlib.Core.Bool.{Bool, true, false, cond}
-use mathlib.Core.List.{List, ◌∷◌}
-use native.Mathlib.Omega.{arith}
-use native.Mathlib.Nat.{mod-eq_of_lt}
-use borrow.Author.Tests.{leb-true, leb-false, eqb-true, eqb-false, ne_eqb, lt-ltb, le-ltb}
-use lib.Dec.{T, eqb, lit<, lit≤}
-use lib.ListN.{length, get_or, set, length-set}
-use lib.Seq.{sets, get_or-set_same, get_or-set_other, set-get_or}
+use Rattle.std.proofs.Common.{◌≡◌, ℕ, zero, suc, ◌+◌, ◌*◌, ◌%◌, ◌^◌, ◌<◌, ◌≤◌, Bool, true, false, cond, T, eqb, ◌≢◌, List, ◌∷◌, length, get_or, set, Some, None, sym, refl, ap, ◌∙◌, subst, mod-eq_of_lt, arith, lit<, lit≤, length-set, get_or-set_other, get_or-set_same, le-ltb, lt-ltb, ne_eqb, eqb-true, leb-false, leb-true}
+use Rattle.std.proofs.lemmas.Bool.{eqb-false}
+use Rattle.std.proofs.lemmas.List.{set-get_or}
+use Rattle.std.proofs.lemmas.Option.{none-some}
+use Rattle.std.proofs.Math.Seq.{sets}
 use Rattle.line.specs.declared.Place.{Place}
 use Rattle.line.specs.declared.Place.TheVariants.{Outside, Inside, Escaped}
 use Rattle.line.proofs.Laws.{cond_ind}
@@ -23,8 +17,7 @@ use Rattle.words.specs.declared.Resource.{Resource}
 use Rattle.words.specs.declared.Resource.TheVariants.{Calibration, Lists}
 use Rattle.words.specs.declared.Extension.{Extension}
 use Rattle.words.specs.declared.Extension.TheVariants.{Calibration as CalibrationMemory, Measured}
-use Rattle.words.specs.declared.Seed.{Seed}
-use Rattle.words.specs.declared.Seed.TheVariants.{None, For}
+use Rattle.words.specs.Values.{Seed}
 use Rattle.words.specs.declared.Mta.{Mta}
 use Rattle.words.specs.declared.Mta.TheVariants.{Unset, At}
 use Rattle.words.specs.declared.Pointer.{Pointer}
@@ -97,14 +90,14 @@ wrong_keys_counted s h = count_reads _ _ (get_or-set_same s wrong_keys_at (one_w
 -- a seed that can be out with n wrong keys
 abbrev pub Given : Seed → ℕ → Type 0
 Given None n = Unit
-Given (For r) n = stays_shut n ≡ false
+Given (Some r) n = stays_shut n ≡ false
 
 -- a seed is out only then
-pub seed_few : (s : List ℕ) (r : Resource) → seed_of s ≡ For r → stays_shut (wrong_keys_of s) ≡ false
+pub seed_few : (s : List ℕ) (r : Resource) → seed_of s ≡ Some r → stays_shut (wrong_keys_of s) ≡ false
 unfolding seed_of
 seed_few s r = go (stays_shut (wrong_keys_of s)) _ where
-  go : (shut : Bool) (x : Seed) → cond shut None x ≡ For r → shut ≡ false
-  go true x e = absurd (let z : ◌≡◌ {A = ℕ} 0 1 = cc in omega arith)
+  go : (shut : Bool) (x : Seed) → cond shut None x ≡ Some r → shut ≡ false
+  go true x e = absurd (none-some r e)
   go false x e = refl
 
 pub shut_seedless : (s : List ℕ) → stays_shut (wrong_keys_of s) ≡ true → seed_of s ≡ None
@@ -118,8 +111,8 @@ set_seed_count s v = rw (set_out s seed_at mta_at seed_at v wrong_keys_at (lit�
 pub seed_same : (s : List ℕ) (x : Seed) → length s ≡ size → Given x (wrong_keys_of s) → seed_of (set_seed s x) ≡ x
 unfolding set_seed seed_of
 seed_same s None h g = cond_ind (λ (x : Seed). x ≡ None) (stays_shut (wrong_keys_of (set s seed_at 0))) (λ _. refl) (λ _. simp (get_or-set_same s seed_at 0 0 (omega arith)))
-seed_same s (For Calibration) h g = simp (set_seed_count s (bit_of Calibration), g, get_or-set_same s seed_at (bit_of Calibration) 0 (omega arith))
-seed_same s (For Lists) h g = simp (set_seed_count s (bit_of Lists), g, get_or-set_same s seed_at (bit_of Lists) 0 (omega arith))
+seed_same s (Some Calibration) h g = simp (set_seed_count s (bit_of Calibration), g, get_or-set_same s seed_at (bit_of Calibration) 0 (omega arith))
+seed_same s (Some Lists) h g = simp (set_seed_count s (bit_of Lists), g, get_or-set_same s seed_at (bit_of Lists) 0 (omega arith))
 
 -- a count that a byte holds
 abbrev pub Counted : Place → Type 0

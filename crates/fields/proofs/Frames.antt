@@ -1,13 +1,6 @@
 -- Which bytes a writer changes, and which a reader reads: what a change leaves as it was. Assumes nothing.
-use Prim.Native.Nat.{ℕ, zero, suc, ◌+◌, ◌*◌, ◌-◌, ◌%◌, ◌≤◌, ◌<◌}
-use mathlib.Core.Path.{◌≡◌, refl, sym, ap, ◌∙◌}
-use mathlib.Core.Bool.{Bool, true, false, cond}
-use mathlib.Core.List.{List, ◌∷◌, ◌++◌, append_assoc}
-use native.Mathlib.Omega.{arith}
-use borrow.Author.Tests.{lt-ltb, ltb-true}
-use lib.Dec.{T, ltb, leb, leb→le, le→leb, lit<, lit≤}
-use lib.ListN.{length, get_or, set, take, drop, length-set, length-take, length-drop, length-append}
-use lib.Seq.{sets, length-sets, length-take-le, take_at, drop_at, get_or-take, get_or-drop, ext_get_or}
+use Rattle.std.proofs.Common.{◌≡◌, ℕ, zero, suc, ◌+◌, ◌-◌, ◌*◌, ◌%◌, ◌<◌, ◌≤◌, Bool, true, false, cond, T, ltb, leb, List, ◌∷◌, ◌++◌, length, get_or, take, drop, set, Some, None, sym, refl, ap, ◌∙◌, append_assoc, arith, lit<, lit≤, le→leb, leb→le, length-append, length-drop, length-set, length-take, length-take-le, get_or-drop, get_or-take, take_at, ext_get_or, drop_at, ltb-true, lt-ltb, leb-true}
+use Rattle.std.proofs.Math.Seq.{sets, length-sets}
 use Rattle.line.specs.Message.{longest}
 use Rattle.line.specs.Unstuffing.{Fed}
 use Rattle.line.specs.declared.Place.{Place}
@@ -19,14 +12,13 @@ use Rattle.state.specs.State.{set_generator, counted_wrong, lock_at, bit_of, set
 use Rattle.session.specs.Receive.{read_on}
 use Rattle.words.specs.declared.Resource.{Resource}
 use Rattle.words.specs.declared.Resource.TheVariants.{Calibration, Lists}
-use Rattle.words.specs.declared.Seed.{Seed}
-use Rattle.words.specs.declared.Seed.TheVariants.{None, For}
+use Rattle.words.specs.Values.{Seed}
 use Rattle.words.specs.declared.Mta.{Mta}
 use Rattle.words.specs.declared.Mta.TheVariants.{Unset, At}
 use Rattle.words.specs.declared.Pointer.{Pointer}
 use Rattle.words.specs.declared.Pointer.TheVariants.{Unset as NoEntry, At as Entry}
 use Rattle.state.proofs.Sets.{put32_length, cleared_length}
-use Rattle.fields.proofs.Stores.{out, set_out, put32_out, sets_out, cleared_out}
+use Rattle.fields.proofs.Stores.{both_tests, out, set_out, put32_out, sets_out, cleared_out}
 
 -- ---- t differs from s in the bytes from lo up to hi alone
 pub record Only (lo hi : ℕ) (s t : List ℕ) : Type 0 where
@@ -54,6 +46,16 @@ out_wider a b lo hi j p q o = go (ltb j a) refl o where
 
 pub only_wider : {a b lo hi : ℕ} {s t : List ℕ} → a ≤ lo → hi ≤ b → Only lo hi s t → Only a b s t
 only_wider {a} {b} {lo} {hi} p q w = record { long = w.long; bytes = λ j o. w.bytes j (out_wider a b lo hi j p q o) }
+
+-- the bytes from lo up to hi are among those from a up to b; at numerals it computes, so that `tt` proves it
+abbrev pub among : ℕ → ℕ → ℕ → ℕ → Bool
+among lo hi a b = cond (leb a lo) (leb hi b) false
+
+pub among_is : (lo hi a b : ℕ) → T (among lo hi a b) → (a ≤ lo) × (hi ≤ b)
+among_is lo hi a b t = let m = both_tests (leb a lo) (leb hi b) t in (leb-true a lo m.0, leb→le hi b m.1)
+
+pub only_within : {lo hi a b : ℕ} {s t : List ℕ} → T (among lo hi a b) → Only lo hi s t → Only a b s t
+only_within {lo} {hi} {a} {b} i w = let m = among_is lo hi a b i in only_wider m.0 m.1 w
 
 module _ {lo hi : ℕ} (s : List ℕ) where
   pub only_set : (i a : ℕ) → lo ≤ i → i < hi → Only lo hi s (set s i a)
@@ -111,7 +113,7 @@ only_lock s Lists v = only_set s lists_at v (lit≤ tt) (lit< tt)
 pub only_seed : (s : List ℕ) (x : Seed) → Only seed_at mta_at s (set_seed s x)
 unfolding set_seed
 only_seed s None = only_set s seed_at 0 (lit≤ tt) (lit< tt)
-only_seed s (For r) = only_set s seed_at (bit_of r) (lit≤ tt) (lit< tt)
+only_seed s (Some r) = only_set s seed_at (bit_of r) (lit≤ tt) (lit< tt)
 
 pub only_mta : (s : List ℕ) (m : Mta) → Only mta_at pointer_at s (set_mta s m)
 unfolding set_mta
@@ -160,8 +162,8 @@ only_message s m h k =
 pub only_read_on : (s : List ℕ) (f : Fed) → length s ≡ size → length f.message ≡ longest → Only place_at answer_at s (read_on s f)
 unfolding read_on
 only_read_on s f h k =
-    only_then (only_wider (lit≤ tt) (lit≤ tt) (only_message s f.message h k))
-    (only_wider (lit≤ tt) (lit≤ tt) (only_place (set_message s f.message) f.taken.place))
+    only_then (only_within tt (only_message s f.message h k))
+    (only_within tt (only_place (set_message s f.message) f.taken.place))
 
 pub only_answered : (s bs : List ℕ) → length bs ≤ packet_most → Only answer_at session_at s (answered s bs)
 unfolding answered

@@ -1,19 +1,13 @@
 -- Power-up makes a consistent state, and every call keeps one. Assumes nothing.
-use Prim.Native.Nat.{ℕ, zero, suc, ◌+◌, ◌*◌, ◌-◌, ◌%◌, ◌≤◌, ◌<◌}
-use mathlib.Core.Path.{◌≡◌, refl, sym, ap, ◌∙◌}
-use mathlib.Core.Bool.{Bool, true, cond}
-use mathlib.Core.List.{List, ◌∷◌}
-use native.Mathlib.Omega.{arith}
-use borrow.Author.Tests.{eq-eqb}
-use lib.Dec.{ltb, leb, lit<, lit≤}
-use lib.ListN.{length, get_or, set, take, replicate, length-set}
-use lib.Seq.{sets, length-sets, get_or-take, take-set-le}
+use Rattle.std.proofs.Common.{◌≡◌, ℕ, zero, suc, ◌+◌, ◌-◌, ◌*◌, ◌%◌, ◌<◌, ◌≤◌, Bool, true, cond, ltb, leb, List, ◌∷◌, length, get_or, take, set, replicate, Some, None, Ok, Err, sym, refl, ap, ◌∙◌, arith, lit<, lit≤, length-set, get_or-take, eq-eqb}
+use Rattle.std.proofs.lemmas.List.{take-set-le}
+use Rattle.std.proofs.Math.Seq.{sets, length-sets}
 use Rattle.model.specs.Heed.{Heeding, Dropped, Obeyed, Ignored, heeding_in}
 use Rattle.model.specs.View.{session_of}
 use Rattle.line.specs.Message.{longest, room}
 use Rattle.line.specs.Unstuffing.{Fed}
-use Rattle.line.specs.declared.Outcome.{Outcome}
-use Rattle.line.specs.declared.Outcome.TheVariants as line
+use Rattle.line.specs.Values.{Outcome}
+use Rattle.line.specs.declared.Fault.TheVariants.{BadLength, BadEscape, BadChecksum, CutOff, ShortBuffer}
 use Rattle.line.proofs.Laws.{cond_ind}
 use Rattle.line.proofs.After.{take_length}
 use Rattle.state.specs.Layout.{mark, mark_at, size, generator_at, ctr_at, round_at, last_at, message_at, answer_at, answer_bytes_at, lists, all_odts, odts_at, counts_at, mode_at, selected_at, running_at, phase_at, entries_at, sample_at, events, list_size, entry_size}
@@ -31,14 +25,13 @@ use Rattle.lists.specs.Slot.{Slot, turn_of, ctr_next, answer_sent, round_after, 
 use Rattle.session.specs.PowerUp.{powered, power_up_of}
 use Rattle.words.specs.declared.Extension.{Extension}
 use Rattle.words.specs.declared.Extension.TheVariants.{Calibration}
-use Rattle.words.specs.declared.Seed.{Seed}
-use Rattle.words.specs.declared.Seed.TheVariants.{None, For}
+use Rattle.words.specs.Values.{Seed}
 use Rattle.words.specs.declared.Mta.{Mta}
 use Rattle.words.specs.declared.Pointer.{Pointer}
 use Rattle.model.specs.declared.Sampling.{Sampling}
 use Rattle.model.specs.declared.Sampling.TheVariants.{Idle, Sampled, Missed}
-use Rattle.model.specs.declared.Turn.{Turn}
-use Rattle.model.specs.declared.Turn.TheVariants.{Nobody, Answer, Packet}
+use Rattle.model.specs.Turn.{Turn}
+use Rattle.model.specs.declared.Sender.TheVariants.{Answer, Packet}
 use Rattle.model.specs.declared.Deed.{Deed}
 use Rattle.model.specs.declared.Deed.TheVariants.{Refuse, RefuseSize, WrongKey, Connect, Disconnect, Status, Synch, NoSeed, GiveSeed, Unlock, SetMta, Upload, Checksum, Download, ClearList, SetPointer, ClearEntry, WriteEntry, SetMode, Stop, Start, KeepRunning, Select, StopAll, StartSelected, StopSelected, ProcessorInfo, ResolutionInfo, FreeLists, AllocLists, AllocOdts, AllocEntries}
 use Rattle.state.proofs.Sets.{block_length}
@@ -212,7 +205,7 @@ marked_effect Synch s = marked_none
 marked_effect NoSeed s = marked_none
 marked_effect (GiveSeed r) s =
     let x : ℕ = next_of (generator_of s) in
-    marked_then (marked_only (lit≤ tt) (only_generator s x)) (marked_seed (set_generator s x) (For r))
+    marked_then (marked_only (lit≤ tt) (only_generator s x)) (marked_seed (set_generator s x) (Some r))
 marked_effect (Unlock r) s = marked_then (marked_only (lit≤ tt) (only_lock s r 1)) (marked_seed (set s (lock_at r) 1) None)
 marked_effect (SetMta e a) s = marked_mta s _
 marked_effect (Upload e a n) s = marked_mta s _
@@ -256,13 +249,13 @@ marked_heeded p s cal meas = marked_heeding (heeding_in (waits s) p (session_of 
 
 marked_meant : (o : Outcome) (m s cal meas : List ℕ) → Marked s (meant o m s cal meas).state
 unfolding meant
-marked_meant line.Nothing m s cal meas = marked_none
-marked_meant (line.Good ctr at n) m s cal meas = marked_heeded (block m at n) s cal meas
-marked_meant line.BadLength m s cal meas = marked_none
-marked_meant line.BadEscape m s cal meas = marked_none
-marked_meant line.BadChecksum m s cal meas = marked_none
-marked_meant line.CutOff m s cal meas = marked_none
-marked_meant line.ShortBuffer m s cal meas = marked_none
+marked_meant (Ok None) m s cal meas = marked_none
+marked_meant (Ok (Some good)) m s cal meas = marked_heeded (block m good.at good.len) s cal meas
+marked_meant (Err BadLength) m s cal meas = marked_none
+marked_meant (Err BadEscape) m s cal meas = marked_none
+marked_meant (Err BadChecksum) m s cal meas = marked_none
+marked_meant (Err CutOff) m s cal meas = marked_none
+marked_meant (Err ShortBuffer) m s cal meas = marked_none
 
 fed_length : (s : List ℕ) (b : ℕ) → length s ≡ size → length (fed_of s b).message ≡ longest
 unfolding message_of
@@ -341,9 +334,9 @@ marked_packet_sent s l o =
 
 marked_sent : (t : Turn) (s out : List ℕ) → Marked s (sent_by t s out).state
 unfolding sent_by
-marked_sent Nobody s out = marked_none
-marked_sent Answer s out = marked_answer_sent s
-marked_sent (Packet l o) s out = marked_packet_sent s l o
+marked_sent None s out = marked_none
+marked_sent (Some Answer) s out = marked_answer_sent s
+marked_sent (Some (Packet l o)) s out = marked_packet_sent s l o
 
 marked_slot : (s out : List ℕ) → Marked s (slot_of s out).state
 unfolding slot_of

@@ -1,14 +1,7 @@
 -- A reader reads its own bytes alone: a change elsewhere leaves what it reads. Assumes nothing.
-use Prim.Native.Nat.{ℕ, ◌+◌, ◌≤◌, ◌<◌}
-use mathlib.Core.Path.{◌≡◌, refl, sym, ◌∙◌}
-use mathlib.Core.Logic.{◌≢◌}
-use mathlib.Core.Bool.{Bool, true, false, cond}
-use mathlib.Core.List.{List}
-use native.Mathlib.Omega.{arith}
-use borrow.Author.Tests.{leb-true, ltb-true, ltb-false, eqb-true, eqb-false}
-use lib.Dec.{T, eqb, ltb, leb, leb→le, lit<, lit≤}
-use lib.ListN.{length, get_or, drop, set, length-take, length-drop, length-set}
-use lib.Seq.{get_or-take, get_or-drop, ext_get_or, get_or-set_same, get_or-set_other, set_out}
+use Rattle.std.proofs.Common.{◌≡◌, ℕ, ◌+◌, ◌<◌, ◌≤◌, Bool, true, false, cond, T, eqb, ltb, leb, ◌≢◌, List, length, get_or, drop, set, sym, refl, ◌∙◌, arith, lit<, lit≤, leb→le, length-drop, length-set, length-take, get_or-drop, get_or-set_other, get_or-take, get_or-set_same, ext_get_or, ltb-false, ltb-true, eqb-true, leb-true}
+use Rattle.std.proofs.lemmas.Bool.{eqb-false}
+use Rattle.std.proofs.Math.Seq.{set_out}
 use Rattle.line.specs.Message.{longest}
 use Rattle.state.specs.Layout.{generator_at, wrong_keys_at, ctr_at, place_at, count_at, message_at, answer_at, answer_bytes_at, session_at, open_at, calibration_at, lists_at, seed_at, mta_at, address_at, pointer_at, pointer_entry_at, phase_at, mode_at, round_at, last_at, lists, all_odts, entry_size, entries_at, sample_at}
 use Rattle.state.specs.Bytes.{u32_at, block}
@@ -25,7 +18,7 @@ use Rattle.model.proofs.Shown.{stored_most_lem, answer_most}
 use Rattle.words.specs.declared.Resource.{Resource}
 use Rattle.words.specs.declared.Resource.TheVariants.{Calibration, Lists}
 use Rattle.words.specs.declared.Pointer.TheVariants.{Unset as NoEntry}
-use Rattle.fields.proofs.Frames.{Only, out_below, out_above}
+use Rattle.fields.proofs.Frames.{Only, out_below, out_above, among, among_is}
 
 -- ---- t is as long as s and has its bytes from a up to b
 pub record Same (a b : ℕ) (s t : List ℕ) : Type 0 where
@@ -53,6 +46,9 @@ same_then p q = record { long = q.long ∙ p.long; byte = λ j h k. q.byte j h k
 
 pub same_part : {a b lo hi : ℕ} {s t : List ℕ} → lo ≤ a → b ≤ hi → Same lo hi s t → Same a b s t
 same_part p q w = record { long = w.long; byte = λ j h k. w.byte j (omega arith) (omega arith) }
+
+pub same_within : {a b lo hi : ℕ} {s t : List ℕ} → T (among a b lo hi) → Same lo hi s t → Same a b s t
+same_within {a} {b} {lo} {hi} i w = let m = among_is a b lo hi i in same_part m.0 m.1 w
 
 -- a run of bytes
 pub same_block : {a b : ℕ} {s t : List ℕ} (i n : ℕ) → a ≤ i → i + n ≤ b → Same a b s t → block t i n ≡ block s i n
@@ -109,8 +105,8 @@ module _ {s t : List ℕ} where
   open_reads w = flag_reads open_at w
 
   pub lock_reads : (r : Resource) → Same calibration_at seed_at s t → unlocked_of t r ≡ unlocked_of s r
-  lock_reads Calibration w = flag_reads calibration_at (same_part (lit≤ tt) (lit≤ tt) w)
-  lock_reads Lists w = flag_reads lists_at (same_part (lit≤ tt) (lit≤ tt) w)
+  lock_reads Calibration w = flag_reads calibration_at (same_within tt w)
+  lock_reads Lists w = flag_reads lists_at (same_within tt w)
 
   pub seed_reads : Same wrong_keys_at ctr_at s t → Same seed_at mta_at s t → seed_of t ≡ seed_of s
   unfolding seed_of
@@ -118,7 +114,7 @@ module _ {s t : List ℕ} where
 
   pub mta_reads : Same mta_at pointer_at s t → mta_of t ≡ mta_of s
   unfolding mta_of
-  mta_reads w = rw (w.byte mta_at (lit≤ tt) (lit< tt), u32_reads address_at (same_part (lit≤ tt) (lit≤ tt) w))
+  mta_reads w = rw (w.byte mta_at (lit≤ tt) (lit< tt), u32_reads address_at (same_within tt w))
 
   -- what there is of lists, ODTs and entries: by the bytes of the allocation alone
   module _ (w : Same phase_at (mode_at 0) s t) where
@@ -147,7 +143,7 @@ module _ {s t : List ℕ} where
   module _ (w : Same pointer_at (mode_at 0) s t) where
     pub pointer_reads : pointer_of t ≡ pointer_of s
     pointer_reads =
-        let a : Same phase_at (mode_at 0) s t = same_part (lit≤ tt) (lit≤ tt) w in
+        let a : Same phase_at (mode_at 0) s t = same_within tt w in
         let b : ℕ = get_or s pointer_at 0 in
         let l : ℕ = pointed_list s in
         let o : ℕ = pointed_odt s in

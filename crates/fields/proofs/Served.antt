@@ -1,57 +1,34 @@
 -- What a sent frame changes of the state. Assumes nothing.
-use Prim.Native.Nat.{ℕ, ◌+◌, ◌≤◌}
-use mathlib.Core.List.{List}
-use native.Mathlib.Omega.{arith}
-use lib.Dec.{lit<, lit≤}
-use lib.ListN.{set}
+use Rattle.std.proofs.Common.{ℕ, ◌+◌, ◌≤◌, T, List, set, arith, lit<, lit≤}
 use Rattle.state.specs.Layout.{size, mark_at, ctr_at, round_at, last_at, place_at, answer_at, answer_bytes_at, session_at, sample_at}
 use Rattle.state.specs.Pool.{first_odt}
 use Rattle.state.specs.State.{answer_kind}
 use Rattle.lists.specs.Slot.{ctr_next, answer_sent, round_after, packet_sent}
 use Rattle.fields.proofs.Frames.{Only, only_then, only_set}
-use Rattle.fields.proofs.Readers.{Same, before, behind, same_then}
+use Rattle.fields.proofs.Readers.{Same, clear, before, behind, apart, same_then}
 
 -- ---- an answer: its own bytes, the CTR and the last frame's flag
+answer_sent_same : (s : List ℕ) {a b : ℕ} → T (clear answer_at session_at a b) → T (clear ctr_at round_at a b) → T (clear last_at place_at a b) → Same a b s (answer_sent s)
+unfolding answer_sent
+answer_sent_same s p q r =
+    let s₁ : List ℕ = set s answer_bytes_at (answer_kind s) in
+    let s₂ : List ℕ = set s₁ answer_at 0 in
+    let s₃ : List ℕ = set s₂ ctr_at (ctr_next s) in
+    same_then (apart p (only_then (only_set s answer_bytes_at (answer_kind s) (lit≤ tt) (lit< tt)) (only_set s₁ answer_at 0 (lit≤ tt) (lit< tt))))
+    (same_then (apart q (only_set s₂ ctr_at (ctr_next s) (lit≤ tt) (lit< tt))) (apart r (only_set s₃ last_at 1 (lit≤ tt) (lit< tt))))
+
 -- the session; the reader and its message; the mark and the generator; with which list the round begins
 pub answer_sent_session : (s : List ℕ) → Same session_at size s (answer_sent s)
-unfolding answer_sent
-answer_sent_session s =
-    let s₁ : List ℕ = set s answer_bytes_at (answer_kind s) in
-    let s₂ : List ℕ = set s₁ answer_at 0 in
-    let s₃ : List ℕ = set s₂ ctr_at (ctr_next s) in
-    behind {lo = ctr_at} {hi = session_at} (lit≤ tt)
-    (only_then (only_set s answer_bytes_at (answer_kind s) (lit≤ tt) (lit< tt))
-    (only_then (only_set s₁ answer_at 0 (lit≤ tt) (lit< tt))
-    (only_then (only_set s₂ ctr_at (ctr_next s) (lit≤ tt) (lit< tt)) (only_set s₃ last_at 1 (lit≤ tt) (lit< tt)))))
+answer_sent_session s = answer_sent_same s tt tt tt
 
 pub answer_sent_reader : (s : List ℕ) → Same place_at answer_at s (answer_sent s)
-unfolding answer_sent
-answer_sent_reader s =
-    let s₁ : List ℕ = set s answer_bytes_at (answer_kind s) in
-    let s₂ : List ℕ = set s₁ answer_at 0 in
-    let s₃ : List ℕ = set s₂ ctr_at (ctr_next s) in
-    same_then (before {lo = answer_at} {hi = session_at} (lit≤ tt) (only_then (only_set s answer_bytes_at (answer_kind s) (lit≤ tt) (lit< tt)) (only_set s₁ answer_at 0 (lit≤ tt) (lit< tt))))
-    (behind {lo = ctr_at} {hi = place_at} (lit≤ tt) (only_then (only_set s₂ ctr_at (ctr_next s) (lit≤ tt) (lit< tt)) (only_set s₃ last_at 1 (lit≤ tt) (lit< tt))))
+answer_sent_reader s = answer_sent_same s tt tt tt
 
 pub answer_sent_front : (s : List ℕ) → Same mark_at ctr_at s (answer_sent s)
-unfolding answer_sent
-answer_sent_front s =
-    let s₁ : List ℕ = set s answer_bytes_at (answer_kind s) in
-    let s₂ : List ℕ = set s₁ answer_at 0 in
-    let s₃ : List ℕ = set s₂ ctr_at (ctr_next s) in
-    before {lo = ctr_at} {hi = session_at} (lit≤ tt)
-    (only_then (only_set s answer_bytes_at (answer_kind s) (lit≤ tt) (lit< tt))
-    (only_then (only_set s₁ answer_at 0 (lit≤ tt) (lit< tt))
-    (only_then (only_set s₂ ctr_at (ctr_next s) (lit≤ tt) (lit< tt)) (only_set s₃ last_at 1 (lit≤ tt) (lit< tt)))))
+answer_sent_front s = answer_sent_same s tt tt tt
 
 pub answer_sent_round : (s : List ℕ) → Same round_at last_at s (answer_sent s)
-unfolding answer_sent
-answer_sent_round s =
-    let s₁ : List ℕ = set s answer_bytes_at (answer_kind s) in
-    let s₂ : List ℕ = set s₁ answer_at 0 in
-    let s₃ : List ℕ = set s₂ ctr_at (ctr_next s) in
-    same_then (before {lo = answer_at} {hi = session_at} (lit≤ tt) (only_then (only_set s answer_bytes_at (answer_kind s) (lit≤ tt) (lit< tt)) (only_set s₁ answer_at 0 (lit≤ tt) (lit< tt))))
-    (same_then (behind {lo = ctr_at} {hi = round_at} (lit≤ tt) (only_set s₂ ctr_at (ctr_next s) (lit≤ tt) (lit< tt))) (before {lo = last_at} {hi = place_at} (lit≤ tt) (only_set s₃ last_at 1 (lit≤ tt) (lit< tt))))
+answer_sent_round s = answer_sent_same s tt tt tt
 
 -- ---- a packet
 rounded : (s : List ℕ) (c l : ℕ) → Only ctr_at place_at s (set (set (set s ctr_at c) round_at l) last_at 0)

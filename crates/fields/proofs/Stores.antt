@@ -1,17 +1,14 @@
 -- A store leaves every byte outside it, and what is stored is read. Assumes nothing.
-use Prim.Native.Nat.{ℕ, suc, ◌+◌, ◌*◌, ◌-◌, ◌/◌, ◌%◌, ◌^◌, ◌≤◌, ◌<◌}
-use mathlib.Core.Path.{◌≡◌, refl, ◌∙◌}
-use mathlib.Core.Logic.{◌≢◌}
-use mathlib.Core.Bool.{Bool, true, false, cond}
-use mathlib.Core.List.{List, [], ◌∷◌, ◌++◌, append_assoc}
-use native.Mathlib.Omega.{arith}
-use native.Mathlib.Nat.{div-add-mod', mod-eq_of_lt}
-use borrow.Author.Tests.{ltb-true}
-use lib.Pow.{shr-shr, shr_lt}
-use lib.Dec.{T, ltb, leb, leb→le}
-use lib.ListN.{length, get_or, set, take, drop, replicate, length-set, length-replicate, get_or-replicate, get_or-append}
-use lib.Seq.{sets, sets-eq, get_or-set_same, get_or-set_other, get_or-append-add, length-take-le, take_at, drop_at, take-set-le}
+use Rattle.std.proofs.Common.{◌≡◌, ℕ, suc, ◌+◌, ◌-◌, ◌*◌, ◌/◌, ◌%◌, ◌^◌, ◌<◌, ◌≤◌, Bool, true, false, cond, T, ltb, leb, ◌≢◌, List, [], ◌∷◌, ◌++◌, length, get_or, take, drop, set, replicate, refl, ◌∙◌, append_assoc, mod-eq_of_lt, div-add-mod', arith, leb→le, length-set, length-take-le, get_or-set_other, get_or-set_same, take_at, get_or-append-add, drop_at, shr-shr, shr_lt, ltb-true}
+use Rattle.std.proofs.lemmas.List.{length-replicate, get_or-replicate, take-set-le}
+use Rattle.std.proofs.Math.ListN.{get_or-append}
+use Rattle.std.proofs.Math.Seq.{sets, sets-eq}
 use Rattle.state.specs.Bytes.{u32_at, put32, block, cleared}
+
+-- both of two tests
+pub both_tests : (a b : Bool) → T (cond a b false) → (a ≡ true) × T b
+both_tests true b t = (refl, t)
+both_tests false b t = absurd t
 
 -- ---- what a store leaves
 -- j lies outside the bytes from lo up to hi; at numerals it computes, so that `tt` proves it

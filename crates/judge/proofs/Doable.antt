@@ -1,12 +1,7 @@
 -- What is judged can be done: what performing a deed leans on was tested. Assumes that what is seen is of the session.
+use Rattle.std.proofs.Common.{Some, None, ℕ, ◌+◌, ◌≤◌, ◌<◌, arith, ◌≡◌, sym, ◌∙◌, Bool, ltb-false, leb-false, eqb, ltb, leb}
 use Prim.{tt}
-use Prim.Native.Nat.{ℕ, ◌+◌, ◌≤◌, ◌<◌}
-use native.Mathlib.Omega.{arith}
-use mathlib.Core.Path.{◌≡◌, sym, ◌∙◌}
-use mathlib.Core.Bool.{Bool}
-use borrow.Author.Tests.{ltb-false, leb-false}
-use lib.Dec.{eqb, ltb, leb}
-use Rattle.line.proofs.Laws.{cond_ind}
+use Rattle.std.proofs.lemmas.Bool.{cond_both}
 use Rattle.state.specs.Layout.{lists, all_odts, all_entries, events, entry_most, upload_most, download_from, download_most, short_download_from, short_download_most, addressable}
 use Rattle.state.specs.Generator.{key_of, stays_shut}
 use Rattle.state.specs.Memory.{pick, inside_of}
@@ -20,8 +15,7 @@ use Rattle.words.specs.declared.Resource.{Resource}
 use Rattle.words.specs.declared.Resource.TheVariants.{Calibration, Lists}
 use Rattle.words.specs.declared.Extension.{Extension}
 use Rattle.words.specs.declared.Extension.TheVariants.{Calibration as CalibrationMemory, Measured}
-use Rattle.words.specs.declared.Seed.{Seed}
-use Rattle.words.specs.declared.Seed.TheVariants.{None, For}
+use Rattle.words.specs.Values.{Seed}
 use Rattle.words.specs.declared.Mta.{Mta}
 use Rattle.words.specs.declared.Mta.TheVariants.{Unset, At}
 use Rattle.words.specs.declared.Pointer.{Pointer}
@@ -52,150 +46,150 @@ module _ (c : Session) (n nc nm : ℕ) where
 
   connect_doable : (mode : ℕ) → Can (connect_deed mode)
   unfolding connect_deed
-  connect_doable mode = cond_ind Can (eqb mode 0) (λ _. tt) (λ _. tt)
+  connect_doable mode = cond_both (eqb mode 0) _ _ Can (λ _. tt) (λ _. tt)
 
   seed_doable : (unlocked : Bool) (r : Resource) → Can (seed_deed unlocked r)
-  seed_doable unlocked r = cond_ind Can unlocked (λ _. tt) (λ _. tt)
+  seed_doable unlocked r = cond_both unlocked _ _ Can (λ _. tt) (λ _. tt)
 
   get_seed_doable : (wrong : ℕ) (calibration lists : Bool) (mode resource : ℕ) → Can (get_seed_deed wrong calibration lists mode resource)
   unfolding get_seed_deed
   get_seed_doable wrong calibration lists mode resource =
-      cond_ind Can (stays_shut wrong) (λ _. tt) (λ _.
-      cond_ind Can (eqb mode 1) (λ _. tt) (λ _.
-      cond_ind Can (ltb 1 mode) (λ _. tt) (λ _.
-      cond_ind Can (eqb resource 0x01) (λ _. seed_doable calibration Calibration) (λ _.
-      cond_ind Can (eqb resource 0x04) (λ _. seed_doable lists Lists) (λ _. tt)))))
+      cond_both (stays_shut wrong) _ _ Can (λ _. tt) (λ _.
+      cond_both (eqb mode 1) _ _ Can (λ _. tt) (λ _.
+      cond_both (ltb 1 mode) _ _ Can (λ _. tt) (λ _.
+      cond_both (eqb resource 0x01) _ _ Can (λ _. seed_doable calibration Calibration) (λ _.
+      cond_both (eqb resource 0x04) _ _ Can (λ _. seed_doable lists Lists) (λ _. tt)))))
 
   unlock_doable : (seed : Seed) (g size len key : ℕ) → Can (unlock_by seed g size len key)
   unfolding unlock_by
   unlock_doable None g size len key = tt
-  unlock_doable (For r) g size len key =
-      cond_ind Can (eqb size 4) (λ _.
-      cond_ind Can (ltb len 6) (λ _. tt) (λ _.
-      cond_ind Can (eqb key (key_of r g)) (λ _. tt) (λ _. tt))) (λ _. tt)
+  unlock_doable (Some r) g size len key =
+      cond_both (eqb size 4) _ _ Can (λ _.
+      cond_both (ltb len 6) _ _ Can (λ _. tt) (λ _.
+      cond_both (eqb key (key_of r g)) _ _ Can (λ _. tt) (λ _. tt))) (λ _. tt)
 
   set_mta_doable : (ext a : ℕ) → Can (set_mta_deed ext a)
   unfolding set_mta_deed
-  set_mta_doable ext a = cond_ind Can (ltb 1 ext) (λ _. tt) (λ _. tt)
+  set_mta_doable ext a = cond_both (ltb 1 ext) _ _ Can (λ _. tt) (λ _. tt)
 
   upload_doable : (mta : Mta) (m : ℕ) → Can (upload_deed mta m nc nm)
   unfolding upload_deed
   upload_doable Unset m = tt
   upload_doable (At e a) m =
-      cond_ind Can (eqb m 0) (λ _. tt) (λ _.
-      cond_ind Can (ltb upload_most m) (λ _. tt) (λ few.
-      cond_ind Can (inside_of a m (pick e nc nm)) (λ inside. (ltb-false upload_most m few, inside)) (λ _. tt)))
+      cond_both (eqb m 0) _ _ Can (λ _. tt) (λ _.
+      cond_both (ltb upload_most m) _ _ Can (λ _. tt) (λ few.
+      cond_both (inside_of a m (pick e nc nm)) _ _ Can (λ inside. (ltb-false upload_most m few, inside)) (λ _. tt)))
 
   short_upload_doable : (m ext a : ℕ) → Can (short_upload_deed m ext a nc nm)
   unfolding short_upload_deed
   short_upload_doable m ext a =
-      cond_ind Can (eqb m 0) (λ _. tt) (λ _.
-      cond_ind Can (ltb upload_most m) (λ _. tt) (λ few.
-      cond_ind Can (ltb 1 ext) (λ _. tt) (λ _.
-      cond_ind Can (inside_of a m (pick (extension_from ext) nc nm)) (λ inside. (ltb-false upload_most m few, inside)) (λ _. tt))))
+      cond_both (eqb m 0) _ _ Can (λ _. tt) (λ _.
+      cond_both (ltb upload_most m) _ _ Can (λ _. tt) (λ few.
+      cond_both (ltb 1 ext) _ _ Can (λ _. tt) (λ _.
+      cond_both (inside_of a m (pick (extension_from ext) nc nm)) _ _ Can (λ inside. (ltb-false upload_most m few, inside)) (λ _. tt))))
 
   checksum_doable : (mta : Mta) (m : ℕ) → Can (checksum_deed mta m nc nm)
   unfolding checksum_deed
   checksum_doable Unset m = tt
   checksum_doable (At e a) m =
-      cond_ind Can (eqb m 0) (λ _. tt) (λ _.
-      cond_ind Can (ltb addressable m) (λ _. tt) (λ few.
-      cond_ind Can (inside_of a m (pick e nc nm)) (λ inside. (ltb-false addressable m few, inside)) (λ _. tt)))
+      cond_both (eqb m 0) _ _ Can (λ _. tt) (λ _.
+      cond_both (ltb addressable m) _ _ Can (λ _. tt) (λ few.
+      cond_both (inside_of a m (pick e nc nm)) _ _ Can (λ inside. (ltb-false addressable m few, inside)) (λ _. tt)))
 
   download_to_doable : (from : ℕ) (e : Extension) (a m : ℕ) → m ≤ download_most → m + from ≤ n → Can (download_to from e a m nc)
   unfolding download_to
-  download_to_doable from CalibrationMemory a m few there = cond_ind Can (inside_of a m nc) (λ inside. (there, (few, inside))) (λ _. tt)
+  download_to_doable from CalibrationMemory a m few there = cond_both (inside_of a m nc) _ _ Can (λ inside. (there, (few, inside))) (λ _. tt)
   download_to_doable from Measured a m few there = tt
 
   download_doable : (mta : Mta) (m : ℕ) → Can (download_deed mta m n nc)
   unfolding download_deed
   download_doable Unset m = tt
   download_doable (At e a) m =
-      cond_ind Can (eqb m 0) (λ _. tt) (λ _.
-      cond_ind Can (ltb download_most m) (λ _. tt) (λ few.
-      cond_ind Can (ltb n (m + download_from)) (λ _. tt) (λ there.
+      cond_both (eqb m 0) _ _ Can (λ _. tt) (λ _.
+      cond_both (ltb download_most m) _ _ Can (λ _. tt) (λ few.
+      cond_both (ltb n (m + download_from)) _ _ Can (λ _. tt) (λ there.
       download_to_doable download_from e a m (ltb-false download_most m few) (ltb-false n (m + download_from) there))))
 
   short_download_doable : (m ext a : ℕ) → Can (short_download_deed m ext a n nc)
   unfolding short_download_deed
   short_download_doable m ext a =
-      cond_ind Can (eqb m 0) (λ _. tt) (λ _.
-      cond_ind Can (ltb short_download_most m) (λ _. tt) (λ few.
-      cond_ind Can (ltb 1 ext) (λ _. tt) (λ _.
-      cond_ind Can (ltb n (m + short_download_from)) (λ _. tt) (λ there.
+      cond_both (eqb m 0) _ _ Can (λ _. tt) (λ _.
+      cond_both (ltb short_download_most m) _ _ Can (λ _. tt) (λ few.
+      cond_both (ltb 1 ext) _ _ Can (λ _. tt) (λ _.
+      cond_both (ltb n (m + short_download_from)) _ _ Can (λ _. tt) (λ there.
       download_to_doable short_download_from (extension_from ext) a m (omega (arith, ltb-false short_download_most m few)) (ltb-false n (m + short_download_from) there)))))
 
   clear_doable : (present : ℕ) → present ≡ c.lists → (runs : Bool) (l : ℕ) → Can (clear_deed present runs l)
   unfolding clear_deed
   clear_doable present all runs l =
-      cond_ind Can (leb present l) (λ _. tt) (λ one.
-      cond_ind Can runs (λ _. tt) (λ _. omega (arith, all, leb-false present l one)))
+      cond_both (leb present l) _ _ Can (λ _. tt) (λ one.
+      cond_both runs _ _ Can (λ _. tt) (λ _. omega (arith, all, leb-false present l one)))
 
   pointer_doable : (present odts entries l o e : ℕ) → present ≡ c.lists → odts ≡ (c.list l).odts → entries ≡ ((c.list l).odt o).entries → Can (pointer_deed present odts entries l o e)
   unfolding pointer_deed
   pointer_doable present odts entries l o e all its each =
-      cond_ind Can (leb present l) (λ _. tt) (λ list.
-      cond_ind Can (leb odts o) (λ _. tt) (λ odt.
-      cond_ind Can (leb entries e) (λ _. tt) (λ entry.
+      cond_both (leb present l) _ _ Can (λ _. tt) (λ list.
+      cond_both (leb odts o) _ _ Can (λ _. tt) (λ odt.
+      cond_both (leb entries e) _ _ Can (λ _. tt) (λ entry.
       (omega (arith, all, leb-false present l list), omega (arith, its, leb-false odts o odt), omega (arith, each, leb-false entries e entry)))))
 
   write_block_doable : (l o e m : ℕ) (ext : Extension) (a len : ℕ) → Entered c l o e → Can (write_block l o e m ext a len)
   unfolding write_block
   write_block_doable l o e m ext a len there =
-      cond_ind Can (eqb m 0) (λ _. there) (λ _.
-      cond_ind Can (inside_of a m len) (λ _. there) (λ _. tt))
+      cond_both (eqb m 0) _ _ Can (λ _. there) (λ _.
+      cond_both (inside_of a m len) _ _ Can (λ _. there) (λ _. tt))
 
   write_doable : (at : Pointer) → Pointing at c → (runs : Bool) (bit m ext a : ℕ) → Can (write_deed at runs bit m ext a nc nm)
   unfolding write_deed
   write_doable NoEntry _ runs bit m ext a = tt
   write_doable (Entry l o e) there runs bit m ext a =
-      cond_ind Can (eqb bit 0xFF) (λ _.
-      cond_ind Can (ltb entry_most m) (λ _. tt) (λ _.
-      cond_ind Can (ltb 1 ext) (λ _. tt) (λ _.
-      cond_ind Can runs (λ _. tt) (λ _.
+      cond_both (eqb bit 0xFF) _ _ Can (λ _.
+      cond_both (ltb entry_most m) _ _ Can (λ _. tt) (λ _.
+      cond_both (ltb 1 ext) _ _ Can (λ _. tt) (λ _.
+      cond_both runs _ _ Can (λ _. tt) (λ _.
       write_block_doable l o e m (extension_from ext) a (pick (extension_from ext) nc nm) there)))) (λ _. tt)
 
   mode_doable : (present : ℕ) → present ≡ c.lists → (runs : Bool) (mode l event prescaler priority : ℕ) → Can (mode_deed present runs mode l event prescaler priority)
   unfolding mode_deed
   mode_doable present all runs mode l event prescaler priority =
-      cond_ind Can (eqb mode 0x10) (λ _.
-      cond_ind Can (leb present l) (λ _. tt) (λ list.
-      cond_ind Can (leb events event) (λ _. tt) (λ few.
-      cond_ind Can (eqb prescaler 1) (λ _.
-      cond_ind Can (eqb priority 0) (λ _.
-      cond_ind Can runs (λ _. tt) (λ _.
+      cond_both (eqb mode 0x10) _ _ Can (λ _.
+      cond_both (leb present l) _ _ Can (λ _. tt) (λ list.
+      cond_both (leb events event) _ _ Can (λ _. tt) (λ few.
+      cond_both (eqb prescaler 1) _ _ Can (λ _.
+      cond_both (eqb priority 0) _ _ Can (λ _.
+      cond_both runs _ _ Can (λ _. tt) (λ _.
       (omega (arith, all, leb-false present l list), leb-false events event few))) (λ _. tt)) (λ _. tt)))) (λ _. tt)
 
   start_doable : (runs fits : Bool) (l : ℕ) → l < c.lists → Can (start_deed runs fits l)
   unfolding start_deed
   start_doable runs fits l list =
-      cond_ind Can runs (λ _. list) (λ _.
-      cond_ind Can fits (λ _. list) (λ _. tt))
+      cond_both runs _ _ Can (λ _. list) (λ _.
+      cond_both fits _ _ Can (λ _. list) (λ _. tt))
 
   start_stop_doable : (present : ℕ) → present ≡ c.lists → (runs fits : Bool) (mode l : ℕ) → Can (start_stop_deed present runs fits mode l)
   unfolding start_stop_deed
   start_stop_doable present all runs fits mode l =
-      cond_ind Can (ltb 2 mode) (λ _. tt) (λ _.
-      cond_ind Can (leb present l) (λ _. tt) (λ list.
+      cond_both (ltb 2 mode) _ _ Can (λ _. tt) (λ _.
+      cond_both (leb present l) _ _ Can (λ _. tt) (λ list.
       let there : l < c.lists = omega (arith, all, leb-false present l list) in
-      cond_ind Can (eqb mode 0) (λ _. there) (λ _.
-      cond_ind Can (eqb mode 1) (λ _. start_doable runs fits l there) (λ _. there))))
+      cond_both (eqb mode 0) _ _ Can (λ _. there) (λ _.
+      cond_both (eqb mode 1) _ _ Can (λ _. start_doable runs fits l there) (λ _. there))))
 
   synch_doable : (ready : Bool) (mode : ℕ) → Can (synch_deed ready mode)
   unfolding synch_deed
   synch_doable ready mode =
-      cond_ind Can (ltb 2 mode) (λ _. tt) (λ _.
-      cond_ind Can (eqb mode 0) (λ _. tt) (λ _.
-      cond_ind Can (eqb mode 1) (λ _.
-      cond_ind Can ready (λ _. tt) (λ _. tt)) (λ _. tt)))
+      cond_both (ltb 2 mode) _ _ Can (λ _. tt) (λ _.
+      cond_both (eqb mode 0) _ _ Can (λ _. tt) (λ _.
+      cond_both (eqb mode 1) _ _ Can (λ _.
+      cond_both ready _ _ Can (λ _. tt) (λ _. tt)) (λ _. tt)))
 
   alloc_lists_doable : (freed : Bool) (present m : ℕ) → freed ≡ c.freed → present ≡ c.lists → Can (alloc_lists_deed freed present m)
   unfolding alloc_lists_deed
   alloc_lists_doable freed present m free all =
-      cond_ind Can freed (λ on.
-      cond_ind Can (ltb 0 present) (λ _. tt) (λ none.
-      cond_ind Can (eqb m 0) (λ _. tt) (λ _.
-      cond_ind Can (ltb lists m) (λ _. tt) (λ few.
+      cond_both freed _ _ Can (λ on.
+      cond_both (ltb 0 present) _ _ Can (λ _. tt) (λ none.
+      cond_both (eqb m 0) _ _ Can (λ _. tt) (λ _.
+      cond_both (ltb lists m) _ _ Can (λ _. tt) (λ few.
       (sym free ∙ on, omega (arith, all, ltb-false 0 present none), ltb-false lists m few))))) (λ _. tt)
 
 module _ (c : Session) (p : Packet) (v : Seen) (s : Sees c p v) (nc nm : ℕ) where
@@ -205,24 +199,24 @@ module _ (c : Session) (p : Packet) (v : Seen) (s : Sees c p v) (nc nm : ℕ) wh
   alloc_odts_doable : (m : ℕ) → Allowed (alloc_odts_deed v.present v.odts v.odts_taken v.entries_taken v.started p.w2 m)
   unfolding alloc_odts_deed
   alloc_odts_doable m =
-      cond_ind Allowed (eqb v.present 0) (λ _. tt) (λ _.
-      cond_ind Allowed (ltb 0 v.entries_taken) (λ _. tt) (λ empty.
-      cond_ind Allowed (ltb 0 v.odts) (λ _. tt) (λ none.
-      cond_ind Allowed v.started (λ _. tt) (λ _.
-      cond_ind Allowed (leb v.present p.w2) (λ _. tt) (λ list.
-      cond_ind Allowed (eqb m 0) (λ _. tt) (λ _.
-      cond_ind Allowed (ltb all_odts (v.odts_taken + m)) (λ _. tt) (λ few.
+      cond_both (eqb v.present 0) _ _ Allowed (λ _. tt) (λ _.
+      cond_both (ltb 0 v.entries_taken) _ _ Allowed (λ _. tt) (λ empty.
+      cond_both (ltb 0 v.odts) _ _ Allowed (λ _. tt) (λ none.
+      cond_both v.started _ _ Allowed (λ _. tt) (λ _.
+      cond_both (leb v.present p.w2) _ _ Allowed (λ _. tt) (λ list.
+      cond_both (eqb m 0) _ _ Allowed (λ _. tt) (λ _.
+      cond_both (ltb all_odts (v.odts_taken + m)) _ _ Allowed (λ _. tt) (λ few.
       (omega (arith, s.present, leb-false v.present p.w2 list), omega (arith, s.odts, ltb-false 0 v.odts none), omega (arith, s.entries_taken, ltb-false 0 v.entries_taken empty), omega (arith, s.odts_taken, ltb-false all_odts (v.odts_taken + m) few)))))))))
 
   alloc_entries_doable : (m : ℕ) → Allowed (alloc_entries_deed v.odts v.entries v.odts_taken v.entries_taken v.runs p.w2 p.b4 m)
   unfolding alloc_entries_deed
   alloc_entries_doable m =
-      cond_ind Allowed (eqb v.odts_taken 0) (λ _. tt) (λ _.
-      cond_ind Allowed (ltb 0 v.entries) (λ _. tt) (λ none.
-      cond_ind Allowed (leb v.odts p.b4) (λ _. tt) (λ odt.
-      cond_ind Allowed (eqb m 0) (λ _. tt) (λ _.
-      cond_ind Allowed v.runs (λ _. tt) (λ _.
-      cond_ind Allowed (ltb all_entries (v.entries_taken + m)) (λ _. tt) (λ few.
+      cond_both (eqb v.odts_taken 0) _ _ Allowed (λ _. tt) (λ _.
+      cond_both (ltb 0 v.entries) _ _ Allowed (λ _. tt) (λ none.
+      cond_both (leb v.odts p.b4) _ _ Allowed (λ _. tt) (λ odt.
+      cond_both (eqb m 0) _ _ Allowed (λ _. tt) (λ _.
+      cond_both v.runs _ _ Allowed (λ _. tt) (λ _.
+      cond_both (ltb all_entries (v.entries_taken + m)) _ _ Allowed (λ _. tt) (λ few.
       let its : p.b4 < (c.list p.w2).odts = omega (arith, s.odts, leb-false v.odts p.b4 odt) in
       (s.there (omega (arith, its)), its, omega (arith, s.entries, ltb-false 0 v.entries none), omega (arith, s.entries_taken, ltb-false all_entries (v.entries_taken + m) few))))))))
 
@@ -257,8 +251,8 @@ module _ (c : Session) (p : Packet) (v : Seen) (s : Sees c p v) (nc nm : ℕ) wh
   by_doable : (a : Command) → Allowed (judge_by a p v nc nm)
   unfolding judge_by
   by_doable a =
-      cond_ind Allowed (ltb p.n (fewest a)) (λ _. tt) (λ _.
-      cond_ind Allowed (locked_by (needs_of a) v) (λ _. tt) (λ _. the_doable a))
+      cond_both (ltb p.n (fewest a)) _ _ Allowed (λ _. tt) (λ _.
+      cond_both (locked_by (needs_of a) v) _ _ Allowed (λ _. tt) (λ _. the_doable a))
 
   pub judge_doable : Allowed (judge p v nc nm)
   unfolding judge

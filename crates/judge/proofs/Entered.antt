@@ -1,12 +1,6 @@
 -- What a session in bytes has: a list with ODTs is there, and an entry is one that the bytes have. Assumes nothing.
 use Prim.{tt}
-use mathlib.Core.Path.{◌≡◌, refl, ap}
-use mathlib.Core.Bool.{Bool, true, false}
-use mathlib.Core.List.{List}
-use Prim.Native.Nat.{ℕ, ◌+◌, ◌<◌}
-use native.Mathlib.Omega.{arith}
-use borrow.Author.Tests.{ltb-true, ltb-false}
-use lib.Dec.{ltb}
+use Rattle.std.proofs.Common.{◌≡◌, refl, ap, Bool, true, false, List, ℕ, ◌+◌, ◌<◌, arith, ltb-true, ltb-false, ltb}
 use Rattle.state.specs.Pool.{list_count, odt_count, first_odt, entry_count}
 use Rattle.state.specs.State.{Pointed}
 use Rattle.words.specs.declared.Pointer.{Pointer}

@@ -1,19 +1,11 @@
 -- A verdict rests on no byte behind a packet's end, and on nothing of a list that its command does not name. Assumes nothing.
-use mathlib.Core.Path.{◌≡◌, refl, ap, ◌∙◌}
-use mathlib.Core.Bool.{Bool, true, false, cond}
-use Prim.Native.Nat.{ℕ, ◌≤◌}
-use native.Mathlib.Omega.{arith}
-use borrow.Author.Tests.{ltb-false, le-leb}
-use lib.Dec.{eqb, ltb}
+use Rattle.std.proofs.Common.{Some, None, ◌≡◌, refl, ap, ◌∙◌, Bool, true, false, cond, ℕ, ◌≤◌, arith, ltb-false, ltb}
 use Rattle.words.specs.Command.{fewest, needs_of}
 use Rattle.words.specs.declared.Command.{Command}
 use Rattle.words.specs.declared.Command.TheVariants.{Unknown, Connect, Disconnect, GetStatus, Synch, GetSeed, Unlock, SetMta, Upload, ShortUpload, BuildChecksum, Download, ShortDownload, ClearDaqList, SetDaqPtr, WriteDaq, SetDaqListMode, StartStopDaqList, StartStopSynch, GetDaqProcessorInfo, GetDaqResolutionInfo, FreeDaq, AllocDaq, AllocOdt, AllocOdtEntry}
-use Rattle.words.specs.declared.Needs.{Needs}
-use Rattle.words.specs.declared.Needs.TheVariants as needs
+use Rattle.words.specs.Values.{Needs, Seed}
 use Rattle.words.specs.declared.Resource.TheVariants.{Calibration, Lists}
-use Rattle.words.specs.declared.Seed.{Seed}
-use Rattle.words.specs.declared.Seed.TheVariants.{None, For}
-use Rattle.model.specs.Judge.{unlock_by, start_stop_deed, synch_deed, alloc_entries_deed, locked_by, judge_the, judge_by}
+use Rattle.model.specs.Judge.{unlock_by, locked_by, judge_the, judge_by}
 use Rattle.model.specs.Seen.{Packet, Seen}
 use Rattle.words.specs.declared.Reason.TheVariants.{TooShort, Locked}
 use Rattle.model.specs.declared.Deed.{Deed}
@@ -39,9 +31,9 @@ pub record Alike (p q : Packet) : Type 0 where
 unlock_alike : (seed : Seed) (g size n key key' : ℕ) → (6 ≤ n → key ≡ key') → unlock_by seed g size n key ≡ unlock_by seed g size n key'
 unfolding unlock_by
 unlock_alike None g size n key key' h = refl
-unlock_alike (For r) g size n key key' h = by (ltb n 6) refl
+unlock_alike (Some r) g size n key key' h = by (ltb n 6) refl
   where
-    by : (short : Bool) → ltb n 6 ≡ short → unlock_by (For r) g size n key ≡ unlock_by (For r) g size n key'
+    by : (short : Bool) → ltb n 6 ≡ short → unlock_by (Some r) g size n key ≡ unlock_by (Some r) g size n key'
     by true e = rw e
     by false e = rw (h (ltb-false n 6 e))
 
@@ -109,20 +101,6 @@ pub record Naming (v w : Seen) : Type 0 where
   pub runs : v.runs ≡ w.runs
   pub fits : v.fits ≡ w.fits
 
--- a start alone looks at the lists
-pub start_asks : (present : ℕ) (runs runs' fits fits' : Bool) (mode l : ℕ) → eqb mode 1 ≡ false → start_stop_deed present runs fits mode l ≡ start_stop_deed present runs' fits' mode l
-unfolding start_stop_deed
-start_asks present runs runs' fits fits' mode l e = rw e
-
-pub synch_asks : (ready ready' : Bool) (mode : ℕ) → eqb mode 1 ≡ false → synch_deed ready mode ≡ synch_deed ready' mode
-unfolding synch_deed
-synch_asks ready ready' mode e = rw e
-
--- of a list without ODTs nothing more is asked, not even its number
-pub entries_ask : (all taken taken' : ℕ) (runs runs' : Bool) (l l' o n : ℕ) → alloc_entries_deed 0 0 all taken runs l o n ≡ alloc_entries_deed 0 0 all taken' runs' l' o n
-unfolding alloc_entries_deed
-entries_ask all taken taken' runs runs' l l' o n = rw (le-leb 0 o (omega arith))
-
 module _ (p : Packet) (v w : Seen) (s : Seeing v w) (nc nm : ℕ) where
   -- the list lies in a packet's bytes 2 and 3, the ODT in byte 4
   the_looked : (c : Command) → (4 ≤ fewest c → Naming v w) → (5 ≤ fewest c → v.entries ≡ w.entries) → judge_the c p v nc nm ≡ judge_the c p w nc nm
@@ -154,9 +132,9 @@ module _ (p : Packet) (v w : Seen) (s : Seeing v w) (nc nm : ℕ) where
   the_looked AllocOdtEntry h o = rw ((h (omega arith)).odts, o (omega arith), s.odts_taken, s.entries_taken, (h (omega arith)).runs)
 
   locked_seen : (n : Needs) → locked_by n v ≡ locked_by n w
-  locked_seen needs.Nothing = refl
-  locked_seen (needs.Unlocked Calibration) = rw s.calibration
-  locked_seen (needs.Unlocked Lists) = rw s.lists
+  locked_seen None = refl
+  locked_seen (Some Calibration) = rw s.calibration
+  locked_seen (Some Lists) = rw s.lists
 
   pub judge_looked : (c : Command) → (4 ≤ fewest c → Naming v w) → (5 ≤ fewest c → v.entries ≡ w.entries) → judge_by c p v nc nm ≡ judge_by c p w nc nm
   unfolding judge_by

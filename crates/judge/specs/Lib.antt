@@ -1,2 +1,3 @@
--- What performing a deed leans on: `Doable`.
+-- How the checks answer a deed: `Judged`. What performing a deed leans on: `Doable`.
+pub mod Judged
 pub mod Doable

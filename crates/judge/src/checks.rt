@@ -1,257 +1,200 @@
-// A command's own checks, in the paper's order: the first that applies answers. Each takes no more than it looks at.
-ghost use Rattle.std.specs.Prelude.{◌≡◌};
-ghost use Rattle.model.specs.Judge.{extension_from, connect_deed, seed_deed, get_seed_deed, unlock_by, set_mta_deed, upload_deed, short_upload_deed, checksum_deed, download_to, download_deed, short_download_deed, clear_deed, pointer_deed, write_block, write_deed, mode_deed, start_deed, start_stop_deed, synch_deed, alloc_lists_deed, alloc_odts_deed, alloc_entries_deed};
+// A command's own checks, in the paper's order: the first that does not hold refuses. Each takes no more than it looks at, value by
+// value: a record of the packet and one of the state, filled before the dispatch, cost 172 to 319 instructions a command (Cortex-M4).
+ghost use Rattle.std.specs.Prelude.{◌≡◌, leb, if◌then◌else◌, Ok, Err};
+ghost use Rattle.words.specs.declared.Reason.TheVariants.{OutOfRange};
+ghost use Rattle.model.specs.Judge.{connect_deed, get_seed_deed, unlock_by, set_mta_deed, upload_deed, short_upload_deed, checksum_deed, download_to, download_deed, short_download_deed, clear_deed, pointer_deed, write_deed, mode_deed, start_deed, start_stop_deed, synch_deed, alloc_lists_deed, alloc_odts_deed, alloc_entries_deed};
+ghost use Rattle.judge.specs.Judged.{judged};
 
+use crate::Lengths;
 use model::Deed;
 use state::layout;
-use state::memory::{inside, length_of};
+use state::memory::inside;
 use state::seeds::{key_for, stays_shut};
-use words::{Extension, Mta, Pointer, Reason, Resource, Seed};
+use words::{Extension, Mta, Pointer, Reason, Resource};
 
-// 0 is calibration; a number above 1 was refused before.
-fn extension_from(n: u8) -> Extension
-    ensures { result ≡ extension_from n }
+// One check: where it does not hold, the command is refused.
+pub fn check(holds: bool, reason: Reason) -> Result<(), Reason>
+    ensures { result ≡ (if holds then Ok tt else Err reason) }
 {
-    if n == 0 {
-        Extension::Calibration
-    } else {
-        Extension::Measured
-    }
+    if holds { Ok(()) } else { Err(reason) }
 }
 
-pub fn connect(mode: u8) -> Deed
-    ensures { result ≡ connect_deed mode }
+// The number of a list that there is.
+fn listed(present: u8, l: u16) -> Result<u8, Reason>
+    ensures { result ≡ (if leb present l then Err OutOfRange else Ok l) }
 {
-    if mode == 0 {
-        Deed::Connect
-    } else {
-        Deed::Refuse(Reason::OutOfRange)
-    }
+    check(l < present as u16, Reason::OutOfRange)?;
+    Ok(l as u8)
 }
 
-fn seed_for(unlocked: bool, resource: Resource) -> Deed
-    ensures { result ≡ seed_deed unlocked resource }
+#[tactic(auto, unfolding(model::specs::Judge::connect_deed))]
+pub fn connect(mode: u8) -> Result<Deed, Reason>
+    ensures { result ≡ judged (connect_deed mode) }
 {
+    check(mode == 0, Reason::OutOfRange)?;
+    Ok(Deed::Connect)
+}
+
+#[tactic(auto, unfolding(model::specs::Judge::get_seed_deed))]
+pub fn get_seed(
+    wrong: u8,
+    calibration: bool,
+    lists: bool,
+    mode: u8,
+    resource: u8,
+) -> Result<Deed, Reason>
+    ensures { result ≡ judged (get_seed_deed wrong calibration lists mode resource) }
+{
+    check(!stays_shut(wrong), Reason::Locked)?;
+    check(mode != 1, Reason::Sequence)?;
+    check(mode <= 1, Reason::OutOfRange)?;
+    let wanted = Resource::try_from(resource)?;
+    let unlocked = match wanted {
+        Resource::Calibration => calibration,
+        Resource::Lists => lists,
+    };
     if unlocked {
-        Deed::NoSeed
+        Ok(Deed::NoSeed)
     } else {
-        Deed::GiveSeed(resource)
+        Ok(Deed::GiveSeed(wanted))
     }
 }
 
-pub fn get_seed(wrong: u8, calibration: bool, lists: bool, mode: u8, resource: u8) -> Deed
-    ensures { result ≡ get_seed_deed wrong calibration lists mode resource }
+#[tactic(auto, unfolding(model::specs::Judge::unlock_by))]
+pub fn unlock(seed: Option<Resource>, g: u32, size: u8, n: u8, key: u32) -> Result<Deed, Reason>
+    ensures { result ≡ judged (unlock_by seed g size n key) }
 {
-    if stays_shut(wrong) {
-        return Deed::Refuse(Reason::Locked);
-    }
-    if mode == 1 {
-        return Deed::Refuse(Reason::Sequence);
-    }
-    if 1 < mode {
-        return Deed::Refuse(Reason::OutOfRange);
-    }
-    if resource == 0x01 {
-        return seed_for(calibration, Resource::Calibration);
-    }
-    if resource == 0x04 {
-        return seed_for(lists, Resource::Lists);
-    }
-    Deed::Refuse(Reason::OutOfRange)
-}
-
-pub fn unlock(seed: Seed, g: u32, size: u8, n: u8, key: u32) -> Deed
-    ensures { result ≡ unlock_by seed g size n key }
-{
-    match seed {
-        Seed::None => Deed::Refuse(Reason::Sequence),
-        Seed::For(resource) => {
-            if size != 4 {
-                return Deed::Refuse(Reason::OutOfRange);
-            }
-            if n < 6 {
-                return Deed::Refuse(Reason::DataMissing);
-            }
-            if key == key_for(resource, g) {
-                Deed::Unlock(resource)
-            } else {
-                Deed::WrongKey
-            }
-        }
-    }
-}
-
-pub fn set_mta(extension: u8, address: u32) -> Deed
-    ensures { result ≡ set_mta_deed extension address }
-{
-    if 1 < extension {
-        return Deed::Refuse(Reason::OutOfRange);
-    }
-    Deed::SetMta(extension_from(extension), address)
-}
-
-pub fn upload(mta: Mta, n: u8, nc: usize, nm: usize) -> Deed
-    ensures { result ≡ upload_deed mta n nc nm }
-{
-    match mta {
-        Mta::Unset => Deed::Refuse(Reason::Sequence),
-        Mta::At(extension, address) => {
-            if n == 0 {
-                return Deed::Refuse(Reason::OutOfRange);
-            }
-            if layout::UPLOAD_MOST < n {
-                return Deed::Refuse(Reason::OutOfRange);
-            }
-            if inside(address, n as u32, length_of(extension, nc, nm)) {
-                Deed::Upload(extension, address, n)
-            } else {
-                Deed::Refuse(Reason::NotInside)
-            }
-        }
-    }
-}
-
-pub fn short_upload(n: u8, extension: u8, address: u32, nc: usize, nm: usize) -> Deed
-    ensures { result ≡ short_upload_deed n extension address nc nm }
-{
-    if n == 0 {
-        return Deed::Refuse(Reason::OutOfRange);
-    }
-    if layout::UPLOAD_MOST < n {
-        return Deed::Refuse(Reason::OutOfRange);
-    }
-    if 1 < extension {
-        return Deed::Refuse(Reason::OutOfRange);
-    }
-    let from = extension_from(extension);
-    if inside(address, n as u32, length_of(from, nc, nm)) {
-        Deed::Upload(from, address, n)
+    let resource = seed.ok_or(Reason::Sequence)?;
+    check(size == 4, Reason::OutOfRange)?;
+    check(6 <= n, Reason::DataMissing)?;
+    // A wrong key is counted and ends the session: it does more than refuse.
+    if key == key_for(resource, g) {
+        Ok(Deed::Unlock(resource))
     } else {
-        Deed::Refuse(Reason::NotInside)
+        Ok(Deed::WrongKey)
     }
 }
 
-pub fn build_checksum(mta: Mta, n: u32, nc: usize, nm: usize) -> Deed
-    ensures { result ≡ checksum_deed mta n nc nm }
+#[tactic(auto, unfolding(model::specs::Judge::set_mta_deed))]
+pub fn set_mta(extension: u8, address: u32) -> Result<Deed, Reason>
+    ensures { result ≡ judged (set_mta_deed extension address) }
 {
-    match mta {
-        Mta::Unset => Deed::Refuse(Reason::Sequence),
-        Mta::At(extension, address) => {
-            if n == 0 {
-                return Deed::RefuseSize;
-            }
-            if layout::CHECKSUM_MOST < n {
-                return Deed::RefuseSize;
-            }
-            if inside(address, n, length_of(extension, nc, nm)) {
-                Deed::Checksum(extension, address, n)
-            } else {
-                Deed::Refuse(Reason::NotInside)
-            }
-        }
-    }
+    let memory = Extension::try_from(extension)?;
+    Ok(Deed::SetMta(memory, address))
 }
 
-fn download_to(from: u8, extension: Extension, address: u32, n: u8, nc: usize) -> Deed
-    ensures { result ≡ download_to from extension address n nc }
+#[tactic(auto, unfolding(model::specs::Judge::upload_deed))]
+pub fn upload(mta: Mta, n: u8, lengths: Lengths) -> Result<Deed, Reason>
+    ensures { result ≡ judged (upload_deed mta n lengths.calibration lengths.measured) }
 {
-    match extension {
-        Extension::Measured => Deed::Refuse(Reason::ReadOnly),
-        Extension::Calibration => {
-            if inside(address, n as u32, nc) {
-                Deed::Download(from, address, n)
-            } else {
-                Deed::Refuse(Reason::NotInside)
-            }
-        }
-    }
+    let Mta::At(extension, address) = mta else {
+        return Err(Reason::Sequence);
+    };
+    check(n != 0, Reason::OutOfRange)?;
+    check(n <= layout::UPLOAD_MOST, Reason::OutOfRange)?;
+    let inside = lengths.hold(extension, address, n as u32);
+    check(inside, Reason::NotInside)?;
+    Ok(Deed::Upload(extension, address, n))
 }
 
-pub fn download(mta: Mta, n: u8, len: u8, nc: usize) -> Deed
-    ensures { result ≡ download_deed mta n len nc }
+// UPLOAD from its own extension and address. A wrong size and a wrong extension refuse alike, so their order does not show.
+#[tactic(auto, unfolding(model::specs::Judge::upload_deed, model::specs::Judge::short_upload_deed))]
+pub fn short_upload(n: u8, extension: u8, address: u32, lengths: Lengths) -> Result<Deed, Reason>
+    ensures { result ≡ judged (short_upload_deed n extension address lengths.calibration lengths.measured) }
 {
-    match mta {
-        Mta::Unset => Deed::Refuse(Reason::Sequence),
-        Mta::At(extension, address) => {
-            if n == 0 {
-                return Deed::Refuse(Reason::OutOfRange);
-            }
-            if layout::DOWNLOAD_MOST < n {
-                return Deed::Refuse(Reason::OutOfRange);
-            }
-            if len < n + layout::DOWNLOAD_FROM {
-                return Deed::Refuse(Reason::DataMissing);
-            }
-            download_to(layout::DOWNLOAD_FROM, extension, address, n, nc)
-        }
-    }
+    let memory = Extension::try_from(extension)?;
+    upload(Mta::At(memory, address), n, lengths)
 }
 
-pub fn short_download(n: u8, extension: u8, address: u32, len: u8, nc: usize) -> Deed
-    ensures { result ≡ short_download_deed n extension address len nc }
+#[tactic(auto, unfolding(model::specs::Judge::checksum_deed))]
+pub fn build_checksum(mta: Mta, n: u32, lengths: Lengths) -> Result<Deed, Reason>
+    ensures { result ≡ judged (checksum_deed mta n lengths.calibration lengths.measured) }
 {
-    if n == 0 {
-        return Deed::Refuse(Reason::OutOfRange);
+    let Mta::At(extension, address) = mta else {
+        return Err(Reason::Sequence);
+    };
+    // Its answer names the largest size: it does more than refuse.
+    if n == 0 || layout::CHECKSUM_MOST < n {
+        return Ok(Deed::RefuseSize);
     }
-    if layout::SHORT_DOWNLOAD_MOST < n {
-        return Deed::Refuse(Reason::OutOfRange);
-    }
-    if 1 < extension {
-        return Deed::Refuse(Reason::OutOfRange);
-    }
-    if len < n + layout::SHORT_DOWNLOAD_FROM {
-        return Deed::Refuse(Reason::DataMissing);
-    }
-    download_to(
-        layout::SHORT_DOWNLOAD_FROM,
-        extension_from(extension),
-        address,
-        n,
-        nc,
-    )
+    check(lengths.hold(extension, address, n), Reason::NotInside)?;
+    Ok(Deed::Checksum(extension, address, n))
 }
 
-pub fn clear_list(present: u8, runs: bool, l: u16) -> Deed
-    ensures { result ≡ clear_deed present runs l }
+// Where the data goes, which lies in the packet from byte `from` on.
+#[tactic(auto, unfolding(model::specs::Judge::download_to))]
+fn download_to(
+    from: u8,
+    extension: Extension,
+    address: u32,
+    n: u8,
+    nc: usize,
+) -> Result<Deed, Reason>
+    ensures { result ≡ judged (download_to from extension address n nc) }
 {
-    if present as u16 <= l {
-        return Deed::Refuse(Reason::OutOfRange);
-    }
-    if runs {
-        return Deed::Refuse(Reason::ListRuns);
-    }
-    Deed::ClearList(l as u8)
+    let writable = matches!(extension, Extension::Calibration);
+    check(writable, Reason::ReadOnly)?;
+    check(inside(address, n as u32, nc), Reason::NotInside)?;
+    Ok(Deed::Download(from, address, n))
 }
 
-pub fn set_pointer(present: u8, odts: u16, entries: u16, l: u16, odt: u8, entry: u8) -> Deed
-    ensures { result ≡ pointer_deed present odts entries l odt entry }
+#[tactic(auto, unfolding(model::specs::Judge::download_deed))]
+pub fn download(mta: Mta, n: u8, len: u8, nc: usize) -> Result<Deed, Reason>
+    ensures { result ≡ judged (download_deed mta n len nc) }
 {
-    if present as u16 <= l {
-        return Deed::Refuse(Reason::OutOfRange);
-    }
-    if odts <= odt as u16 {
-        return Deed::Refuse(Reason::OutOfRange);
-    }
-    if entries <= entry as u16 {
-        return Deed::Refuse(Reason::OutOfRange);
-    }
-    Deed::SetPointer(l as u8, odt, entry)
+    let Mta::At(extension, address) = mta else {
+        return Err(Reason::Sequence);
+    };
+    check(n != 0, Reason::OutOfRange)?;
+    check(n <= layout::DOWNLOAD_MOST, Reason::OutOfRange)?;
+    check(n + layout::DOWNLOAD_FROM <= len, Reason::DataMissing)?;
+    download_to(layout::DOWNLOAD_FROM, extension, address, n, nc)
 }
 
-// A block of size 0 is always inside.
-fn write_block(l: u8, odt: u8, e: u8, n: u8, extension: Extension, address: u32, len: usize) -> Deed
-    ensures { result ≡ write_block l odt e n extension address len }
+#[tactic(auto, unfolding(model::specs::Judge::short_download_deed))]
+pub fn short_download(
+    n: u8,
+    extension: u8,
+    address: u32,
+    len: u8,
+    nc: usize,
+) -> Result<Deed, Reason>
+    ensures { result ≡ judged (short_download_deed n extension address len nc) }
 {
-    if n == 0 {
-        return Deed::ClearEntry(l, odt, e);
-    }
-    if inside(address, n as u32, len) {
-        Deed::WriteEntry(l, odt, e, n, extension, address)
-    } else {
-        Deed::Refuse(Reason::NotInside)
-    }
+    check(n != 0, Reason::OutOfRange)?;
+    check(n <= layout::SHORT_DOWNLOAD_MOST, Reason::OutOfRange)?;
+    let memory = Extension::try_from(extension)?;
+    check(n + layout::SHORT_DOWNLOAD_FROM <= len, Reason::DataMissing)?;
+    download_to(layout::SHORT_DOWNLOAD_FROM, memory, address, n, nc)
 }
 
+#[tactic(auto, unfolding(model::specs::Judge::clear_deed))]
+pub fn clear_list(present: u8, runs: bool, l: u16) -> Result<Deed, Reason>
+    ensures { result ≡ judged (clear_deed present runs l) }
+{
+    let list = listed(present, l)?;
+    check(!runs, Reason::ListRuns)?;
+    Ok(Deed::ClearList(list))
+}
+
+#[tactic(auto, unfolding(model::specs::Judge::pointer_deed))]
+pub fn set_pointer(
+    present: u8,
+    odts: u16,
+    entries: u16,
+    l: u16,
+    odt: u8,
+    entry: u8,
+) -> Result<Deed, Reason>
+    ensures { result ≡ judged (pointer_deed present odts entries l odt entry) }
+{
+    let list = listed(present, l)?;
+    check((odt as u16) < odts, Reason::OutOfRange)?;
+    check((entry as u16) < entries, Reason::OutOfRange)?;
+    Ok(Deed::SetPointer(list, odt, entry))
+}
+
+#[tactic(auto, unfolding(model::specs::Judge::write_deed, model::specs::Judge::write_block))]
 pub fn write_entry(
     pointer: Pointer,
     runs: bool,
@@ -259,32 +202,27 @@ pub fn write_entry(
     n: u8,
     extension: u8,
     address: u32,
-    nc: usize,
-    nm: usize,
-) -> Deed
-    ensures { result ≡ write_deed pointer runs bit n extension address nc nm }
+    lengths: Lengths,
+) -> Result<Deed, Reason>
+    ensures { result ≡ judged (write_deed pointer runs bit n extension address lengths.calibration lengths.measured) }
 {
-    match pointer {
-        Pointer::Unset => Deed::Refuse(Reason::Sequence),
-        Pointer::At { list, odt, entry } => {
-            if bit != 0xFF {
-                return Deed::Refuse(Reason::OutOfRange);
-            }
-            if layout::ENTRY_MOST < n {
-                return Deed::Refuse(Reason::OutOfRange);
-            }
-            if 1 < extension {
-                return Deed::Refuse(Reason::OutOfRange);
-            }
-            if runs {
-                return Deed::Refuse(Reason::ListRuns);
-            }
-            let from = extension_from(extension);
-            write_block(list, odt, entry, n, from, address, length_of(from, nc, nm))
-        }
+    let Pointer::At { list, odt, entry } = pointer else {
+        return Err(Reason::Sequence);
+    };
+    check(bit == 0xFF, Reason::OutOfRange)?;
+    check(n <= layout::ENTRY_MOST, Reason::OutOfRange)?;
+    let memory = Extension::try_from(extension)?;
+    check(!runs, Reason::ListRuns)?;
+    // A block of size 0 is always inside.
+    if n == 0 {
+        return Ok(Deed::ClearEntry(list, odt, entry));
     }
+    let inside = lengths.hold(memory, address, n as u32);
+    check(inside, Reason::NotInside)?;
+    Ok(Deed::WriteEntry(list, odt, entry, n, memory, address))
 }
 
+#[tactic(auto, unfolding(model::specs::Judge::mode_deed))]
 pub fn set_mode(
     present: u8,
     runs: bool,
@@ -293,98 +231,71 @@ pub fn set_mode(
     event: u16,
     prescaler: u8,
     priority: u8,
-) -> Deed
-    ensures { result ≡ mode_deed present runs mode l event prescaler priority }
+) -> Result<Deed, Reason>
+    ensures { result ≡ judged (mode_deed present runs mode l event prescaler priority) }
 {
-    if mode != 0x10 {
-        return Deed::Refuse(Reason::OutOfRange);
-    }
-    if present as u16 <= l {
-        return Deed::Refuse(Reason::OutOfRange);
-    }
-    if layout::EVENTS_U16 <= event {
-        return Deed::Refuse(Reason::OutOfRange);
-    }
-    if prescaler != 1 {
-        return Deed::Refuse(Reason::OutOfRange);
-    }
-    if priority != 0 {
-        return Deed::Refuse(Reason::OutOfRange);
-    }
-    if runs {
-        return Deed::Refuse(Reason::ListRuns);
-    }
-    Deed::SetMode(l as u8, event as u8)
+    check(mode == 0x10, Reason::OutOfRange)?;
+    let list = listed(present, l)?;
+    check(event < layout::EVENTS as u16, Reason::OutOfRange)?;
+    check(prescaler == 1, Reason::OutOfRange)?;
+    check(priority == 0, Reason::OutOfRange)?;
+    check(!runs, Reason::ListRuns)?;
+    Ok(Deed::SetMode(list, event as u8))
 }
 
-fn start(runs: bool, fit: bool, l: u8) -> Deed
-    ensures { result ≡ start_deed runs fit l }
+#[tactic(auto, unfolding(model::specs::Judge::start_deed))]
+fn start(runs: bool, fit: bool, l: u8) -> Result<Deed, Reason>
+    ensures { result ≡ judged (start_deed runs fit l) }
 {
     if runs {
-        return Deed::KeepRunning(l);
+        return Ok(Deed::KeepRunning(l));
     }
-    if fit {
-        return Deed::Start(l);
-    }
-    Deed::Refuse(Reason::CannotStart)
+    check(fit, Reason::CannotStart)?;
+    Ok(Deed::Start(l))
 }
 
-pub fn start_stop(present: u8, runs: bool, fit: bool, mode: u8, l: u16) -> Deed
-    ensures { result ≡ start_stop_deed present runs fit mode l }
+#[tactic(auto, unfolding(model::specs::Judge::start_stop_deed))]
+pub fn start_stop(present: u8, runs: bool, fit: bool, mode: u8, l: u16) -> Result<Deed, Reason>
+    ensures { result ≡ judged (start_stop_deed present runs fit mode l) }
 {
-    if 2 < mode {
-        return Deed::Refuse(Reason::OutOfRange);
+    check(mode <= 2, Reason::OutOfRange)?;
+    let list = listed(present, l)?;
+    match mode {
+        0 => Ok(Deed::Stop(list)),
+        1 => start(runs, fit, list),
+        _ => Ok(Deed::Select(list)),
     }
-    if present as u16 <= l {
-        return Deed::Refuse(Reason::OutOfRange);
-    }
-    if mode == 0 {
-        return Deed::Stop(l as u8);
-    }
-    if mode == 1 {
-        return start(runs, fit, l as u8);
-    }
-    Deed::Select(l as u8)
 }
 
-pub fn start_stop_synch(ready: bool, mode: u8) -> Deed
-    ensures { result ≡ synch_deed ready mode }
+#[tactic(auto, unfolding(model::specs::Judge::synch_deed))]
+pub fn start_stop_synch(ready: bool, mode: u8) -> Result<Deed, Reason>
+    ensures { result ≡ judged (synch_deed ready mode) }
 {
-    if 2 < mode {
-        return Deed::Refuse(Reason::OutOfRange);
-    }
-    if mode == 0 {
-        return Deed::StopAll;
-    }
-    if mode == 1 {
-        if ready {
-            return Deed::StartSelected;
+    match mode {
+        0 => Ok(Deed::StopAll),
+        1 => {
+            check(ready, Reason::CannotStart)?;
+            Ok(Deed::StartSelected)
         }
-        return Deed::Refuse(Reason::CannotStart);
+        2 => Ok(Deed::StopSelected),
+        _ => Err(Reason::OutOfRange),
     }
-    Deed::StopSelected
 }
 
 // First FREE_DAQ, and once.
-pub fn alloc_lists(freed: bool, present: u8, n: u16) -> Deed
-    ensures { result ≡ alloc_lists_deed freed present n }
+#[tactic(auto, unfolding(model::specs::Judge::alloc_lists_deed))]
+pub fn alloc_lists(freed: bool, present: u8, n: u16) -> Result<Deed, Reason>
+    ensures { result ≡ judged (alloc_lists_deed freed present n) }
 {
-    if !freed {
-        return Deed::Refuse(Reason::Sequence);
-    }
-    if 0 < present {
-        return Deed::Refuse(Reason::Sequence);
-    }
-    if n == 0 {
-        return Deed::Refuse(Reason::OutOfRange);
-    }
-    if layout::LISTS_U16 < n {
-        return Deed::Refuse(Reason::PoolFull);
-    }
-    Deed::AllocLists(n as u8)
+    check(freed, Reason::Sequence)?;
+    check(present == 0, Reason::Sequence)?;
+    check(n != 0, Reason::OutOfRange)?;
+    check(n <= layout::LISTS as u16, Reason::PoolFull)?;
+    Ok(Deed::AllocLists(n as u8))
 }
 
 // First ALLOC_DAQ, no ALLOC_ODT_ENTRY yet, no list started, and once for a list.
+#[tactic(auto, unfolding(model::specs::Judge::alloc_odts_deed))]
 pub fn alloc_odts(
     present: u8,
     odts: u16,
@@ -393,34 +304,22 @@ pub fn alloc_odts(
     started: bool,
     l: u16,
     n: u8,
-) -> Deed
-    ensures { result ≡ alloc_odts_deed present odts taken entries started l n }
+) -> Result<Deed, Reason>
+    ensures { result ≡ judged (alloc_odts_deed present odts taken entries started l n) }
 {
-    if present == 0 {
-        return Deed::Refuse(Reason::Sequence);
-    }
-    if 0 < entries {
-        return Deed::Refuse(Reason::Sequence);
-    }
-    if 0 < odts {
-        return Deed::Refuse(Reason::Sequence);
-    }
-    if started {
-        return Deed::Refuse(Reason::Sequence);
-    }
-    if present as u16 <= l {
-        return Deed::Refuse(Reason::OutOfRange);
-    }
-    if n == 0 {
-        return Deed::Refuse(Reason::OutOfRange);
-    }
-    if (layout::ALL_ODTS as u32) < taken as u32 + n as u32 {
-        return Deed::Refuse(Reason::PoolFull);
-    }
-    Deed::AllocOdts(l as u8, n)
+    check(present != 0, Reason::Sequence)?;
+    check(entries == 0, Reason::Sequence)?;
+    check(odts == 0, Reason::Sequence)?;
+    check(!started, Reason::Sequence)?;
+    let list = listed(present, l)?;
+    check(n != 0, Reason::OutOfRange)?;
+    let after = taken as u32 + n as u32;
+    check(after <= layout::ALL_ODTS as u32, Reason::PoolFull)?;
+    Ok(Deed::AllocOdts(list, n))
 }
 
 // First ALLOC_ODT, and once for an ODT. A list that there is not has no ODTs.
+#[tactic(auto, unfolding(model::specs::Judge::alloc_entries_deed))]
 pub fn alloc_entries(
     odts: u16,
     entries: u16,
@@ -430,26 +329,15 @@ pub fn alloc_entries(
     l: u8,
     odt: u8,
     n: u8,
-) -> Deed
-    ensures { result ≡ alloc_entries_deed odts entries all taken runs l odt n }
+) -> Result<Deed, Reason>
+    ensures { result ≡ judged (alloc_entries_deed odts entries all taken runs l odt n) }
 {
-    if all == 0 {
-        return Deed::Refuse(Reason::Sequence);
-    }
-    if 0 < entries {
-        return Deed::Refuse(Reason::Sequence);
-    }
-    if odts <= odt as u16 {
-        return Deed::Refuse(Reason::OutOfRange);
-    }
-    if n == 0 {
-        return Deed::Refuse(Reason::OutOfRange);
-    }
-    if runs {
-        return Deed::Refuse(Reason::ListRuns);
-    }
-    if (layout::ALL_ENTRIES as u32) < taken as u32 + n as u32 {
-        return Deed::Refuse(Reason::PoolFull);
-    }
-    Deed::AllocEntries(l, odt, n)
+    check(all != 0, Reason::Sequence)?;
+    check(entries == 0, Reason::Sequence)?;
+    check((odt as u16) < odts, Reason::OutOfRange)?;
+    check(n != 0, Reason::OutOfRange)?;
+    check(!runs, Reason::ListRuns)?;
+    let after = taken as u32 + n as u32;
+    check(after <= layout::ALL_ENTRIES as u32, Reason::PoolFull)?;
+    Ok(Deed::AllocEntries(l, odt, n))
 }

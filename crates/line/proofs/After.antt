@@ -1,6 +1,6 @@
 -- After one received byte: the buffer's length, the place, and what a SYNC says. Assumes nothing.
-use Rattle.std.proofs.Common.{◌≡◌, ℕ, ◌≤◌, Bool, true, false, cond, eqb, List, length, sym, refl, ◌∙◌, arith, length-set, lt-ltb, ne_eqb}
-use borrow.Author.Tests.{eqb-false}
+use Rattle.std.proofs.Common.{◌≡◌, ℕ, ◌≤◌, Bool, true, false, cond, eqb, List, length, sym, refl, ◌∙◌, arith, length-set, lt-ltb, ne_eqb, None, Ok, Err}
+use Rattle.std.proofs.lemmas.Bool.{eqb-false}
 use Rattle.line.specs.Stuffing.{SYNC}
 use Rattle.line.specs.Form.{Form}
 use Rattle.line.specs.Message.{longest_in, Serial, byte_form, longest}
@@ -9,30 +9,30 @@ use Rattle.line.specs.Reader.{messages_in, take_in, messages, take_of}
 use Rattle.line.specs.Wire.{Partway, ends}
 use Rattle.line.specs.declared.Place.{Place}
 use Rattle.line.specs.declared.Place.TheVariants.{Outside, Inside, Escaped}
-use Rattle.line.specs.declared.Outcome.{Outcome}
-use Rattle.line.specs.declared.Outcome.TheVariants.{Nothing, CutOff}
+use Rattle.line.specs.Values.{Outcome}
 use Rattle.line.proofs.Laws.{false_true, cond_ind}
 use Rattle.line.proofs.Numbers.{byte_serial}
 use Rattle.line.proofs.Unframing.{Takes, begins, passes, escapes, brings, breaks, takes}
 use Rattle.line.proofs.Steps.{PutsIn, refuses, goes, fills, spoils, puts_in, take_cases, take_long_in}
+use Rattle.line.specs.declared.Fault.TheVariants.{CutOff}
 
 -- ---- a SYNC
 -- it reports a message cut off where at least one byte of one has come, and only there
-pub cut_off : (q : Place) → Partway q → cut_of q ≡ CutOff
+pub cut_off : (q : Place) → Partway q → cut_of q ≡ Err CutOff
 cut_off Outside w = absurd w
 cut_off (Inside k) w = let nz : k ≡ 0 → ⊥ = λ (z : k ≡ 0). omega arith in simp (ne_eqb _ _ nz)
 cut_off (Escaped k) w = refl
 
-pub cut_nothing : (q : Place) → (Partway q → ⊥) → cut_of q ≡ Nothing
+pub cut_nothing : (q : Place) → (Partway q → ⊥) → cut_of q ≡ Ok None
 cut_nothing Outside w = refl
-cut_nothing (Inside k) w = cond_ind (λ (o : Outcome). o ≡ Nothing) (eqb k 0) (λ _. refl) (λ t. absurd (w (omega (arith, eqb-false k 0 t))))
+cut_nothing (Inside k) w = cond_ind (λ (o : Outcome). o ≡ Ok None) (eqb k 0) (λ _. refl) (λ t. absurd (w (omega (arith, eqb-false k 0 t))))
 cut_nothing (Escaped k) w = absurd (w tt)
 
-pub cut_only : (q : Place) → cut_of q ≡ CutOff → Partway q
+pub cut_only : (q : Place) → cut_of q ≡ Err CutOff → Partway q
 cut_only Outside e = absurd (let z : ◌≡◌ {A = ℕ} 0 1 = cc in omega arith)
 cut_only (Inside k) e = go (eqb k 0) refl e
   where
-    go : (t : Bool) → eqb k 0 ≡ t → cond t Nothing CutOff ≡ CutOff → 1 ≤ k
+    go : (t : Bool) → eqb k 0 ≡ t → cond {A = Outcome} t (Ok None) (Err CutOff) ≡ Err CutOff → 1 ≤ k
     go true t e = absurd (let z : ◌≡◌ {A = ℕ} 0 1 = cc in omega arith)
     go false t e = omega (arith, eqb-false k 0 t)
 cut_only (Escaped k) e = tt

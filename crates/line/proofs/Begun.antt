@@ -1,6 +1,6 @@
 -- What a place that a message can have says of the buffer. Assumes nothing.
 use Rattle.std.proofs.Common.{◌≡◌, ℕ, ◌<◌, ◌≤◌, Bool, true, false, cond, eqb, ltb, List, refl, arith, ltb-false, ltb-true, le-ltb, lt-ltb, ne_eqb}
-use borrow.Author.Tests.{eqb-false}
+use Rattle.std.proofs.lemmas.Bool.{eqb-false}
 use Rattle.line.specs.Form.{Form}
 use Rattle.line.specs.Message.{size_in}
 use Rattle.line.specs.Unstuffing.{Messages, place_by}

@@ -1,22 +1,21 @@
 -- A stuffed message reaches any reader of message bytes byte by byte, and nothing comes of it before its last byte. Assumes nothing.
-use Rattle.std.proofs.Common.{◌≡◌, ℕ, ◌+◌, ◌-◌, ◌≤◌, Bool, true, false, eqb, List, [], ◌∷◌, ◌++◌, length, replicate, sym, refl, ap, ◌∙◌, append_assoc, append-nil, arith, length-append, eqb-true}
-use lib.ListN.{replicate-append-replicate}
+use Rattle.std.proofs.Common.{◌≡◌, ℕ, ◌+◌, ◌-◌, ◌≤◌, Bool, true, false, eqb, List, [], ◌∷◌, ◌++◌, length, replicate, sym, refl, ap, ◌∙◌, append_assoc, append-nil, arith, length-append, eqb-true, None, Ok}
+use Rattle.std.proofs.lemmas.List.{replicate-append-replicate}
 use Rattle.line.specs.Stuffing.{SYNC, ESC, stuff_byte, stuff}
 use Rattle.line.specs.Unstuffing.{Fed, Messages, on, take_by}
 use Rattle.line.specs.Run.{Ran, then, run_by}
 use Rattle.line.specs.declared.Place.TheVariants.{Inside}
-use Rattle.line.specs.declared.Outcome.{Outcome}
-use Rattle.line.specs.declared.Outcome.TheVariants.{Nothing}
+use Rattle.line.specs.Values.{Outcome}
 use Rattle.line.proofs.Laws.{byte_size, stuff_one}
 
 -- k bytes of which nothing comes, and then a run
 abbrev pub quiet : ℕ → Ran → Ran
-quiet k r = record { outcomes = replicate k Nothing ++ r.outcomes; place = r.place; message = r.message }
+quiet k r = record { outcomes = replicate k (Ok None) ++ r.outcomes; place = r.place; message = r.message }
 
 quiet_quiet : (j k : ℕ) (r : Ran) → quiet j (quiet k r) ≡ quiet (j + k) r
 quiet_quiet j k r =
     ap (λ (os : List Outcome). record { outcomes = os; place = r.place; message = r.message })
-    (sym (append_assoc (replicate j Nothing) (replicate k Nothing) r.outcomes) ∙ ap (λ (os : List Outcome). os ++ r.outcomes) (replicate-append-replicate j k Nothing))
+    (sym (append_assoc (replicate j (Ok None)) (replicate k (Ok None)) r.outcomes) ∙ ap (λ (os : List Outcome). os ++ r.outcomes) (replicate-append-replicate j k (Ok None)))
 
 stuff_some : (xs : List ℕ) (x : ℕ) → 1 ≤ length (stuff (xs ++ x ∷ []))
 stuff_some [] x = rw (stuff_one x) (byte_size x).0

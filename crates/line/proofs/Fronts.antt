@@ -1,6 +1,6 @@
 -- Bytes put at the front of a list: what is read there, and what past them. Assumes nothing.
 use Rattle.std.proofs.Common.{◌≡◌, ℕ, ◌≤◌, List, [], ◌∷◌, ◌++◌, length, take, drop, refl, ap, arith}
-use lib.Seq.{take-append_seam, drop-append_seam}
+use Rattle.std.proofs.Math.Seq.{take-append_seam, drop-append_seam}
 use Rattle.line.specs.Writer.{at_front}
 
 pub front_split : (xs l : List ℕ) → length xs ≤ length l → at_front xs l ≡ xs ++ drop (length xs) l

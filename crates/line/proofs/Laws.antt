@@ -1,7 +1,7 @@
 -- Laws of stores, of stuffing and of sums. Assumes nothing.
 use Rattle.std.proofs.Common.{◌≡◌, ℕ, suc, ◌+◌, ◌-◌, ◌/◌, ◌<◌, ◌≤◌, Bool, true, false, cond, eqb, List, [], ◌∷◌, ◌++◌, length, get_or, take, set, sym, refl, ap, ◌∙◌, append_assoc, append-nil, add-zero, add-suc, suc-add, zero-add, add-one, arith, length-append, take-suc, set-set, ne_eqb, eqb-true}
-use borrow.Author.Tests.{eqb-false}
-use lib.Seq.{sets}
+use Rattle.std.proofs.lemmas.Bool.{eqb-false}
+use Rattle.std.proofs.lemmas.List.Edits.{sets}
 use Rattle.line.specs.Stuffing.{SYNC, ESC, stuff_byte, stuff}
 use Rattle.line.specs.Message.{head_in, byte_form, most, sum, frame}
 use Rattle.line.specs.Writer.{at_front, Stored}
@@ -63,18 +63,6 @@ stuff_one b = append-nil (stuff_byte b)
 stuff_next : (l : List ℕ) (i : ℕ) → i < length l → stuff (take (i + 1) l) ≡ stuff (take i l) ++ stuff_byte (get_or l i 0)
 stuff_next l i h = rw (add-one, take-suc l i 0 h, stuff_append (take i l) (get_or l i 0 ∷ []), stuff_one (get_or l i 0))
 
--- SYNC and ESC differ in their lowest bit alone, and what follows ESC tells them apart; any other byte stands as itself
-escaped : (b : ℕ) → b / 2 ≡ SYNC / 2 → stuff_byte b ≡ ESC ∷ (ESC - b) ∷ []
-escaped b h = go (eqb b SYNC) (eqb b ESC) refl refl
-  where
-    go : (t u : Bool) → eqb b SYNC ≡ t → eqb b ESC ≡ u → cond t (ESC ∷ 1 ∷ []) (cond u (ESC ∷ 0 ∷ []) (b ∷ [])) ≡ ESC ∷ (ESC - b) ∷ []
-    go true u e f = rw (eqb-true b SYNC e)
-    go false true e f = rw (eqb-true b ESC f)
-    go false false e f = absurd (omega (arith, h, eqb-false b SYNC e, eqb-false b ESC f))
-
-itself : (b : ℕ) → (b / 2 ≡ SYNC / 2 → ⊥) → stuff_byte b ≡ b ∷ []
-itself b h = simp (ne_eqb b SYNC (λ e. h (rw e)), ne_eqb b ESC (λ e. h (rw e)))
-
 -- a byte takes one byte of the wire or two
 pub byte_size : (b : ℕ) → (1 ≤ length (stuff_byte b)) × (length (stuff_byte b) ≤ 2)
 byte_size b =
@@ -84,13 +72,6 @@ byte_size b =
 pub stuff_short : (bs : List ℕ) → length (stuff bs) ≤ length bs + length bs
 stuff_short [] = omega arith
 stuff_short (b ∷ bs) = rw (length-append (stuff_byte b) (stuff bs)) (omega (arith, byte_size b, stuff_short bs))
-
--- a byte as it is stored: as itself, and ESC over it if that was SYNC or ESC
-pub stored_escaped : (l : List ℕ) (at b : ℕ) → b / 2 ≡ SYNC / 2 → Stored l at (stuff_byte b) (set (set (set l at b) at ESC) (at + 1) (ESC - b)) (at + 1 + 1)
-stored_escaped l at b h = rw (escaped b h, set-set l at b ESC, add-one at) (record { next = omega arith; bytes = refl })
-
-pub stored_itself : (l : List ℕ) (at b : ℕ) → (b / 2 ≡ SYNC / 2 → ⊥) → Stored l at (stuff_byte b) (set l at b) (at + 1)
-stored_itself l at b h = rw (itself b h) (record { next = refl; bytes = refl })
 
 -- the first i bytes of l, stuffed, and one byte more
 pub stored_next : {l l' l'' : List ℕ} {at r r' : ℕ} (bs : List ℕ) (i : ℕ) → i < length bs → Stored l at (stuff (take i bs)) l' r → Stored l' r (stuff_byte (get_or bs i 0)) l'' r' → Stored l at (stuff (take (i + 1) bs)) l'' r'

@@ -1,7 +1,7 @@
 -- Laws of numbers in bytes and of fill, and what of a message lies where, in any form. Assumes nothing.
 use Rattle.std.proofs.Common.{◌≡◌, ℕ, zero, suc, ◌+◌, ◌/◌, ◌%◌, ◌≤◌, List, [], ◌∷◌, ◌++◌, length, take, set, sym, refl, ap, ◌∙◌, append_assoc, arith, length-append, get_or-set_other, drop_at}
-use lib.ListN.{get_or-append}
-use lib.Seq.{take-append_seam, get_or_at}
+use Rattle.std.proofs.lemmas.List.{get_or_append_left as get_or-append, get_or_at}
+use Rattle.std.proofs.Math.Seq.{take-append_seam}
 use Rattle.line.specs.Form.{Form, in_bytes, number_at, filled}
 use Rattle.line.specs.Message.{byte_form, packet_begins, checksum_at, size_in, Serial, head_in, message_in}
 use Rattle.line.specs.Reader.{len_in}

@@ -10,13 +10,13 @@ use Rattle.line.specs.Run.{Ran, run_by, run_in, run_of}
 use Rattle.line.specs.Wire.{part, and_then, heard_in, heard}
 use Rattle.line.specs.declared.Place.{Place}
 use Rattle.line.specs.declared.Place.TheVariants.{Outside, Inside}
-use Rattle.line.specs.declared.Outcome.TheVariants.{Good}
 use Rattle.line.proofs.Laws.{front_next}
 use Rattle.line.proofs.Numbers.{number_front, head_length, message_length_in, len_lies, ctr_lies, check_lies, packet_lies, byte_serial}
 use Rattle.line.proofs.Begun.{begun_right, begun_ended}
 use Rattle.line.proofs.Fronts.{front_split}
 use Rattle.line.proofs.Framing.{Along, here, step, quiet, framed}
 use Rattle.line.proofs.Runs.{run_append, run_length, run_long}
+use Rattle.line.specs.Values.{good_message}
 
 -- bytes that have a last one
 split_last : (q : List ℕ) → 1 ≤ length q → (xs : List ℕ) × (x : ℕ) × (xs ++ x ∷ [] ≡ q)
@@ -26,7 +26,7 @@ split_last (x ∷ y ∷ q) some = let r = split_last (y ∷ q) (omega arith) in 
 
 -- what is judged by what lies in the buffer
 judged_by : (f : Form) (l : List ℕ) (n c x : ℕ) → len_in f l ≡ n → number_at f.width f.width l ≡ c → number_at f.sum_width (checksum_at f n) l ≡ x
-    → f.checksum (take (checksum_at f n) l) ≡ x → judged_in f l ≡ Good c (packet_begins f) n
+    → f.checksum (take (checksum_at f n) l) ≡ x → judged_in f l ≡ good_message c (packet_begins f) n
 judged_by f l n c x e₁ e₂ e₃ e₄ = simp (e₁, e₂, e₃, e₄, eq-eqb x x refl)
 
 module _ (f : Form) (s : Serial f) (m packet : List ℕ) (ctr : ℕ) (fits : longest_in f ≤ length m) (some : 1 ≤ length packet) (few : length packet ≤ f.most) where
@@ -80,7 +80,7 @@ module _ (f : Form) (s : Serial f) (m packet : List ℕ) (ctr : ℕ) (fits : lon
   len_there : len_in f (at_front whole m) ≡ length packet
   len_there = ap (len_in f) there ∙ len_lies f s ctr packet (drop (length whole) m)
 
-  judged : judged_in f (at_front whole m) ≡ Good ctr (packet_begins f) (length packet)
+  judged : judged_in f (at_front whole m) ≡ good_message ctr (packet_begins f) (length packet)
   judged =
       let rest : List ℕ = drop (length whole) m in
       let head : List ℕ = head_in f ctr packet in
@@ -91,7 +91,7 @@ module _ (f : Form) (s : Serial f) (m packet : List ℕ) (ctr : ℕ) (fits : lon
       ∙ ap f.checksum (take_at head (tail ++ rest) (checksum_at f (length packet)) (head_length f ctr packet)))
 
   -- its last byte
-  last : (xs : List ℕ) (x : ℕ) → xs ++ x ∷ [] ≡ whole → put_in f (length xs) (at_front xs m) x ≡ over (Good ctr (packet_begins f) (length packet)) (at_front whole m)
+  last : (xs : List ℕ) (x : ℕ) → xs ++ x ∷ [] ≡ whole → put_in f (length xs) (at_front xs m) x ≡ over (good_message ctr (packet_begins f) (length packet)) (at_front whole m)
   last xs x e =
       let l : length xs + 1 ≡ size_in f (length packet) = sym (length-append xs (x ∷ [])) ∙ ap length e ∙ whole_length in
       let b : set (at_front xs m) (length xs) x ≡ at_front whole m = sym (front_next xs m x) ∙ ap (λ (q : List ℕ). at_front q m) e in
@@ -101,7 +101,7 @@ module _ (f : Form) (s : Serial f) (m packet : List ℕ) (ctr : ℕ) (fits : lon
 
   -- what the message comes to after its SYNC
   through : (xs : List ℕ) (x : ℕ) → xs ++ x ∷ [] ≡ whole
-      → run_by (take_by (messages_in f)) (Inside 0) m (stuff whole) ≡ quiet (length (stuff whole) - 1) (record { outcomes = Good ctr (packet_begins f) (length packet) ∷ []; place = Outside; message = at_front whole m })
+      → run_by (take_by (messages_in f)) (Inside 0) m (stuff whole) ≡ quiet (length (stuff whole) - 1) (record { outcomes = (good_message ctr (packet_begins f) (length packet)) ∷ []; place = Outside; message = at_front whole m })
   through xs x e = rw (last xs x e, e) at (framed (messages_in f) x (more [] xs x e) (begun_there xs (x ∷ []) e (omega arith)))
 
   -- what a frame comes to, from any place

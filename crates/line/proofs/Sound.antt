@@ -1,5 +1,5 @@
 -- A good message that the reader reports stood on the wire: its frame came last, from the last SYNC on. Assumes nothing.
-use Rattle.std.proofs.Common.{◌≡◌, ℕ, ◌+◌, ◌<◌, ◌≤◌, false, eqb, List, [], ◌∷◌, ◌++◌, length, take, drop, set, sym, refl, ap, ◌∙◌, subst, append_assoc, append-nil, add-zero, add-one, arith, length-drop, length-set, length-take-le, drop-cons, take-suc-set, take-add}
+use Rattle.std.proofs.Common.{◌≡◌, ℕ, ◌+◌, ◌<◌, ◌≤◌, false, eqb, List, [], ◌∷◌, ◌++◌, length, take, drop, set, sym, refl, ap, ◌∙◌, subst, append_assoc, append-nil, add-zero, add-one, arith, length-drop, length-set, length-take-le, drop-cons, take-suc-set, take-add, Some, None, Ok, Err}
 use Rattle.line.specs.Stuffing.{SYNC, ESC, stuff, on_wire}
 use Rattle.line.specs.Form.{Form, in_bytes}
 use Rattle.line.specs.Message.{packet_begins, checksum_at, size_in, longest_in, Serial, with_checksum_in, byte_form, most, longest, message, frame}
@@ -9,8 +9,7 @@ use Rattle.line.specs.Run.{run_in}
 use Rattle.line.specs.Wire.{has, unstuff, before, part, Exact, Came, last_in, last_of}
 use Rattle.line.specs.declared.Place.{Place}
 use Rattle.line.specs.declared.Place.TheVariants.{Outside, Inside, Escaped}
-use Rattle.line.specs.declared.Outcome.{Outcome}
-use Rattle.line.specs.declared.Outcome.TheVariants.{Nothing, Good, BadLength, BadEscape, BadChecksum, CutOff, ShortBuffer}
+use Rattle.line.specs.Values.{Outcome, good_message}
 use Rattle.line.proofs.Laws.{false_true, cond_ind}
 use Rattle.line.proofs.Numbers.{byte_serial}
 use Rattle.line.proofs.Stuffed.{has_append, has_here, stuff_plain, unstuff_on, unstuff_stuff, last_sync}
@@ -18,6 +17,7 @@ use Rattle.line.proofs.Unframing.{Takes, begins, passes, escapes, brings, breaks
 use Rattle.line.proofs.Steps.{PutsIn, refuses, goes, fills, spoils, put_within_in, puts_in, take_cases, take_long_in}
 use Rattle.line.proofs.After.{take_length_in, take_place_in}
 use Rattle.line.proofs.Runs.{run_length}
+use Rattle.line.specs.declared.Fault.TheVariants.{BadLength, BadEscape, BadChecksum, CutOff, ShortBuffer}
 
 -- the bytes h that came end in those that the place stands for
 abbrev Since : List ℕ → Place → List ℕ → Type 0
@@ -29,13 +29,13 @@ outside h m = (h, sym (append-nil h))
 
 -- what an outcome says of the bytes h that came
 abbrev Says : Form → List ℕ → Outcome → List ℕ → Type 0
-Says f h Nothing m = Unit {0}
-Says f h (Good c at n) m = Came f c at n m h
-Says f h BadLength m = Unit {0}
-Says f h BadEscape m = Unit {0}
-Says f h BadChecksum m = Unit {0}
-Says f h CutOff m = Unit {0}
-Says f h ShortBuffer m = Unit {0}
+Says f h (Ok None) m = Unit {0}
+Says f h (Ok (Some good)) m = Came f good.ctr good.at good.len m h
+Says f h (Err BadLength) m = Unit {0}
+Says f h (Err BadEscape) m = Unit {0}
+Says f h (Err BadChecksum) m = Unit {0}
+Says f h (Err CutOff) m = Unit {0}
+Says f h (Err ShortBuffer) m = Unit {0}
 
 -- a SYNC gives no good message
 cut_says : (f : Form) (q : Place) (h m : List ℕ) → Says f h (cut_of q) m
@@ -48,9 +48,9 @@ abbrev Honest : Form → List ℕ → Fed → Type 0
 Honest f h d = Since h d.taken.place d.message × Says f h d.taken.outcome d.message
 
 -- a good message wants a buffer long enough
-good_fits : (f : Form) (p : Place) (m : List ℕ) (b c at n : ℕ) → (take_in f p m b).taken.outcome ≡ Good c at n → longest_in f ≤ length m
+good_fits : (f : Form) (p : Place) (m : List ℕ) (b c at n : ℕ) → (take_in f p m b).taken.outcome ≡ good_message c at n → longest_in f ≤ length m
 good_fits f p m b c at n =
-    take_cases f (λ (d : Fed). d.taken.outcome ≡ Good c at n → longest_in f ≤ length m) p m b (λ e. absurd (let z : ◌≡◌ {A = ℕ} 0 1 = cc in omega arith)) (λ fits _. fits)
+    take_cases f (λ (d : Fed). d.taken.outcome ≡ good_message c at n → longest_in f ≤ length m) p m b (λ e. absurd (let z : ◌≡◌ {A = ℕ} 0 1 = cc in omega arith)) (λ fits _. fits)
 
 module _ (f : Form) (s : Serial f) where
   -- a byte of a message, on the wire after it
@@ -96,7 +96,7 @@ module _ (f : Form) (s : Serial f) where
       (run_honest d.taken.place d.message (h ++ b ∷ []) bs (omega (arith, take_length_in f p m b)) (rw (take_place_in f s p m b fits) (fed_honest p m h b fits i).0))
 
 -- after the bytes bs, from any place p and with any buffer m, the byte b gives a good message
-module _ (f : Form) (s : Serial f) (p : Place) (m bs : List ℕ) (b c at n : ℕ) (good : (last_in f p m bs b).taken.outcome ≡ Good c at n) where
+module _ (f : Form) (s : Serial f) (p : Place) (m bs : List ℕ) (b c at n : ℕ) (good : (last_in f p m bs b).taken.outcome ≡ good_message c at n) where
   -- the message, as it then lies in the buffer
   abbrev pub read : List ℕ
   read = take (size_in f n) (last_in f p m bs b).message
@@ -168,7 +168,7 @@ byte_read c at n m h came =
     message_read byte_form c at n m h came (exact_byte m) (exact_byte m) ∙ rw (add-zero, long)
 
 -- so the bytes that the place stands for and those since end in the very frame
-pub sound_frame : (p : Place) (m bs : List ℕ) (b c at n : ℕ) → (last_of p m bs b).taken.outcome ≡ Good c at n
+pub sound_frame : (p : Place) (m bs : List ℕ) (b c at n : ℕ) → (last_of p m bs b).taken.outcome ≡ good_message c at n
     → (earlier : List ℕ) × (before (place_by messages p m) m ++ (bs ++ b ∷ []) ≡ earlier ++ frame c (part at n (last_of p m bs b).message))
 unfolding take_of
 sound_frame p m bs b c at n good =
@@ -176,7 +176,7 @@ sound_frame p m bs b c at n good =
     (came.earlier, came.bytes ∙ ap (λ (q : List ℕ). came.earlier ++ on_wire q) (byte_read c at n (last_in byte_form p m bs b).message _ came))
 
 -- where a good message lies in the buffer
-pub good_where : (p : Place) (m : List ℕ) (b c at n : ℕ) → (take_of p m b).taken.outcome ≡ Good c at n → (at ≡ packet_begins byte_form) × (1 ≤ n) × (n ≤ most) × (at + n ≤ longest)
+pub good_where : (p : Place) (m : List ℕ) (b c at n : ℕ) → (take_of p m b).taken.outcome ≡ good_message c at n → (at ≡ packet_begins byte_form) × (1 ≤ n) × (n ≤ most) × (at + n ≤ longest)
 unfolding take_of
 good_where p m b c at n good =
     let came : Came byte_form c at n (take_in byte_form p m b).message (before (place_by messages p m) m ++ b ∷ []) = sound byte_form byte_serial p m [] b c at n good in

@@ -1,5 +1,5 @@
 -- A byte of a message by cases: what it can be, and what it then leads to. Assumes nothing.
-use Rattle.std.proofs.Common.{◌≡◌, ℕ, ◌+◌, ◌<◌, ◌≤◌, Bool, true, false, cond, eqb, ltb, List, length, take, set, sym, refl, ◌∙◌, arith, get_or-set_same, ltb-false, ltb-true, le-ltb, eqb-true}
+use Rattle.std.proofs.Common.{◌≡◌, ℕ, ◌+◌, ◌<◌, ◌≤◌, Bool, true, false, cond, eqb, ltb, List, length, take, set, sym, refl, ◌∙◌, arith, get_or-set_same, ltb-false, ltb-true, le-ltb, eqb-true, Err}
 use Rattle.line.specs.Form.{Form, number_at}
 use Rattle.line.specs.Message.{packet_begins, checksum_at, size_in, longest_in, Serial, byte_form, longest}
 use Rattle.line.specs.Unstuffing.{Fed, Does, on, over, take_by}
@@ -7,11 +7,11 @@ use Rattle.line.specs.Reader.{len_in, begun_in, judged_at, judged_in, put_in, me
 use Rattle.line.specs.declared.Place.{Place}
 use Rattle.line.specs.declared.Place.TheVariants.{Inside}
 use Rattle.line.specs.declared.Taken.{Taken}
-use Rattle.line.specs.declared.Outcome.{Outcome}
-use Rattle.line.specs.declared.Outcome.TheVariants.{Good, BadLength, BadChecksum, ShortBuffer}
+use Rattle.line.specs.Values.{Outcome, good_message}
 use Rattle.line.proofs.Laws.{false_true, cond_ind}
 use Rattle.line.proofs.Numbers.{number_set, byte_serial}
 use Rattle.line.proofs.Begun.{Begun, begun_known, begun_right}
+use Rattle.line.specs.declared.Fault.TheVariants.{BadLength, BadChecksum, ShortBuffer}
 
 -- a message that has begun has not yet as many bytes as the longest
 pub put_within_in : (f : Form) → Serial f → (k n : ℕ) → begun_in f k n ≡ true → k < longest_in f
@@ -24,15 +24,15 @@ put_within_in f s k n g = go (ltb k f.width) refl
 -- a byte x after the k bytes at the front of the buffer m
 pub data PutsIn (f : Form) (k : ℕ) (m : List ℕ) (x : ℕ) : Fed → Type 0 where
   -- LEN, and no right one
-  refuses : PutsIn f k m x (over BadLength m)
+  refuses : PutsIn f k m x (over (Err BadLength) m)
   -- a byte, and not the last
   goes : begun_in f (k + 1) (len_in f (set m k x)) ≡ true → PutsIn f k m x (on (Inside (k + 1)) (set m k x))
   -- the last, and the checksum is right
   fills : (n : ℕ) → 1 ≤ n → n ≤ f.most → k + 1 ≡ size_in f n → len_in f (set m k x) ≡ n
       → number_at f.sum_width (checksum_at f n) (set m k x) ≡ f.checksum (take (checksum_at f n) (set m k x))
-      → PutsIn f k m x (over (Good (number_at f.width f.width (set m k x)) (packet_begins f) n) (set m k x))
+      → PutsIn f k m x (over (good_message (number_at f.width f.width (set m k x)) (packet_begins f) n) (set m k x))
   -- the last, and the checksum is wrong
-  spoils : PutsIn f k m x (over BadChecksum (set m k x))
+  spoils : PutsIn f k m x (over (Err BadChecksum) (set m k x))
 
 -- once LEN has come, it stays, and the message goes on or ends
 module _ (f : Form) (k : ℕ) (m : List ℕ) (x : ℕ) (whole : f.width ≤ k) where
@@ -66,7 +66,7 @@ module _ (f : Form) (k : ℕ) (m : List ℕ) (x : ℕ) where
           go false t = omega (arith, ltb-false (k + 1) (size_in f n) t, b.short)
 
 -- what holds with too short a buffer, and with one long enough, holds
-pub take_cases : (f : Form) (P : Fed → Type 0) (p : Place) (m : List ℕ) (b : ℕ) → P (record { taken = record { place = p; outcome = ShortBuffer }; message = m })
+pub take_cases : (f : Form) (P : Fed → Type 0) (p : Place) (m : List ℕ) (b : ℕ) → P (record { taken = record { place = p; outcome = Err ShortBuffer }; message = m })
     → (longest_in f ≤ length m → P (take_by (messages_in f) p m b)) → P (take_in f p m b)
 unfolding take_in
 take_cases f P p m b short long = cond_ind P (ltb (length m) (longest_in f)) (λ _. short) (λ t. long (ltb-false (length m) (longest_in f) t))
@@ -88,12 +88,8 @@ puts k m x fits = puts_in byte_form k m x
 
 -- LEN is judged as it comes
 pub put_len : (k : ℕ) (m : List ℕ) (x : ℕ) → k < byte_form.width → longest ≤ length m
-    → put_of k m x ≡ cond (begun_of byte_form.width x) (on (Inside byte_form.width) (set m 0 x)) (over BadLength m)
+    → put_of k m x ≡ cond (begun_of byte_form.width x) (on (Inside byte_form.width) (set m 0 x)) (over (Err BadLength) m)
 put_len k m x lead fits = let z : k ≡ 0 = omega arith in rw (z, get_or-set_same m 0 x 0 (omega arith))
-
--- a function that does the one does the other
-pub does_so : {d e : Fed} {t : Taken} {m : List ℕ} → d ≡ e → Does e t m → Does d t m
-does_so p h = rw p h
 
 pub take_long : (p : Place) (m : List ℕ) (b : ℕ) → longest ≤ length m → take_of p m b ≡ take_by messages p m b
 unfolding take_of

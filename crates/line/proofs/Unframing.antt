@@ -1,13 +1,13 @@
 -- One received byte, over any reader of message bytes, by cases: what it can be, and what it then leads to. Assumes nothing.
-use Rattle.std.proofs.Common.{◌≡◌, ℕ, true, false, eqb, List, [], ◌∷◌, ◌++◌, take, refl, append_assoc, eqb-true}
+use Rattle.std.proofs.Common.{◌≡◌, ℕ, true, false, eqb, List, [], ◌∷◌, ◌++◌, take, refl, append_assoc, eqb-true, Err}
 use Rattle.line.specs.Stuffing.{SYNC, ESC, stuff_byte, on_wire}
 use Rattle.line.specs.Unstuffing.{Fed, Messages, on, over, place_by, cut_of, inside_by, take_by}
 use Rattle.line.specs.Wire.{before}
 use Rattle.line.specs.declared.Place.{Place}
 use Rattle.line.specs.declared.Place.TheVariants.{Outside, Inside, Escaped}
-use Rattle.line.specs.declared.Outcome.TheVariants.{BadEscape}
 use Rattle.line.proofs.Laws.{cond_ind, stuff_append, stuff_one}
 use Rattle.line.proofs.Begun.{inside_begun, escaped_begun, reads_again}
+use Rattle.line.specs.declared.Fault.TheVariants.{BadEscape}
 
 -- a byte b at place p, with m in the buffer
 pub data Takes (r : Messages) (p : Place) (m : List ℕ) (b : ℕ) : Fed → Type 0 where
@@ -20,7 +20,7 @@ pub data Takes (r : Messages) (p : Place) (m : List ℕ) (b : ℕ) : Fed → Typ
   -- a byte x of the message has come whole
   brings : (k x : ℕ) → r.begun k m ≡ true → before (place_by r p m) m ++ b ∷ [] ≡ on_wire (take k m ++ x ∷ []) → Takes r p m b (r.put k m x)
   -- an escape that is none
-  breaks : Takes r p m b (over BadEscape m)
+  breaks : Takes r p m b (over (Err BadEscape) m)
 
 -- a byte more of a message, on the wire
 wire_next : (xs : List ℕ) (x : ℕ) → on_wire (xs ++ x ∷ []) ≡ on_wire xs ++ stuff_byte x

@@ -3,6 +3,7 @@
 pub mod Stuffing
 pub mod Form
 pub mod Message
+pub mod Values
 pub mod Unstuffing
 pub mod Reader
 pub mod Writer

@@ -1,12 +1,12 @@
 -- The reader of messages.
-use Rattle.std.specs.Prelude.{ℕ, ◌+◌, Bool, true, false, cond, List, length, take, ◌==◌, nat_lt, slice_set}
+use Rattle.std.specs.Prelude.{ℕ, ◌+◌, Bool, true, false, cond, List, length, take, ◌==◌, nat_lt, slice_set, Err}
 use Rattle.line.specs.Form.{Form, number_at}
 use Rattle.line.specs.Message.{byte_form, packet_begins, checksum_at, size_in, longest_in}
 use Rattle.line.specs.Unstuffing.{Fed, Messages, on, over, take_by}
 use Rattle.line.specs.declared.Place.{Place}
 use Rattle.line.specs.declared.Place.TheVariants.{Inside}
-use Rattle.line.specs.declared.Outcome.{Outcome}
-use Rattle.line.specs.declared.Outcome.TheVariants.{Good, BadLength, BadChecksum, ShortBuffer}
+use Rattle.line.specs.Values.{Outcome, good_message}
+use Rattle.line.specs.declared.Fault.TheVariants.{BadLength, BadChecksum, ShortBuffer}
 
 -- LEN of the message in the buffer
 abbrev pub len_in : Form → List ℕ → ℕ
@@ -20,8 +20,8 @@ begun_in f k n = cond (nat_lt k f.width) true (cond (n == 0) false (cond (nat_lt
 abbrev pub judged_at : Form → ℕ → List ℕ → Outcome
 judged_at f n m =
     cond (number_at f.sum_width (checksum_at f n) m == f.checksum (take (checksum_at f n) m))
-    (Good (number_at f.width f.width m) (packet_begins f) n)
-    BadChecksum
+    (good_message (number_at f.width f.width m) (packet_begins f) n)
+    (Err BadChecksum)
 
 abbrev pub judged_in : Form → List ℕ → Outcome
 judged_in f m = judged_at f (len_in f m) m
@@ -30,7 +30,7 @@ judged_in f m = judged_at f (len_in f m) m
 abbrev pub put_in : Form → ℕ → List ℕ → ℕ → Fed
 put_in f k m b =
     cond (begun_in f (k + 1) (len_in f (slice_set m k b))) (on (Inside (k + 1)) (slice_set m k b))
-    (cond (nat_lt k f.width) (over BadLength m)
+    (cond (nat_lt k f.width) (over (Err BadLength) m)
     (over (judged_in f (slice_set m k b)) (slice_set m k b)))
 
 abbrev pub messages_in : Form → Messages
@@ -40,7 +40,7 @@ messages_in f = record { begun = λ k m. begun_in f k (len_in f m); put = put_in
 unfoldable pub take_in : Form → Place → List ℕ → ℕ → Fed
 take_in f p m b =
     cond (nat_lt (length m) (longest_in f))
-    (record { taken = record { place = p; outcome = ShortBuffer }; message = m })
+    (record { taken = record { place = p; outcome = Err ShortBuffer }; message = m })
     (take_by (messages_in f) p m b)
 
 -- ---- the byte form

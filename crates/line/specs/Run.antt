@@ -4,7 +4,7 @@ use Rattle.line.specs.Unstuffing.{Fed}
 use Rattle.line.specs.Form.{Form}
 use Rattle.line.specs.Reader.{take_in, take_of}
 use Rattle.line.specs.declared.Place.{Place}
-use Rattle.line.specs.declared.Outcome.{Outcome}
+use Rattle.line.specs.Values.{Outcome}
 
 -- the outcome of each byte, and the place and the message buffer after the last
 pub record Ran : Type 0 where

@@ -1,11 +1,11 @@
 -- How a received byte is read, over any reader of message bytes. It knows nothing of LEN, CTR or checksum.
-use Rattle.std.specs.Prelude.{◌≡◌, ℕ, Bool, cond, List, ◌==◌}
+use Rattle.std.specs.Prelude.{◌≡◌, ℕ, Bool, cond, List, ◌==◌, None, Ok, Err}
 use Rattle.line.specs.Stuffing.{SYNC, ESC}
 use Rattle.line.specs.declared.Place.{Place}
 use Rattle.line.specs.declared.Place.TheVariants.{Outside, Inside, Escaped}
-use Rattle.line.specs.declared.Outcome.{Outcome}
-use Rattle.line.specs.declared.Outcome.TheVariants.{Nothing, BadEscape, CutOff}
+use Rattle.line.specs.Values.{Outcome}
 use Rattle.line.specs.declared.Taken.{Taken}
+use Rattle.line.specs.declared.Fault.TheVariants.{BadEscape, CutOff}
 
 -- what a byte leads to: the place, the outcome, and the message buffer after it
 pub record Fed : Type 0 where
@@ -14,7 +14,7 @@ pub record Fed : Type 0 where
 
 -- the message goes on
 abbrev pub on : Place → List ℕ → Fed
-on p m = record { taken = record { place = p; outcome = Nothing }; message = m }
+on p m = record { taken = record { place = p; outcome = Ok None }; message = m }
 
 -- the message has ended or is dropped: the reader waits for SYNC
 abbrev pub over : Outcome → List ℕ → Fed
@@ -33,9 +33,9 @@ place_by r (Escaped k) m = cond (r.begun k m) (Escaped k) Outside
 
 -- SYNC cuts off a message with at least one byte, ESC counted, after its SYNC
 abbrev pub cut_of : Place → Outcome
-cut_of Outside = Nothing
-cut_of (Inside k) = cond (k == 0) Nothing CutOff
-cut_of (Escaped k) = CutOff
+cut_of Outside = Ok None
+cut_of (Inside k) = cond (k == 0) (Ok None) (Err CutOff)
+cut_of (Escaped k) = Err CutOff
 
 -- a byte other than SYNC
 abbrev pub inside_by : Messages → Place → List ℕ → ℕ → Fed
@@ -44,7 +44,7 @@ inside_by r (Inside k) m b = cond (b == ESC) (on (Escaped k) m) (r.put k m b)
 inside_by r (Escaped k) m b =
     cond (b == 0) (r.put k m ESC)
     (cond (b == 1) (r.put k m SYNC)
-    (over BadEscape m))
+    (over (Err BadEscape) m))
 
 -- SYNC always begins a new message
 abbrev pub take_by : Messages → Place → List ℕ → ℕ → Fed

@@ -1,5 +1,5 @@
 -- What the theorems say of bytes on the wire and of runs over them.
-use Rattle.std.specs.Prelude.{◌≡◌, ℕ, ◌+◌, ◌-◌, ◌≤◌, Bool, true, false, cond, List, [], ◌∷◌, ◌++◌, length, take, drop, replicate, ◌==◌}
+use Rattle.std.specs.Prelude.{◌≡◌, ℕ, ◌+◌, ◌-◌, ◌≤◌, Bool, true, false, cond, List, [], ◌∷◌, ◌++◌, length, take, drop, replicate, ◌==◌, Some, None, Ok, Err}
 use Rattle.line.specs.Stuffing.{SYNC, ESC, stuff, on_wire}
 use Rattle.line.specs.Form.{Form, in_bytes, number_at}
 use Rattle.line.specs.Message.{byte_form, packet_begins, checksum_at, size_in, message_in}
@@ -9,8 +9,8 @@ use Rattle.line.specs.Writer.{at_front}
 use Rattle.line.specs.Run.{Ran, run_in, run_of}
 use Rattle.line.specs.declared.Place.{Place}
 use Rattle.line.specs.declared.Place.TheVariants.{Outside, Inside, Escaped}
-use Rattle.line.specs.declared.Outcome.{Outcome}
-use Rattle.line.specs.declared.Outcome.TheVariants.{Nothing, Good, BadLength, BadEscape, BadChecksum, CutOff, ShortBuffer}
+use Rattle.line.specs.Values.{Outcome, good_message}
+use Rattle.line.specs.declared.Fault.TheVariants.{BadLength, BadEscape, BadChecksum, CutOff, ShortBuffer}
 
 -- whether b is among bytes
 abbrev pub has : ℕ → List ℕ → Bool
@@ -64,13 +64,13 @@ pub record Came (f : Form) (c at n : ℕ) (m h : List ℕ) : Type 0 where
 
 -- a message ends here, good or bad
 abbrev pub ends : Outcome → Bool
-ends Nothing = false
-ends (Good ctr at len) = true
-ends BadLength = true
-ends BadEscape = true
-ends BadChecksum = true
-ends CutOff = false
-ends ShortBuffer = false
+ends (Ok None) = false
+ends (Ok (Some good)) = true
+ends (Err BadLength) = true
+ends (Err BadEscape) = true
+ends (Err BadChecksum) = true
+ends (Err CutOff) = false
+ends (Err ShortBuffer) = false
 
 -- what the byte b leads to after the bytes bs
 abbrev pub last_in : Form → Place → List ℕ → List ℕ → ℕ → Fed
@@ -87,7 +87,7 @@ and_then r q = record { outcomes = r.outcomes ++ q.outcomes; place = q.place; me
 abbrev pub heard_in : Form → Place → List ℕ → ℕ → List ℕ → Ran
 heard_in f p m ctr packet =
     record {
-      outcomes = cut_of (place_by (messages_in f) p m) ∷ (replicate (length (stuff (message_in f ctr packet)) - 1) Nothing ++ Good ctr (packet_begins f) (length packet) ∷ []);
+      outcomes = cut_of (place_by (messages_in f) p m) ∷ (replicate (length (stuff (message_in f ctr packet)) - 1) (Ok None) ++ (good_message ctr (packet_begins f) (length packet)) ∷ []);
       place = Outside;
       message = at_front (message_in f ctr packet) m;
     }
@@ -97,4 +97,4 @@ heard = heard_in byte_form
 
 -- what bytes come to of which nothing is read
 abbrev pub unheard : List ℕ → List ℕ → Ran
-unheard m bs = record { outcomes = replicate (length bs) Nothing; place = Outside; message = m }
+unheard m bs = record { outcomes = replicate (length bs) (Ok None); place = Outside; message = m }

@@ -1,10 +1,10 @@
 -- What the writer writes.
-use Rattle.std.specs.Prelude.{◌≡◌, ℕ, ◌+◌, cond, List, [], ◌∷◌, length, ◌==◌, nat_lt}
+use Rattle.std.specs.Prelude.{◌≡◌, ℕ, ◌+◌, cond, List, [], ◌∷◌, length, ◌==◌, nat_lt, Ok, Err}
 use Rattle.std.proofs.lemmas.List.Edits.{sets}
 use Rattle.line.specs.Form.{Form}
 use Rattle.line.specs.Message.{byte_form, room_in, frame_in}
-use Rattle.line.specs.declared.Written.{Written}
-use Rattle.line.specs.declared.Written.TheVariants.{Frame, BadLength, NoRoom}
+use Rattle.line.specs.Values.{Written}
+use Rattle.line.specs.declared.Unwritten.TheVariants.{BadLength, NoRoom}
 
 -- xs at the front of l, and the bytes past them as they were
 abbrev pub at_front : List ℕ → List ℕ → List ℕ
@@ -23,10 +23,10 @@ refused w out = record { written = w; out = out }
 -- the frame of packet p at CTR ctr, at the front of out
 unfoldable pub write_in : Form → List ℕ → ℕ → List ℕ → Sent
 write_in f p ctr out =
-    cond (length p == 0) (refused BadLength out)
-    (cond (nat_lt f.most (length p)) (refused BadLength out)
-    (cond (nat_lt (length out) (room_in f)) (refused NoRoom out)
-    (record { written = Frame (length (frame_in f ctr p)); out = at_front (frame_in f ctr p) out })))
+    cond (length p == 0) (refused (Err BadLength) out)
+    (cond (nat_lt f.most (length p)) (refused (Err BadLength) out)
+    (cond (nat_lt (length out) (room_in f)) (refused (Err NoRoom) out)
+    (record { written = Ok (length (frame_in f ctr p)); out = at_front (frame_in f ctr p) out })))
 
 unfoldable pub write_of : List ℕ → ℕ → List ℕ → Sent
 unfolding write_in

@@ -22,12 +22,17 @@ pub enum Place {
     Escaped(usize),
 }
 
-// What a received byte ends.
+// A good message, whole in the lent buffer: its packet is the len bytes from at.
 #[derive(Clone, Copy)]
-pub enum Outcome {
-    Nothing,
-    // A good message, whole in the lent buffer: its packet is the len bytes from at.
-    Good { ctr: u8, at: usize, len: usize },
+pub struct Message {
+    pub ctr: u8,
+    pub at: usize,
+    pub len: usize,
+}
+
+// Why a message is dropped.
+#[derive(Clone, Copy)]
+pub enum Fault {
     BadLength,
     BadEscape,
     BadChecksum,
@@ -36,51 +41,44 @@ pub enum Outcome {
     ShortBuffer,
 }
 
+// What became of a received byte, which may end a message.
 #[derive(Clone, Copy)]
 pub struct Taken {
     pub place: Place,
-    pub outcome: Outcome,
+    pub outcome: Result<Option<Message>, Fault>,
 }
 
-// What became of a packet to send.
+// Why a packet to send gets no frame.
 #[derive(Clone, Copy)]
-pub enum Written {
-    // Its frame is the first size bytes.
-    Frame { size: usize },
+pub enum Unwritten {
     BadLength,
     NoRoom,
 }
 
-impl Outcome {
+impl Taken {
     // The paper's number. A good message is 1 here; the session makes 1, 2 or 6 of it.
     pub fn number(self) -> u8
-        ensures { result ≡ outcome_number self }
+        ensures { result ≡ outcome_number self.outcome }
     {
-        match self {
-            Outcome::Nothing => 0,
-            Outcome::Good {
-                ctr: _,
-                at: _,
-                len: _,
-            } => 1,
-            Outcome::BadLength => 3,
-            Outcome::BadEscape => 4,
-            Outcome::BadChecksum => 5,
-            Outcome::CutOff => 7,
-            Outcome::ShortBuffer => 10,
+        match self.outcome {
+            Ok(None) => 0,
+            Ok(Some(_)) => 1,
+            Err(Fault::BadLength) => 3,
+            Err(Fault::BadEscape) => 4,
+            Err(Fault::BadChecksum) => 5,
+            Err(Fault::CutOff) => 7,
+            Err(Fault::ShortBuffer) => 10,
         }
     }
 }
 
-impl Written {
-    // The paper's number: 0 for a frame.
-    pub fn number(self) -> u8
-        ensures { result ≡ written_number self }
-    {
-        match self {
-            Written::Frame { size: _ } => 0,
-            Written::BadLength => 3,
-            Written::NoRoom => 9,
-        }
+// The paper's number of a packet to send: 0 for a frame.
+pub fn written_number(written: Result<usize, Unwritten>) -> u8
+    ensures { result ≡ written_number written }
+{
+    match written {
+        Ok(_) => 0,
+        Err(Unwritten::BadLength) => 3,
+        Err(Unwritten::NoRoom) => 9,
     }
 }

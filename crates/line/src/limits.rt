@@ -3,10 +3,8 @@ pub const SYNC: u8 = 0x9A;
 
 pub const ESC: u8 = 0x9B;
 
-// The longest packet; and the same, as wide as LEN.
+// The longest packet.
 pub const MOST: usize = 64;
-
-pub const MOST_U8: u8 = MOST as u8;
 
 // LEN and CTR have WIDTH bytes each, the checksum SUM_WIDTH.
 pub const WIDTH: usize = 1;

@@ -3,14 +3,13 @@ ghost use Rattle.std.specs.Prelude.{◌≡◌, ◌+◌, ◌%◌};
 ghost use Rattle.line.specs.Message.{sum};
 
 // The sum of bytes and what came before them, modulo 256.
+#[tactic(auto, using(crate::proofs::Laws::sum_next))]
 pub fn sum_of(before: u8, bytes: &[u8]) -> u8
     ensures { result ≡ (before + sum bytes.now) % 256 }
 {
     let mut s = before;
-    let mut i = 0;
-    while i < bytes.len() {
-        s = std::num::wrapping_add_u8(s, bytes[i]);
-        i += 1;
+    for byte in bytes {
+        s = s.wrapping_add(*byte);
     }
     s
 }

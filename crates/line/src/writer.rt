@@ -4,10 +4,10 @@ ghost use Rattle.line.specs.Stuffing.{stuff_byte, stuff};
 ghost use Rattle.line.specs.Message.{sum, room, next_ctr};
 ghost use Rattle.line.specs.Writer.{Stored, Writes, write_of};
 
-use crate::Written;
+use crate::Unwritten;
 use crate::limits::{ESC, MOST, ROOM, SYNC};
 
-// Where the packet's bytes end on the wire, and their sum.
+// Where the packet's bytes end on the wire, and their sum: two numbers that a pair would leave without names.
 #[derive(Clone, Copy)]
 struct Summed {
     at: u32,
@@ -29,50 +29,46 @@ fn stuff_byte(byte: u8, out: &mut [u8], at: u32) -> u32
     end + 1
 }
 
-// A packet of n bytes as it stands on the wire, likewise, and its sum behind what was summed before.
-fn stuff_packet(packet: &[u8], n: u8, before: u8, out: &mut [u8], from: u32) -> Summed
-    requires { (n ≡ length packet.now) × (from + (length packet.now + length packet.now) ≤ room) × (room ≤ length out.old) }
+// A packet as it stands on the wire, likewise, and its sum behind what was summed before.
+fn stuff_packet(packet: &[u8], before: u8, out: &mut [u8], from: u32) -> Summed
+    requires { (from + (length packet.now + length packet.now) ≤ room) × (room ≤ length out.old) }
     ensures { Stored out.old from (stuff packet.now) out.new result.at × (result.sum ≡ (before + sum packet.now) % 256) }
 {
     let mut at = from;
-    let mut total = before;
-    let mut i: u32 = 0;
-    while i < n as u32 {
+    let mut sum = before;
+    // Counted in 32 bits: counted as a usize, each byte costs a small processor one instruction more.
+    for i in 0..packet.len() as u32 {
         let byte = packet[i as usize];
-        total = std::num::wrapping_add_u8(total, byte);
+        sum = sum.wrapping_add(byte);
         at = stuff_byte(byte, out, at);
-        i += 1;
     }
-    Summed { at, sum: total }
+    Summed { at, sum }
 }
 
 // The frame of a packet at the front of out. LEN is at most 64, and stands there as it is.
-pub fn write(packet: &[u8], ctr: u8, out: &mut [u8]) -> Written
+#[tactic(auto, unfolding(crate::specs::Writer::write_of))]
+pub fn write(packet: &[u8], ctr: u8, out: &mut [u8]) -> Result<usize, Unwritten>
     ensures { Writes (write_of packet.now ctr out.old) result out.new }
 {
     let n = packet.len();
-    if n == 0 {
-        return Written::BadLength;
-    }
-    if MOST < n {
-        return Written::BadLength;
+    if n == 0 || MOST < n {
+        return Err(Unwritten::BadLength);
     }
     if out.len() < ROOM {
-        return Written::NoRoom;
+        return Err(Unwritten::NoRoom);
     }
     let len = n as u8;
     out[0] = SYNC;
     out[1] = len;
     let from = stuff_byte(ctr, out, 2);
-    let before = std::num::wrapping_add_u8(len, ctr);
-    let end = stuff_packet(packet, len, before, out, from);
+    let end = stuff_packet(packet, len.wrapping_add(ctr), out, from);
     let size = stuff_byte(end.sum, out, end.at) as usize;
-    Written::Frame { size }
+    Ok(size)
 }
 
 // The CTR of the message after one with this CTR: 255 is followed by 0.
 pub fn next_ctr(ctr: u8) -> u8
     ensures { result ≡ next_ctr ctr }
 {
-    std::num::wrapping_add_u8(ctr, 1)
+    ctr.wrapping_add(1)
 }

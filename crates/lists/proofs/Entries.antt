@@ -1,6 +1,6 @@
 -- An entry reads the same while samples are stored past all entries. Assumes nothing.
 use Rattle.std.proofs.Common.{◌≡◌, ℕ, zero, suc, ◌+◌, ◌<◌, ◌≤◌, List, [], ◌∷◌, ◌++◌, get_or, set, refl, ap, ◌∙◌, ap₂, arith, lit<, get_or-set_other}
-use lib.Seq.{sets}
+use Rattle.std.proofs.lemmas.List.Edits.{sets}
 use Rattle.state.specs.Layout.{lists, all_odts, odt_most, phase_at, entry_size, sample_at}
 use Rattle.state.specs.Pool.{list_count, first_odt, odt_count, first_entry, entry_count, entry_at}
 use Rattle.state.proofs.Allocated.{entry_most_lem, lists_same, first_odt_same, odt_count_same, first_entry_same, entry_count_same}

@@ -1,6 +1,6 @@
 -- The bytes that an event takes: how many, one more, and whole packets of them. Assumes nothing.
 use Rattle.std.proofs.Common.{◌≡◌, ℕ, zero, suc, ◌+◌, ◌-◌, ◌/◌, ◌%◌, ◌<◌, ◌≤◌, Bool, true, false, cond, List, [], ◌∷◌, ◌++◌, length, get_or, set, sym, refl, ap, ◌∙◌, add-zero, add-suc, suc-add, add-one, arith, lit<, length-append}
-use lib.Seq.{sets}
+use Rattle.std.proofs.lemmas.List.Edits.{sets}
 use Rattle.line.proofs.Laws.{sets_append}
 use Rattle.state.specs.Layout.{is_first, odt_most, entry_size, sample_at, all_odts, clock_size, stored_most}
 use Rattle.state.specs.Memory.{byte_of, bytes_of}

@@ -1,11 +1,11 @@
 -- One list more at an event. Assumes nothing.
-use Rattle.std.proofs.Common.{◌≡◌, ℕ, zero, suc, ◌+◌, ◌<◌, ◌≤◌, List, refl, ◌∙◌, arith}
+use Rattle.std.proofs.Common.{◌≡◌, ℕ, zero, suc, ◌+◌, List, refl, ◌∙◌}
 use Rattle.state.specs.Pool.{first_odt, odt_count}
 use Rattle.model.specs.declared.Sampling.{Sampling}
 use Rattle.model.specs.declared.Sampling.TheVariants.{Idle, Sampled, Missed}
 use Rattle.lists.proofs.Entries.{Alike}
 use Rattle.lists.proofs.Gathered.{captured_alike}
-use Rattle.lists.specs.Event.{sampling_of, captured, sampled_state, sampled_by, missed_by, tally, Counts}
+use Rattle.lists.specs.Event.{sampling_of, sampled_state, sampled_by, missed_by, tally, Counts}
 
 pub counts_next : (s₀ : List ℕ) (event clock : ℕ) (cal meas : List ℕ) (l : ℕ) {s t : List ℕ} {n m : ℕ} {c : Sampling}
     → Counts (tally s₀ event clock cal meas l) s n m → c ≡ sampling_of s l event → t ≡ sampled_state c s l clock cal meas
@@ -16,23 +16,6 @@ counts_next s₀ event clock cal meas l r e f = record {
   sampled = rw (r.sampled, e, r.state);
   missed = rw (r.missed, e, r.state);
 }
-
-none : 0 < 0 → ⊥
-none p = omega arith
-
--- a list that samples is captured; any other stays as it is
-module _ (s : List ℕ) (l clock : ℕ) (cal meas : List ℕ) where
-  pub if_sampled : (c : Sampling) → 0 < sampled_by c → captured s l clock cal meas ≡ sampled_state c s l clock cal meas
-  unfolding sampled_state
-  if_sampled Idle h = absurd (none h)
-  if_sampled Sampled h = refl
-  if_sampled Missed h = absurd (none h)
-
-  pub if_not : (c : Sampling) → sampled_by c ≤ 0 → s ≡ sampled_state c s l clock cal meas
-  unfolding sampled_state
-  if_not Idle h = refl
-  if_not Sampled h = absurd (none h)
-  if_not Missed h = refl
 
 -- an event changes packets alone
 sampled_alike : (c : Sampling) (s : List ℕ) (l clock : ℕ) (cal meas : List ℕ) → Alike (sampled_state c s l clock cal meas) s

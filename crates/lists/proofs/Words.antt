@@ -1,6 +1,6 @@
 -- Words of an entry's bytes: four bytes make one, and it has them. Assumes nothing.
 use Rattle.std.proofs.Common.{◌≡◌, ℕ, zero, suc, ◌+◌, ◌*◌, ◌/◌, ◌%◌, ◌<◌, ◌≤◌, List, [], ◌∷◌, length, get_or, set, refl, ap, ◌∙◌, ap₂, add-one, arith, le-ltb, lt-ltb}
-use lib.Seq.{sets}
+use Rattle.std.proofs.lemmas.List.Edits.{sets}
 use Rattle.state.specs.Memory.{reach, byte_of, bytes_of}
 use Rattle.lists.specs.Word.{word_bytes, Holds}
 

@@ -1,5 +1,5 @@
 -- An event.
-use Rattle.std.specs.Prelude.{◌≡◌, ℕ, zero, suc, ◌+◌, cond, List, ◌∷◌, length, nat_le}
+use Rattle.std.specs.Prelude.{◌≡◌, ℕ, zero, suc, ◌+◌, cond, List, ◌∷◌, length, nat_le, Err}
 use Rattle.std.proofs.lemmas.List.Edits.{sets}
 use Rattle.state.specs.Layout.{events, sample_at}
 use Rattle.state.specs.Pool.{list_count, first_odt, odt_count}
@@ -9,8 +9,8 @@ use Rattle.model.specs.Whole.{is_sampled, is_missed}
 use Rattle.model.specs.View.{odt_of, session_of}
 use Rattle.model.specs.declared.Sampling.{Sampling}
 use Rattle.model.specs.declared.Sampling.TheVariants.{Idle, Sampled, Missed}
-use Rattle.words.specs.declared.Evented.{Evented}
-use Rattle.words.specs.declared.Evented.TheVariants.{Done, BadEvent, NoState}
+use Rattle.words.specs.Values.{Evented, event_done}
+use Rattle.words.specs.declared.EventRefusal.TheVariants.{BadEvent, NoState}
 
 -- what an event is to list l
 abbrev pub sampling_of : List ℕ → ℕ → ℕ → Sampling
@@ -71,14 +71,14 @@ pub record Happened : Type 0 where
   pub state : List ℕ
 
 abbrev pub happened : Tally → Happened
-happened t = record { evented = Done t.sampled t.missed; state = t.state }
+happened t = record { evented = event_done t.sampled t.missed; state = t.state }
 
 unfoldable pub event_of : List ℕ → List ℕ → List ℕ → ℕ → ℕ → Happened
 event_of s cal meas event clock =
     cond (consistent s)
-    (cond (nat_le events event) (record { evented = BadEvent; state = s })
+    (cond (nat_le events event) (record { evented = Err BadEvent; state = s })
     (happened (tally s event clock cal meas (list_count s))))
-    (record { evented = NoState; state = s })
+    (record { evented = Err NoState; state = s })
 
 -- a function that answers e and leaves s does what h says
 pub record Happens (h : Happened) (e : Evented) (s : List ℕ) : Type 0 where

@@ -1,18 +1,18 @@
 -- A sending slot: one frame, of whose turn it is.
-use Rattle.std.specs.Prelude.{◌≡◌, ℕ, ◌+◌, ◌%◌, ◌≤◌, cond, List, length, nat_lt, slice_set}
+use Rattle.std.specs.Prelude.{◌≡◌, ℕ, ◌+◌, ◌%◌, ◌≤◌, cond, List, length, nat_lt, slice_set, Some, None, Ok, Err}
 use Rattle.line.specs.Message.{room}
 use Rattle.line.specs.Writer.{Sent, write_of}
-use Rattle.line.specs.declared.Written.{Written}
-use Rattle.line.specs.declared.Written.TheVariants.{Frame, BadLength, NoRoom}
+use Rattle.line.specs.Values.{Written}
 use Rattle.state.specs.Layout.{ctr_at, round_at, last_at, sample_at, answer_at, answer_bytes_at}
 use Rattle.state.specs.Pool.{first_odt}
 use Rattle.state.specs.State.{consistent, ctr_of, answer_kind, answer_of}
 use Rattle.model.specs.Calls.{turn_in, packet_from}
 use Rattle.model.specs.View.{session_of, view_of}
-use Rattle.model.specs.declared.Turn.{Turn}
-use Rattle.model.specs.declared.Turn.TheVariants.{Nobody, Answer, Packet}
-use Rattle.words.specs.declared.Slotted.{Slotted}
-use Rattle.words.specs.declared.Slotted.TheVariants.{Idle, Sent as SlottedSent, NoRoom as SlottedNoRoom, NoState}
+use Rattle.model.specs.Turn.{Turn}
+use Rattle.words.specs.Values.{Slotted}
+use Rattle.line.specs.declared.Unwritten.TheVariants.{BadLength, NoRoom}
+use Rattle.model.specs.declared.Sender.TheVariants.{Answer, Packet}
+use Rattle.words.specs.declared.SlotRefusal.TheVariants.{NoRoom as SlottedNoRoom, NoState}
 
 -- whose turn it is
 abbrev pub turn_of : List ℕ → Turn
@@ -20,9 +20,9 @@ turn_of s = turn_in (view_of s)
 
 -- the same with the ODT's number in the place of its number in its list
 abbrev pub numbered_in : List ℕ → Turn → Turn
-numbered_in s Nobody = Nobody
-numbered_in s Answer = Answer
-numbered_in s (Packet l o) = Packet l (first_odt s l + o)
+numbered_in s None = None
+numbered_in s (Some Answer) = Some Answer
+numbered_in s (Some (Packet l o)) = Some (Packet l (first_odt s l + o))
 
 -- the packet of list l's ODT o: its number, and what was captured
 abbrev pub packet_of : List ℕ → ℕ → ℕ → List ℕ
@@ -35,9 +35,9 @@ pub record Slot : Type 0 where
   pub out : List ℕ
 
 abbrev pub slotted_as : Written → Slotted
-slotted_as (Frame n) = SlottedSent n
-slotted_as BadLength = Idle
-slotted_as NoRoom = SlottedNoRoom
+slotted_as (Ok n) = Ok (Some n)
+slotted_as (Err BadLength) = Ok None
+slotted_as (Err NoRoom) = Err SlottedNoRoom
 
 abbrev pub sent_as : Sent → List ℕ → Slot
 sent_as w s = record { slotted = slotted_as w.written; state = s; out = w.out }
@@ -59,16 +59,16 @@ unfoldable pub packet_sent : List ℕ → ℕ → ℕ → List ℕ
 packet_sent s l o = slice_set (slice_set (slice_set (slice_set s (sample_at (first_odt s l + o)) 0) ctr_at (ctr_next s)) round_at (round_after l)) last_at 0
 
 unfoldable pub sent_by : Turn → List ℕ → List ℕ → Slot
-sent_by Nobody s out = record { slotted = Idle; state = s; out = out }
-sent_by Answer s out = sent_as (write_of (answer_of s) (ctr_of s) out) (answer_sent s)
-sent_by (Packet l o) s out = sent_as (write_of (packet_of s l o) (ctr_of s) out) (packet_sent s l o)
+sent_by None s out = record { slotted = Ok None; state = s; out = out }
+sent_by (Some Answer) s out = sent_as (write_of (answer_of s) (ctr_of s) out) (answer_sent s)
+sent_by (Some (Packet l o)) s out = sent_as (write_of (packet_of s l o) (ctr_of s) out) (packet_sent s l o)
 
 unfoldable pub slot_of : List ℕ → List ℕ → Slot
 slot_of s out =
     cond (consistent s)
-    (cond (nat_lt (length out) room) (record { slotted = SlottedNoRoom; state = s; out = out })
+    (cond (nat_lt (length out) room) (record { slotted = Err SlottedNoRoom; state = s; out = out })
     (sent_by (turn_of s) s out))
-    (record { slotted = NoState; state = s; out = out })
+    (record { slotted = Err NoState; state = s; out = out })
 
 -- a function that answers r and leaves s and out does what o says
 pub record Sends (o : Slot) (r : Slotted) (s out : List ℕ) : Type 0 where
@@ -78,7 +78,7 @@ pub record Sends (o : Slot) (r : Slotted) (s out : List ℕ) : Type 0 where
 
 -- a frame's size is at most the room
 abbrev pub Small : Slotted → Type 0
-Small Idle = Unit
-Small (SlottedSent size) = size ≤ room
-Small SlottedNoRoom = Unit
-Small NoState = Unit
+Small (Ok None) = Unit
+Small (Ok (Some size)) = size ≤ room
+Small (Err SlottedNoRoom) = Unit
+Small (Err NoState) = Unit

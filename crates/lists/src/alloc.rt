@@ -1,5 +1,5 @@
 // FREE_DAQ and the three allocations: what they write, for any bytes.
-ghost use Rattle.std.specs.Prelude.{◌≡◌, ◌+◌, ◌-◌, ◌*◌, ◌≤◌, length, if◌then◌else◌};
+ghost use Rattle.std.specs.Prelude.{◌≡◌, ◌+◌, ◌-◌, ◌*◌, ◌≤◌, if◌then◌else◌};
 ghost use Rattle.state.specs.Layout.{size, all_entries, entry_size};
 ghost use Rattle.state.specs.Bytes.{copied};
 ghost use Rattle.state.specs.Pool.{first_odt};
@@ -9,9 +9,10 @@ ghost use Rattle.lists.specs.Alloc.{lists_freed, lists_allocated, odts_allocated
 use state::bytes::{clear, put};
 use state::{fields, layout, pool};
 
-// Four bytes from `at`, d places further on: all are read before one is written.
-fn shift_four(s: &mut [u8], at: usize, d: usize)
-    requires { (at + d + 4 ≤ length s.old) × (length s.old ≡ size) }
+// Four bytes from `at`, d places further on: all are read before one is written. Within one slice: the copy of `session` is between two, which
+// cannot be lent of one.
+fn shift_four(s: &mut [u8; layout::STATE], at: usize, d: usize)
+    requires { at + d + 4 ≤ size }
     ensures { s.new ≡ copied s.old (at + d) s.old at 4 }
 {
     let to = at + d;
@@ -26,20 +27,20 @@ fn shift_four(s: &mut [u8], at: usize, d: usize)
 }
 
 // The first n of the bytes from `at`, one by one, the last first.
-fn shift_few(s: &mut [u8], at: usize, d: usize, n: u32)
-    requires { (at + d + n ≤ length s.old) × (length s.old ≡ size) }
+fn shift_few(s: &mut [u8; layout::STATE], at: usize, d: usize, n: u32)
+    requires { at + d + n ≤ size }
     ensures { s.new ≡ copied s.old (at + d) s.old at n }
 {
-    let mut j = n;
-    while 0 < j {
-        j -= 1;
+    for j in (0..n).rev() {
         s[at + d + j as usize] = s[at + j as usize];
     }
 }
 
-// The n bytes from `at`, d places further on, the last first: they may lie one upon the other.
-fn shift(s: &mut [u8], at: usize, d: usize, n: usize)
-    requires { (at + d + n ≤ length s.old) × (length s.old ≡ size) }
+// The n bytes from `at`, d places further on, the last first: they may lie one upon the other. Four at a time: a controller's memmove
+// (tools/memory.c), which `copy_within` would call, moves them one by one where they overlap, in up to 254 turns for 64. What is left
+// is counted down, since the last step may be short.
+fn shift(s: &mut [u8; layout::STATE], at: usize, d: usize, n: usize)
+    requires { at + d + n ≤ size }
     ensures { s.new ≡ copied s.old (at + d) s.old at n }
 {
     let mut j = n as u32;
@@ -68,7 +69,7 @@ pub fn alloc_lists(s: &mut [u8], n: u8)
 pub fn alloc_odts(s: &mut [u8], l: u8, n: u8)
     ensures { s.new ≡ odts_allocated s.old l n }
 {
-    fields::drop_packets(s, 0, layout::ALL_ODTS_U16);
+    fields::drop_packets(s, 0, layout::ALL_ODTS as u16);
     clear(s, layout::COUNTS, layout::ALL_ODTS as usize);
     put(s, layout::ODTS + l as usize, n);
 }
@@ -85,8 +86,8 @@ fn bytes_behind(i: u16, m: u16) -> usize
 }
 
 // Room for n entries before entry i of m.
-fn make_room(s: &mut [u8], i: u16, m: u16, n: u8)
-    requires { (length s.old ≡ size) × (i ≤ all_entries) × (m ≤ all_entries) }
+fn make_room(s: &mut [u8; layout::STATE], i: u16, m: u16, n: u8)
+    requires { (i ≤ all_entries) × (m ≤ all_entries) }
     ensures { s.new ≡ room_made s.old i m n }
 {
     let at = layout::entries_at(i);
@@ -95,8 +96,7 @@ fn make_room(s: &mut [u8], i: u16, m: u16, n: u8)
     clear(s, at, d);
 }
 
-fn make_entries(s: &mut [u8], k: u16, n: u8)
-    requires { length s.old ≡ size }
+fn make_entries(s: &mut [u8; layout::STATE], k: u16, n: u8)
     ensures { s.new ≡ entries_allocated s.old k n }
 {
     let pointer = fields::pointer(s);
@@ -111,7 +111,7 @@ fn make_entries(s: &mut [u8], k: u16, n: u8)
 pub fn alloc_entries(s: &mut [u8], l: u8, odt: u8, n: u8)
     ensures { s.new ≡ (if is_state s.old then entries_allocated s.old (first_odt s.old l + odt) n else s.old) }
 {
-    if s.len() == layout::STATE {
+    if let Some(s) = s.as_mut_array() {
         let k = pool::odts(s, l as u16).first + odt as u16;
         make_entries(s, k, n);
     }

@@ -1,64 +1,59 @@
 // What a command asks of the lists, for any bytes: in a state of another size there is none, and a list that there is not does nothing.
-ghost use Rattle.std.specs.Prelude.{◌≡◌, ◌≤◌};
-ghost use Rattle.state.specs.Layout.{all_odts, all_entries};
+ghost use Rattle.std.specs.Prelude.{◌≡◌, ◌<◌, ◌≤◌, false, length, MatchOption};
+ghost use Rattle.state.specs.Layout.{lists, all_odts, all_entries, size};
+ghost use Rattle.state.specs.Pool.{list_count};
 ghost use Rattle.model.specs.View.{session_of};
 ghost use Rattle.lists.specs.Lists.{is_list, runs_named, fits_named, any_runs, any_started, ready};
 
 use crate::{list, spans};
 use state::{layout, pool};
 
-fn is_list(s: &[u8], l: u16) -> bool
-    ensures { result ≡ is_list s.now l }
+// The state, if it has such a list.
+fn listed(s: &[u8], l: u16) -> Option<&[u8; layout::STATE]>
+    ensures { MatchOption result (is_list s.now l ≡ false) (λ t. (length s.now ≡ size) × (t.now ≡ s.now) × (l < list_count t.now) × (l < lists)) }
 {
-    if s.len() == layout::STATE {
-        return l < pool::list_count(s) as u16;
+    let whole = s.as_array()?;
+    if pool::list_count(s) as u16 <= l {
+        return None;
     }
-    false
+    Some(whole)
 }
 
 pub fn runs(s: &[u8], l: u16) -> bool
     ensures { result ≡ runs_named s.now l }
 {
-    if is_list(s, l) {
-        return list::runs(s, l as u8);
+    match listed(s, l) {
+        Some(s) => list::runs(s, l as u8),
+        None => false,
     }
-    false
 }
 
 pub fn fits(s: &[u8], l: u16) -> bool
     ensures { result ≡ fits_named s.now l }
 {
-    if is_list(s, l) {
-        return list::fit(s, l as u8, spans::span(s, l as u8));
+    match listed(s, l) {
+        Some(s) => list::fit(s, l as u8, spans::span(s, l as u8)),
+        None => false,
     }
-    false
 }
 
+// Three calls of a line each, under the names of their definitions: in a state of another size there is no list.
 pub fn any_runs(s: &[u8]) -> bool
     ensures { result ≡ any_runs s.now }
 {
-    if s.len() == layout::STATE {
-        return list::any_runs(s);
-    }
-    false
+    s.as_array().is_some_and(list::any_runs)
 }
 
 pub fn any_started(s: &[u8]) -> bool
     ensures { result ≡ any_started s.now }
 {
-    if s.len() == layout::STATE {
-        return list::any_started(s);
-    }
-    false
+    s.as_array().is_some_and(list::any_started)
 }
 
 pub fn all_fit(s: &[u8]) -> bool
     ensures { result ≡ ready s.now }
 {
-    if s.len() == layout::STATE {
-        return list::all_fit(s);
-    }
-    false
+    s.as_array().is_some_and(list::all_fit)
 }
 
 // How many ODTs a list has, and how many entries one of these.

@@ -1,5 +1,5 @@
 // The lists: how commands change them, for any bytes.
-ghost use Rattle.std.specs.Prelude.{◌≡◌, ◌+◌, ◌<◌, length, if◌then◌else◌, slice_set};
+ghost use Rattle.std.specs.Prelude.{◌≡◌, ◌+◌, ◌<◌, if◌then◌else◌, slice_set};
 ghost use Rattle.state.specs.Layout.{lists, selected_at, size};
 ghost use Rattle.state.specs.Pool.{list_count, first_odt};
 ghost use Rattle.lists.specs.Lists.{is_state, switched, stopped, started, list_cleared, mode_set, tag_of, head_of, entry_set, stop_each, start_one, start_selected, stop_one, stop_selected};
@@ -86,22 +86,20 @@ pub fn set_entry(s: &mut [u8], l: u8, odt: u8, e: u8, n: u8, extension: Extensio
     put(s, at + 1, low(address));
 }
 
-// ---- START_STOP_SYNCH, list by list
+// ---- START_STOP_SYNCH, list by list. Three loops of two lines: one loop that takes the step as a closure is longer, by what it would ask of the
+// step in every state on the way.
 
 pub fn stop_all(s: &mut [u8])
     ensures { s.new ≡ stop_each s.old (list_count s.old) }
 {
-    let n = pool::list_count(s);
-    let mut l = 0;
-    while l < n {
+    for l in 0..pool::list_count(s) {
         stop(s, l);
         select(s, l, 0);
-        l += 1;
     }
 }
 
-fn start_one(s: &mut [u8], l: u8)
-    requires { (length s.old ≡ size) × (l < list_count s.old) }
+fn start_one(s: &mut [u8; layout::STATE], l: u8)
+    requires { l < list_count s.old }
     ensures { s.new ≡ start_one s.old l }
 {
     if selected(s, l) {
@@ -111,16 +109,12 @@ fn start_one(s: &mut [u8], l: u8)
     }
 }
 
-fn start_each(s: &mut [u8])
-    requires { length s.old ≡ size }
+fn start_each(s: &mut [u8; layout::STATE])
     ensures { s.new ≡ start_selected s.old (list_count s.old) }
 {
-    let n = pool::list_count(s);
-    let mut l = 0;
-    while l < n {
+    for l in 0..pool::list_count(s) {
         start_one(s, l);
         select(s, l, 0);
-        l += 1;
     }
 }
 
@@ -128,13 +122,13 @@ fn start_each(s: &mut [u8])
 pub fn start_selected(s: &mut [u8])
     ensures { s.new ≡ (if is_state s.old then start_selected s.old (list_count s.old) else s.old) }
 {
-    if s.len() == layout::STATE {
+    if let Some(s) = s.as_mut_array() {
         start_each(s);
     }
 }
 
-fn stop_one(s: &mut [u8], l: u8)
-    requires { (length s.old ≡ size) × (l < lists) }
+fn stop_one(s: &mut [u8; layout::STATE], l: u8)
+    requires { l < lists }
     ensures { s.new ≡ stop_one s.old l }
 {
     if selected(s, l) {
@@ -142,23 +136,19 @@ fn stop_one(s: &mut [u8], l: u8)
     }
 }
 
-fn stop_each_selected(s: &mut [u8])
-    requires { length s.old ≡ size }
+fn stop_each_selected(s: &mut [u8; layout::STATE])
     ensures { s.new ≡ stop_selected s.old (list_count s.old) }
 {
-    let n = pool::list_count(s);
-    let mut l = 0;
-    while l < n {
+    for l in 0..pool::list_count(s) {
         stop_one(s, l);
         select(s, l, 0);
-        l += 1;
     }
 }
 
 pub fn stop_selected(s: &mut [u8])
     ensures { s.new ≡ (if is_state s.old then stop_selected s.old (list_count s.old) else s.old) }
 {
-    if s.len() == layout::STATE {
+    if let Some(s) = s.as_mut_array() {
         stop_each_selected(s);
     }
 }

@@ -13,9 +13,3 @@ mod word;
 
 pub use events::event;
 pub use slots::slot;
-
-#[derive(Clone, Copy)]
-pub struct Counted {
-    pub sampled: u8,
-    pub missed: u8,
-}

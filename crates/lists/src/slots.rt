@@ -3,42 +3,35 @@ ghost use Rattle.std.specs.Prelude.{◌≡◌, ◌+◌, ◌-◌, ◌<◌, ◌≤
 ghost use Rattle.state.specs.Layout.{lists, all_odts, last_at, size};
 ghost use Rattle.state.specs.Pool.{list_count, first_odt, odt_count};
 ghost use Rattle.state.specs.State.{open_of, waits, flag_of};
-ghost use Rattle.model.specs.Calls.{first_packet, packet_in, or_else, round_in, list_after};
+ghost use Rattle.model.specs.Calls.{first_packet, packet_in, round_in, list_after};
 ghost use Rattle.model.specs.View.{session_of};
 ghost use Rattle.lists.specs.Slot.{turn_of, numbered_in, slotted_as, sent_by, Sends, slot_of};
 
 use crate::{list, spans};
-use line::Written;
-use model::Turn;
+use line::Unwritten;
+use model::Sender;
 use state::{fields, layout, pool};
-use words::Slotted;
+use words::SlotRefusal;
 
 // The first packet in store of a list with n ODTs, of which k is the first. It is named by its ODT's number.
-fn first_stored(s: &[u8], l: u8, k: u16, n: u16) -> Turn
-    requires { (length s.now ≡ size) × (l < list_count s.now) × (k ≡ first_odt s.now l) × (n ≡ odt_count s.now l) × (k + n ≤ all_odts) }
+fn first_stored(s: &[u8; layout::STATE], l: u8, k: u16, n: u16) -> Option<Sender>
+    requires { (l < list_count s.now) × (k ≡ first_odt s.now l) × (n ≡ odt_count s.now l) × (k + n ≤ all_odts) }
     ensures { result ≡ numbered_in s.now (first_packet l ((session_of s.now).list l) 0 (odt_count s.now l)) }
 {
-    let mut at = k;
-    let mut left = n;
-    while 0 < left {
-        if 0 < list::stored_length(s, at) {
-            return Turn::Packet(l, at as u8);
-        }
-        at += 1;
-        left -= 1;
-    }
-    Turn::Nobody
+    (k..k + n)
+        .find(|odt| 0 < list::stored_length(s, *odt))
+        .map(|odt| Sender::Packet(l, odt as u8))
 }
 
 // A list's next packet, in a session that is open: one without ODTs has none, whether it was started or not.
-fn packet_in(s: &[u8], l: u8, k: u16, n: u16) -> Turn
-    requires { (length s.now ≡ size) × (open_of s.now ≡ true) × (l < list_count s.now) × (k ≡ first_odt s.now l) × (n ≡ odt_count s.now l) × (k + n ≤ all_odts) }
+fn packet_in(s: &[u8; layout::STATE], l: u8, k: u16, n: u16) -> Option<Sender>
+    requires { (open_of s.now ≡ true) × (l < list_count s.now) × (k ≡ first_odt s.now l) × (n ≡ odt_count s.now l) × (k + n ≤ all_odts) }
     ensures { result ≡ numbered_in s.now (packet_in (session_of s.now) l) }
 {
     if list::on(s, layout::running_at(l as u16)) {
         return first_stored(s, l, k, n);
     }
-    Turn::Nobody
+    None
 }
 
 // After the last of the lists comes list 0.
@@ -63,38 +56,23 @@ fn first_after(l: u8, k: u16) -> u16
 }
 
 // The next list that has a packet, from the one with which the round begins, in a session that is open. Its first ODT is kept on the way.
-fn round(s: &[u8]) -> Turn
-    requires { (length s.now ≡ size) × (open_of s.now ≡ true) }
+fn round(s: &[u8; layout::STATE]) -> Option<Sender>
+    requires { open_of s.now ≡ true }
     ensures { result ≡ numbered_in s.now (round_in (session_of s.now)) }
 {
     let count = pool::list_count(s);
     let mut l = pool::round(s);
     let mut k = spans::first_odt(s, l);
-    let mut left = count;
-    while 0 < left {
+    for _ in 0..count {
         let n = spans::odts_in(s, l, k);
         let turn = packet_in(s, l, k, n);
-        match turn {
-            Turn::Nobody => {
-                l = list_after(count, l);
-                k = first_after(l, k + n);
-                left -= 1;
-            }
-            Turn::Answer => return Turn::Answer,
-            Turn::Packet(list, odt) => return Turn::Packet(list, odt),
+        if turn.is_some() {
+            return turn;
         }
+        l = list_after(count, l);
+        k = first_after(l, k + n);
     }
-    Turn::Nobody
-}
-
-fn or_else(first: Turn, second: Turn) -> Turn
-    ensures { result ≡ or_else first second }
-{
-    match first {
-        Turn::Nobody => second,
-        Turn::Answer => Turn::Answer,
-        Turn::Packet(list, odt) => Turn::Packet(list, odt),
-    }
+    None
 }
 
 // An answer that waits goes first, unless the last frame was one.
@@ -108,50 +86,47 @@ fn answer_first(s: &[u8]) -> bool
 }
 
 // Else it goes behind the lists.
-fn answer_behind(s: &[u8]) -> Turn
-    ensures { result ≡ (if waits s.now then Turn.Answer else Turn.Nobody) }
+fn answer_behind(s: &[u8]) -> Option<Sender>
+    ensures { result ≡ (if waits s.now then Some Sender.Answer else None) }
 {
     if 0 < fields::answer_length(s) {
-        return Turn::Answer;
+        return Some(Sender::Answer);
     }
-    Turn::Nobody
+    None
 }
 
 // The lists' turn: without an open session no list runs. The round has one caller, so that it stands in its place when compiled.
-fn lists_turn(s: &[u8]) -> Turn
-    requires { length s.now ≡ size }
+fn lists_turn(s: &[u8; layout::STATE]) -> Option<Sender>
     ensures { result ≡ numbered_in s.now (round_in (session_of s.now)) }
 {
     if list::on(s, layout::OPEN) {
         return round(s);
     }
-    Turn::Nobody
+    None
 }
 
-fn turn(s: &[u8]) -> Turn
-    requires { length s.now ≡ size }
+fn turn(s: &[u8; layout::STATE]) -> Option<Sender>
     ensures { result ≡ numbered_in s.now (turn_of s.now) }
 {
     if answer_first(s) {
-        return Turn::Answer;
+        return Some(Sender::Answer);
     }
-    or_else(lists_turn(s), answer_behind(s))
+    lists_turn(s).or(answer_behind(s))
 }
 
-fn slotted(written: Written) -> Slotted
+fn slotted(written: Result<usize, Unwritten>) -> Result<Option<usize>, SlotRefusal>
     ensures { result ≡ slotted_as written }
 {
     match written {
-        Written::Frame { size } => Slotted::Sent { size },
-        Written::BadLength => Slotted::Idle,
-        Written::NoRoom => Slotted::NoRoom,
+        Ok(size) => Ok(Some(size)),
+        Err(Unwritten::BadLength) => Ok(None),
+        Err(Unwritten::NoRoom) => Err(SlotRefusal::NoRoom),
     }
 }
 
 // The answer's frame. Its first byte is written as it reads.
-fn send_answer(s: &mut [u8], out: &mut [u8]) -> Slotted
-    requires { length s.old ≡ size }
-    ensures { Sends (sent_by Turn.Answer s.old out.old) result s.new out.new }
+fn send_answer(s: &mut [u8; layout::STATE], out: &mut [u8]) -> Result<Option<usize>, SlotRefusal>
+    ensures { Sends (sent_by (Some Sender.Answer) s.old out.old) result s.new out.new }
 {
     let n = fields::answer_length(s) as usize;
     let ctr = s[layout::CTR];
@@ -165,9 +140,14 @@ fn send_answer(s: &mut [u8], out: &mut [u8]) -> Slotted
 }
 
 // The frame of the packet of ODT k, which is list l's. The number goes where the packet's length stood, before the bytes.
-fn send_packet(s: &mut [u8], out: &mut [u8], l: u8, k: u8) -> Slotted
-    requires { (length s.old ≡ size) × (l < list_count s.old) × (first_odt s.old l ≤ k) × (k < first_odt s.old l + odt_count s.old l) }
-    ensures { Sends (sent_by (Turn.Packet l (k - first_odt s.old l)) s.old out.old) result s.new out.new }
+fn send_packet(
+    s: &mut [u8; layout::STATE],
+    out: &mut [u8],
+    l: u8,
+    k: u8,
+) -> Result<Option<usize>, SlotRefusal>
+    requires { (l < list_count s.old) × (first_odt s.old l ≤ k) × (k < first_odt s.old l + odt_count s.old l) }
+    ensures { Sends (sent_by (Some (Sender.Packet l (k - first_odt s.old l))) s.old out.old) result s.new out.new }
 {
     let at = layout::sample_at(k as u16);
     let n = list::stored_length(s, k as u16) as usize;
@@ -182,27 +162,36 @@ fn send_packet(s: &mut [u8], out: &mut [u8], l: u8, k: u8) -> Slotted
     slotted(written)
 }
 
-fn send(s: &mut [u8], out: &mut [u8]) -> Slotted
-    requires { length s.old ≡ size }
+fn send(s: &mut [u8; layout::STATE], out: &mut [u8]) -> Result<Option<usize>, SlotRefusal>
     ensures { Sends (sent_by (turn_of s.old) s.old out.old) result s.new out.new }
 {
     let t = turn(s);
     match t {
-        Turn::Nobody => Slotted::Idle,
-        Turn::Answer => send_answer(s, out),
-        Turn::Packet(l, k) => send_packet(s, out, l, k),
+        None => Ok(None),
+        Some(Sender::Answer) => send_answer(s, out),
+        Some(Sender::Packet(l, k)) => send_packet(s, out, l, k),
     }
 }
 
 // One sending slot.
-pub fn slot(state: &mut [u8], out: &mut [u8]) -> Slotted
-    ensures { Sends (slot_of state.old out.old) result state.new out.new }
+fn slot_in(s: &mut [u8; layout::STATE], out: &mut [u8]) -> Result<Option<usize>, SlotRefusal>
+    ensures { Sends (slot_of s.old out.old) result s.new out.new }
 {
-    if !fields::is_consistent(state) {
-        return Slotted::NoState;
+    if !fields::is_consistent(s) {
+        return Err(SlotRefusal::NoState);
     }
     if out.len() < layout::ROOM {
-        return Slotted::NoRoom;
+        return Err(SlotRefusal::NoRoom);
     }
-    send(state, out)
+    send(s, out)
+}
+
+// The same in a state of any size.
+pub fn slot(state: &mut [u8], out: &mut [u8]) -> Result<Option<usize>, SlotRefusal>
+    ensures { Sends (slot_of state.old out.old) result state.new out.new }
+{
+    match state.as_mut_array() {
+        Some(s) => slot_in(s, out),
+        None => Err(SlotRefusal::NoState),
+    }
 }

@@ -6,96 +6,127 @@ ghost use Rattle.state.specs.Layout.{size};
 ghost use Rattle.state.specs.Memory.{pick, reach, byte_of};
 ghost use Rattle.lists.specs.Word.{word_bytes, Holds};
 
-use state::bytes::{low, wide};
+use state::layout;
+use state::memory::reach;
 use words::Extension;
 
 // What a byte that is not inside reads.
 const OUTSIDE: u8 = 0;
-
-// A byte of a memory of which so many can be addressed.
-fn byte_below(mem: &[u8], at: u32, end: u32) -> u8
-    requires { end ≡ reach (length mem.now) }
-    ensures { result ≡ byte_of mem.now at }
-{
-    if at < end { mem[at as usize] } else { OUTSIDE }
-}
 
 // Four bytes that all lie inside.
 fn inside(mem: &[u8], at: usize) -> u32
     requires { at + 4 ≤ reach (length mem.now) }
     ensures { Holds result mem.now at }
 {
-    wide(mem[at])
-        + 256 * wide(mem[at + 1])
-        + 65536 * wide(mem[at + 2])
-        + 16777216 * wide(mem[at + 3])
+    u32::from_le_bytes([mem[at], mem[at + 1], mem[at + 2], mem[at + 3]])
 }
 
-// Four bytes of which the last does not, nor perhaps those before it.
-fn across(mem: &[u8], at: u32, end: u32) -> u32
-    requires { (end ≡ reach (length mem.now)) × (at < 65536) × (end < at + 4) }
-    ensures { Holds result mem.now at }
-{
-    wide(byte_below(mem, at, end))
-        + 256 * wide(byte_below(mem, at + 1, end))
-        + 65536 * wide(byte_below(mem, at + 2, end))
-        + 16777216 * wide(OUTSIDE)
+// A memory that an event was lent, with how much of it can be addressed: reckoned once an event.
+#[derive(Clone, Copy)]
+pub struct Memory<'a> {
+    pub bytes: &'a [u8],
+    end: u32,
+    ghost reached: { end ≡ reach (length bytes.now) },
 }
 
-// The four bytes from an address of a memory on; of each memory so much can be addressed. Each arm asks by itself, so that
-// what it asks stands in its place when compiled.
-pub fn fetch(extension: Extension, cal: &[u8], meas: &[u8], nc: u32, nm: u32, address: u16) -> u32
-    requires { (nc ≡ reach (length cal.now)) × (nm ≡ reach (length meas.now)) }
-    ensures { Holds result (pick extension cal.now meas.now) address }
-{
-    let at = address as u32;
-    match extension {
-        Extension::Calibration => {
-            if at + 4 <= nc {
-                return inside(cal, at as usize);
-            }
-            across(cal, at, nc)
+impl<'a> Memory<'a> {
+    fn new(bytes: &'a [u8]) -> Memory<'a>
+        ensures { result.bytes.now ≡ bytes.now }
+    {
+        Memory {
+            bytes,
+            end: reach(bytes.len()) as u32,
         }
-        Extension::Measured => {
-            if at + 4 <= nm {
-                return inside(meas, at as usize);
-            }
-            across(meas, at, nm)
+    }
+
+    fn byte(&self, at: u32) -> u8
+        ensures { result ≡ byte_of self.now.bytes.now at }
+    {
+        if at < self.end {
+            self.bytes[at as usize]
+        } else {
+            OUTSIDE
+        }
+    }
+
+    // Four bytes of which the last does not, nor perhaps those before it.
+    fn across(&self, at: u32) -> u32
+        requires { (at < 65536) × (reach (length self.now.bytes.now) < at + 4) }
+        ensures { Holds result self.now.bytes.now at }
+    {
+        u32::from_le_bytes([self.byte(at), self.byte(at + 1), self.byte(at + 2), OUTSIDE])
+    }
+
+    // The four bytes from an address on. Each memory asks by itself, so that what it asks stands in its place when compiled.
+    #[inline(always)]
+    fn word(&self, address: u16) -> u32
+        ensures { Holds result self.now.bytes.now address }
+    {
+        let at = address as u32;
+        if at + 4 <= self.end {
+            return inside(self.bytes, at as usize);
+        }
+        self.across(at)
+    }
+}
+
+// Both memories of an event.
+#[derive(Clone, Copy)]
+pub struct Memories<'a> {
+    pub cal: Memory<'a>,
+    pub meas: Memory<'a>,
+}
+
+impl<'a> Memories<'a> {
+    pub fn new(cal: &'a [u8], meas: &'a [u8]) -> Memories<'a>
+        ensures { (result.cal.bytes.now ≡ cal.now) × (result.meas.bytes.now ≡ meas.now) }
+    {
+        Memories {
+            cal: Memory::new(cal),
+            meas: Memory::new(meas),
+        }
+    }
+
+    pub fn word(&self, extension: Extension, address: u16) -> u32
+        ensures { Holds result (pick extension self.now.cal.bytes.now self.now.meas.bytes.now) address }
+    {
+        match extension {
+            Extension::Calibration => self.cal.word(address),
+            Extension::Measured => self.meas.word(address),
         }
     }
 }
 
-fn put_four(s: &mut [u8], to: usize, w: u32)
-    requires { (to + 4 ≤ length s.old) × (length s.old ≡ size) }
+fn put_four(s: &mut [u8; layout::STATE], to: usize, w: u32)
+    requires { to + 4 ≤ size }
     ensures { s.new ≡ sets s.old to (word_bytes w 4) }
 {
-    let x = w / 256;
-    let y = x / 256;
-    s[to] = low(w);
-    s[to + 1] = low(x);
-    s[to + 2] = low(y);
-    s[to + 3] = low(y / 256);
+    let [first, second, third, last] = w.to_le_bytes();
+    s[to] = first;
+    s[to + 1] = second;
+    s[to + 2] = third;
+    s[to + 3] = last;
 }
 
-fn put_few(s: &mut [u8], to: usize, w: u32, n: u8)
-    requires { (1 ≤ n) × (n < 4) × (to + n ≤ length s.old) × (length s.old ≡ size) }
+fn put_few(s: &mut [u8; layout::STATE], to: usize, w: u32, n: u8)
+    requires { (1 ≤ n) × (n < 4) × (to + n ≤ size) }
     ensures { s.new ≡ sets s.old to (word_bytes w n) }
 {
-    s[to] = low(w);
+    let [first, second, third, _] = w.to_le_bytes();
+    s[to] = first;
     if n == 1 {
         return;
     }
-    let x = w / 256;
-    s[to + 1] = low(x);
+    s[to + 1] = second;
     if n == 2 {
         return;
     }
-    s[to + 2] = low(x / 256);
+    s[to + 2] = third;
 }
 
 // The lowest n bytes of a word into the state.
-pub fn put(s: &mut [u8], to: usize, w: u32, n: u8)
-    requires { (1 ≤ n) × (n ≤ 4) × (to + n ≤ length s.old) × (length s.old ≡ size) }
+pub fn put(s: &mut [u8; layout::STATE], to: usize, w: u32, n: u8)
+    requires { (1 ≤ n) × (n ≤ 4) × (to + n ≤ size) }
     ensures { s.new ≡ sets s.old to (word_bytes w n) }
 {
     if n == 4 {

@@ -1,12 +1,5 @@
 -- What is looked up judges as all that could be seen. Assumes nothing.
-use mathlib.Core.Path.{◌≡◌, refl, sym, ap, ap₂, ◌∙◌}
-use mathlib.Core.Bool.{Bool, true, false}
-use mathlib.Core.List.{List}
-use Prim.Native.Nat.{ℕ, ◌+◌, ◌≤◌}
-use native.Mathlib.Omega.{arith}
-use borrow.Author.Tests.{eq-eqb, ltb-false}
-use lib.Dec.{ltb}
-use lib.ListN.{length, get_or}
+use Rattle.std.proofs.Common.{◌≡◌, refl, sym, ap, ap₂, ◌∙◌, Bool, true, false, List, ℕ, ◌+◌, ◌≤◌, arith, eq-eqb, ltb-false, ltb, length, get_or}
 use Rattle.state.specs.Layout.{packet_at, packet_most, size}
 use Rattle.state.specs.State.{pointer_of}
 use Rattle.words.specs.declared.Pointer.{Pointer}

@@ -1,11 +1,5 @@
 -- The packet's bytes are the state's from packet_at on. Assumes nothing.
-use mathlib.Core.Path.{◌≡◌, ◌∙◌}
-use mathlib.Core.List.{List}
-use Prim.Native.Nat.{ℕ, ◌+◌, ◌≤◌, ◌<◌}
-use native.Mathlib.Nat.{add_assoc}
-use native.Mathlib.Omega.{arith}
-use lib.ListN.{length, get_or, drop}
-use lib.Seq.{get_or-take, get_or-drop}
+use Rattle.std.proofs.Common.{◌≡◌, ◌∙◌, List, ℕ, ◌+◌, ◌≤◌, ◌<◌, add_assoc, arith, length, get_or, drop, get_or-take, get_or-drop}
 use Rattle.state.specs.Layout.{packet_at, size, packet_most}
 use Rattle.state.specs.Bytes.{u16_at, u32_at, block}
 use Rattle.state.proofs.Sets.{block_length}

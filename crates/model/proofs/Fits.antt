@@ -1,11 +1,6 @@
 -- Whether a list can be started depends on its mode and its entries, and whether it runs on that it was started and has an ODT; neither on what waits
 -- of it. One that can be started has an ODT. Assumes nothing.
-use Prim.Native.Nat.{ℕ, zero, suc, ◌+◌, ◌≤◌, ◌<◌}
-use mathlib.Core.Path.{◌≡◌, refl, sym, ap, ap₂, ◌∙◌}
-use mathlib.Core.Bool.{Bool, true, false, cond}
-use native.Mathlib.Omega.{arith}
-use borrow.Author.Tests.{lt-ltb}
-use lib.Dec.{eqb, ltb, leb}
+use Rattle.std.proofs.Common.{ℕ, zero, suc, ◌+◌, ◌≤◌, ◌<◌, ◌≡◌, refl, sym, ap, ap₂, ◌∙◌, Bool, true, false, cond, arith, lt-ltb, eqb, ltb, leb}
 use Rattle.line.proofs.Laws.{false_true, cond_ind}
 use Rattle.state.specs.Layout.{odt_most}
 use Rattle.model.specs.Model.{Entry, Odt, DaqList, sizes_of, bytes_in, all_bytes, each_fits, fits, runs}

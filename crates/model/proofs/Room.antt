@@ -1,11 +1,5 @@
 -- How many entries a packet has room for: as many as its bytes allow, and all where all fit. Assumes nothing.
-use Prim.Native.Nat.{ℕ, zero, suc, ◌+◌, ◌-◌, ◌≤◌, ◌<◌}
-use mathlib.Core.Path.{◌≡◌, refl, ap₂, subst}
-use mathlib.Core.Bool.{Bool, true, false, cond}
-use native.Mathlib.Nat.{add-zero, add-suc}
-use native.Mathlib.Omega.{arith}
-use borrow.Author.Tests.{leb-true, leb-false, le-leb}
-use lib.Dec.{leb}
+use Rattle.std.proofs.Common.{ℕ, zero, suc, ◌+◌, ◌-◌, ◌≤◌, ◌<◌, ◌≡◌, refl, ap₂, subst, Bool, true, false, cond, add-zero, add-suc, arith, leb-true, leb-false, le-leb, leb}
 use Rattle.line.proofs.Laws.{cond_ind}
 use Rattle.model.specs.Model.{Odt, sizes_of}
 use Rattle.model.specs.Calls.{taken}

@@ -1,13 +1,5 @@
 -- What the bytes show: of a list, an ODT, an entry that there is, its own bytes; of a list that there is not, nothing. Assumes nothing.
-use Prim.Native.Nat.{ℕ, zero, suc, ◌+◌, ◌≤◌, ◌<◌}
-use mathlib.Core.Path.{◌≡◌, refl, sym, ap, ap₂, ◌∙◌}
-use mathlib.Core.Bool.{Bool, true, false, cond}
-use mathlib.Core.List.{List, ◌∷◌, ◌++◌}
-use native.Mathlib.Nat.{add-zero, add-suc}
-use native.Mathlib.Omega.{arith}
-use borrow.Author.Tests.{ltb-false}
-use lib.Dec.{eqb, ltb, leb}
-use lib.ListN.{length, get_or, length-set, set}
+use Rattle.std.proofs.Common.{Some, ℕ, zero, suc, ◌+◌, ◌≤◌, ◌<◌, ◌≡◌, refl, sym, ap, ap₂, ◌∙◌, Bool, true, false, cond, List, ◌∷◌, ◌++◌, add-zero, add-suc, arith, ltb-false, eqb, ltb, leb, length, get_or, length-set, set}
 use Rattle.line.proofs.Laws.{cond_ind}
 use Rattle.state.specs.Layout.{size, odt_most, all_odts, all_entries, stored_most, packet_most, last_at, sample_at, answer_at, answer_bytes_at, running_at}
 use Rattle.state.specs.Pool.{list_count, odts_in, first_odt, odt_count, odt_total, entries_in, first_entry, entry_count, entry_total}
@@ -17,12 +9,12 @@ use Rattle.state.proofs.Sets.{block_length}
 use Rattle.state.proofs.Ranges.{start_zero, start_next}
 use Rattle.state.proofs.Allocated.{odt_most_lem}
 use Rattle.model.specs.declared.Sampling.TheVariants.{Idle, Sampled, Missed}
-use Rattle.model.specs.declared.Turn.TheVariants.{Answer}
 use Rattle.model.specs.Model.{no_entry, no_odt, no_list, Odt, DaqList, odts_before, first_of, odts_taken, entries_of, entries_before, entries_taken, sizes_of, bytes_in, all_bytes, each_fits, fits, runs, runs_in, has_packet, some_packet, unsent}
 use Rattle.model.specs.Judge.{startable}
 use Rattle.model.specs.Calls.{block_in, blocks_in, or_else, round_in, turn_in, packet_from, sampling_in}
 use Rattle.model.specs.View.{entry_of, odt_of, daq_of, lists_of, session_of, view_of}
 use Rattle.model.proofs.Bounded.{up_to_at, up_to_above}
+use Rattle.model.specs.declared.Sender.TheVariants.{Answer}
 
 -- ---- a packet in store
 pub stored_most_lem : (s : List ℕ) (k : ℕ) → stored_length s k ≤ stored_most
@@ -170,6 +162,6 @@ unfolding answer_of
 answer_long s h = block_length (set s answer_bytes_at (answer_kind s)) answer_bytes_at (answer_length s) (rw length-set (omega (arith, answer_most s)))
 
 pub turn_at : (s : List ℕ) → length s ≡ size
-    → turn_in (view_of s) ≡ cond (waits s) (cond (flag_of s last_at) (or_else (round_in (session_of s)) Answer) Answer) (round_in (session_of s))
+    → turn_in (view_of s) ≡ cond (waits s) (cond (flag_of s last_at) (or_else (round_in (session_of s)) (Some Answer)) (Some Answer)) (round_in (session_of s))
 unfolding turn_in view_of
 turn_at s h = rw (answer_long s h)

@@ -1,5 +1,5 @@
 -- What else a call makes of the slave: an answer put to wait, a byte read, an answer or a packet sent, a list sampled, power-up. Whose turn it is.
-use Rattle.std.specs.Prelude.{ℕ, zero, suc, ◌+◌, ◌%◌, ◌/◌, true, false, cond, List, [], ◌∷◌, ◌++◌, eqb, ltb, leb, replicate}
+use Rattle.std.specs.Prelude.{ℕ, zero, suc, ◌+◌, ◌%◌, ◌/◌, true, false, cond, List, [], ◌∷◌, ◌++◌, eqb, ltb, leb, replicate, Some, None}
 use Rattle.line.specs.Message.{longest}
 use Rattle.line.specs.declared.Place.{Place}
 use Rattle.line.specs.declared.Place.TheVariants.{Outside}
@@ -8,10 +8,10 @@ use Rattle.state.specs.Generator.{start_of}
 use Rattle.state.specs.Memory.{pick, bytes_of}
 use Rattle.model.specs.declared.Sampling.{Sampling}
 use Rattle.model.specs.declared.Sampling.TheVariants.{Idle, Sampled, Missed}
-use Rattle.model.specs.declared.Turn.{Turn}
-use Rattle.model.specs.declared.Turn.TheVariants.{Nobody, Answer, Packet}
+use Rattle.model.specs.Turn.{Turn}
 use Rattle.model.specs.Model.{put, Entry, Odt, DaqList, Session, Slave, blank, first_of, sizes_of, runs_in, has_answer, has_packet, unsent}
 use Rattle.model.specs.Step.{emptied, at}
+use Rattle.model.specs.declared.Sender.TheVariants.{Answer, Packet}
 
 abbrev pub with_answer : Slave → List ℕ → Slave
 with_answer v bs = record { session = v.session; place = v.place; message = v.message; answer = bs; ctr = v.ctr; last_answer = v.last_answer }
@@ -23,21 +23,21 @@ with_reader v p m = record { session = v.session; place = p; message = m; answer
 -- ---- a slot: whose turn it is
 -- the first packet that waits of the n ODTs of list l from o on
 unfoldable pub first_packet : ℕ → DaqList → ℕ → ℕ → Turn
-first_packet l x o zero = Nobody
-first_packet l x o (suc n) = cond (has_packet (x.odt o)) (Packet l o) (first_packet l x (o + 1) n)
+first_packet l x o zero = None
+first_packet l x o (suc n) = cond (has_packet (x.odt o)) (Some (Packet l o)) (first_packet l x (o + 1) n)
 
 -- list l's next packet: that of its first ODT before those of later ones
 unfoldable pub packet_in : Session → ℕ → Turn
-packet_in c l = cond (runs_in c l) (first_packet l (c.list l) 0 (c.list l).odts) Nobody
+packet_in c l = cond (runs_in c l) (first_packet l (c.list l) 0 (c.list l).odts) None
 
 abbrev pub or_else : Turn → Turn → Turn
-or_else Nobody t = t
-or_else Answer t = Answer
-or_else (Packet l o) t = Packet l o
+or_else None t = t
+or_else (Some Answer) t = Some Answer
+or_else (Some (Packet l o)) t = Some (Packet l o)
 
 -- the round over L lists, of which `next l` is list l's next packet: the next n of them from l on
 unfoldable pub round_from : ℕ → (ℕ → Turn) → ℕ → ℕ → Turn
-round_from L next l zero = Nobody
+round_from L next l zero = None
 round_from L next l (suc n) = or_else (next (l % L)) (round_from L next (l + 1) n)
 
 -- the next list that has a packet, from the one with which the round begins
@@ -49,8 +49,8 @@ unfoldable pub turn_in : Slave → Turn
 turn_in v =
     cond (has_answer v)
     (cond v.last_answer
-    (or_else (round_in v.session) Answer)
-    Answer)
+    (or_else (round_in v.session) (Some Answer))
+    (Some Answer))
     (round_in v.session)
 
 -- the packet of list l's ODT o: its number, and what was captured
@@ -59,9 +59,9 @@ packet_from c l o = (first_of c l + o) ∷ ((c.list l).odt o).store
 
 -- the packet of whose turn it is
 abbrev pub packet_for : Turn → Slave → List (List ℕ)
-packet_for Nobody v = []
-packet_for Answer v = v.answer ∷ []
-packet_for (Packet l o) v = packet_from v.session l o ∷ []
+packet_for None v = []
+packet_for (Some Answer) v = v.answer ∷ []
+packet_for (Some (Packet l o)) v = packet_from v.session l o ∷ []
 
 -- ---- a frame is sent: the CTR grows by one, 255 to 0
 -- the answer no longer waits

@@ -1,6 +1,6 @@
 -- What a command leads to, by its packet p, what is seen v of the state, and how many bytes of calibration and of measured values are lent. Of each
 -- command the checks stand in the paper's order, and the first that applies answers.
-use Rattle.std.specs.Prelude.{ℕ, zero, suc, ◌+◌, Bool, true, false, cond, not, List, eqb, ltb, leb, get_or}
+use Rattle.std.specs.Prelude.{ℕ, zero, suc, ◌+◌, Bool, true, false, cond, not, List, eqb, ltb, leb, get_or, Some, None}
 use Rattle.state.specs.Layout.{lists, all_odts, all_entries, events, entry_most, upload_most, download_from, download_most, short_download_from, short_download_most, addressable}
 use Rattle.state.specs.Bytes.{u16_at}
 use Rattle.state.specs.Generator.{key_of, stays_shut}
@@ -8,16 +8,13 @@ use Rattle.state.specs.Memory.{pick, inside_of}
 use Rattle.words.specs.Command.{command_of, fewest, needs_of}
 use Rattle.model.specs.Model.{Session, odts_taken, entries_taken, fits, runs_in, some_started}
 use Rattle.model.specs.Seen.{Packet, numbers_of, Seen}
-use Rattle.words.specs.declared.Needs.{Needs}
-use Rattle.words.specs.declared.Needs.TheVariants as needs
+use Rattle.words.specs.Values.{Needs, Seed}
 use Rattle.words.specs.declared.Command.{Command}
 use Rattle.words.specs.declared.Command.TheVariants.{Unknown, Connect, Disconnect, GetStatus, Synch, GetSeed, Unlock, SetMta, Upload, ShortUpload, BuildChecksum, Download, ShortDownload, ClearDaqList, SetDaqPtr, WriteDaq, SetDaqListMode, StartStopDaqList, StartStopSynch, GetDaqProcessorInfo, GetDaqResolutionInfo, FreeDaq, AllocDaq, AllocOdt, AllocOdtEntry}
 use Rattle.words.specs.declared.Resource.{Resource}
 use Rattle.words.specs.declared.Resource.TheVariants.{Calibration, Lists}
 use Rattle.words.specs.declared.Extension.{Extension}
 use Rattle.words.specs.declared.Extension.TheVariants.{Calibration as CalibrationMemory, Measured}
-use Rattle.words.specs.declared.Seed.{Seed}
-use Rattle.words.specs.declared.Seed.TheVariants.{None, For}
 use Rattle.words.specs.declared.Mta.{Mta}
 use Rattle.words.specs.declared.Mta.TheVariants.{Unset, At}
 use Rattle.words.specs.declared.Pointer.{Pointer}
@@ -49,7 +46,7 @@ get_seed_deed wrong cal lis mode resource =
 -- UNLOCK
 unfoldable pub unlock_by : Seed → ℕ → ℕ → ℕ → ℕ → Deed
 unlock_by None g size n key = deed.Refuse Sequence
-unlock_by (For r) g size n key =
+unlock_by (Some r) g size n key =
     cond (eqb size 4)
     (cond (ltb n 6) (deed.Refuse DataMissing)
     (cond (eqb key (key_of r g)) (deed.Unlock r)
@@ -242,9 +239,9 @@ judge_the AllocOdtEntry p v nc nm = alloc_entries_deed v.odts v.entries v.odts_t
 
 -- the lock that a command needs is shut
 abbrev pub locked_by : Needs → Seen → Bool
-locked_by needs.Nothing v = false
-locked_by (needs.Unlocked Calibration) v = not v.calibration
-locked_by (needs.Unlocked Lists) v = not v.lists
+locked_by None v = false
+locked_by (Some Calibration) v = not v.calibration
+locked_by (Some Lists) v = not v.lists
 
 -- too short and locked, once for all commands; an unknown code is never either, and `judge_the` refuses it
 unfoldable pub judge_by : Command → Packet → Seen → ℕ → ℕ → Deed

@@ -1,12 +1,11 @@
 -- The slave as the protocol speaks of it. No byte of the lent state has a place here.
-use Rattle.std.specs.Prelude.{ℕ, zero, suc, ◌+◌, ◌<◌, Bool, true, false, cond, List, [], ◌∷◌, ◌++◌, eqb, ltb, leb, length, get_or}
+use Rattle.std.specs.Prelude.{ℕ, zero, suc, ◌+◌, ◌<◌, Bool, true, false, cond, List, [], ◌∷◌, ◌++◌, eqb, ltb, leb, length, get_or, None}
 use Rattle.line.specs.declared.Place.{Place}
 use Rattle.state.specs.Layout.{odt_most}
 use Rattle.words.specs.declared.Resource.{Resource}
 use Rattle.words.specs.declared.Extension.{Extension}
 use Rattle.words.specs.declared.Extension.TheVariants.{Calibration as CalibrationMemory}
-use Rattle.words.specs.declared.Seed.{Seed}
-use Rattle.words.specs.declared.Seed.TheVariants.{None}
+use Rattle.words.specs.Values.{Seed}
 use Rattle.words.specs.declared.Mta.{Mta}
 use Rattle.words.specs.declared.Mta.TheVariants.{Unset}
 use Rattle.words.specs.declared.Pointer.{Pointer}

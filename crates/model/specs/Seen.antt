@@ -1,7 +1,7 @@
 -- What the checks look at: a packet's numbers, and what is seen of the state.
 use Rattle.std.specs.Prelude.{ℕ, Bool, List, length, get_or}
 use Rattle.state.specs.Bytes.{u16_at, u32_at}
-use Rattle.words.specs.declared.Seed.{Seed}
+use Rattle.words.specs.Values.{Seed}
 use Rattle.words.specs.declared.Mta.{Mta}
 use Rattle.words.specs.declared.Pointer.{Pointer}
 

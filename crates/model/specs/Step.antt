@@ -1,11 +1,10 @@
 -- What each deed makes of the slave, but for its answer.
-use Rattle.std.specs.Prelude.{ℕ, ◌+◌, Bool, true, false, cond, [], eqb}
+use Rattle.std.specs.Prelude.{ℕ, ◌+◌, Bool, true, false, cond, [], eqb, Some, None}
 use Rattle.state.specs.Generator.{next_of, one_wrong_more}
 use Rattle.words.specs.declared.Resource.{Resource}
 use Rattle.words.specs.declared.Resource.TheVariants.{Calibration, Lists}
 use Rattle.words.specs.declared.Extension.TheVariants.{Calibration as CalibrationMemory}
-use Rattle.words.specs.declared.Seed.{Seed}
-use Rattle.words.specs.declared.Seed.TheVariants.{None, For}
+use Rattle.words.specs.Values.{Seed}
 use Rattle.words.specs.declared.Mta.{Mta}
 use Rattle.words.specs.declared.Mta.TheVariants.{At}
 use Rattle.words.specs.declared.Pointer.{Pointer}
@@ -123,7 +122,7 @@ step_in Disconnect c = blank c.generator c.wrong_keys false
 step_in Status c = c
 step_in Synch c = c
 step_in NoSeed c = c
-step_in (GiveSeed r) c = with_seed (with_generator c (next_of c.generator)) (For r)
+step_in (GiveSeed r) c = with_seed (with_generator c (next_of c.generator)) (Some r)
 step_in (Unlock r) c = with_seed (with_lock c r) None
 step_in (SetMta e a) c = with_mta c (At e a)
 step_in (Upload e a n) c = with_mta c (At e (a + n))

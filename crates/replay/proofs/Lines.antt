@@ -1,6 +1,6 @@
 -- Laws of the line that a slot prints. Assumes nothing.
-use Rattle.std.proofs.Common.{◌≡◌, ℕ, suc, ◌+◌, ◌-◌, ◌*◌, ◌<◌, ◌≤◌, List, [], ◌∷◌, length, get_or, take, drop, set, refl, ◌∙◌, not-suc-le-zero, add-one, arith, drop_of_length-le, take_all, drop-cons}
-use lib.Seq.{sets}
+use Rattle.std.proofs.Common.{◌≡◌, ℕ, suc, ◌+◌, ◌*◌, ◌<◌, ◌≤◌, List, [], ◌∷◌, length, get_or, drop, set, refl, ◌∙◌, add-one, arith, drop_of_length-le, drop-cons}
+use Rattle.std.proofs.lemmas.List.Edits.{sets}
 use Rattle.digits.specs.Digits.{pair_of}
 use Rattle.replay.specs.Text.{rest_of, line_of, Stored}
 
@@ -22,14 +22,11 @@ rest_next l bs to i h =
     rw (e, add-one, add-one, drop-cons bs i 0 h)
 
 -- two digits for the first byte, and then the rest
-pub line_cons : (bs l l' l'' : List ℕ) (at r : ℕ) → 0 < length bs → l' ≡ sets l at (pair_of (get_or bs 0 0)) → Stored l' (at + 2) (rest_of (take (length bs - 1) (drop 1 bs))) l'' r → Stored l at (line_of bs) l'' r
+pub line_cons : (b : ℕ) (bs l l' l'' : List ℕ) (at r : ℕ) → l' ≡ sets l at (pair_of b) → Stored l' (at + 2) (rest_of bs) l'' r → Stored l at (line_of (b ∷ bs)) l'' r
 unfolding line_of
-line_cons [] l l' l'' at r h p q = absurd (not-suc-le-zero h)
-line_cons (b ∷ bs) l l' l'' at r h p q =
+line_cons b bs l l' l'' at r p q =
     let e : at + 2 ≡ suc (suc at) = omega arith in
-    let t : take (suc (length bs) - 1) bs ≡ bs = take_all (suc (length bs) - 1) bs (omega arith) in
-    let n : r ≡ at + 2 + length (rest_of bs) = q.next ∙ rw t in
-    record { next = omega (arith, n); bytes = q.bytes ∙ rw (p, e, t) }
+    record { next = omega (arith, q.next); bytes = q.bytes ∙ rw (p, e) }
 
 -- every byte is written, and the line feed is left
 pub rest_last : (bs l l₀ : List ℕ) (at to i : ℕ) → length bs ≤ i → i ≤ length bs → to ≡ at + 3 * i → sets l to (rest_of (drop i bs)) ≡ sets l₀ at (rest_of bs) → Stored l₀ at (rest_of bs) (set l to 10) (to + 1)

@@ -1,4 +1,3 @@
--- The replay program. `Record`: what a record of a log is. `Text`: the line that a slot prints. `Log`: what is kept of a chunk.
+-- The replay program. `Record`: what a record of a log is. `Text`: the line that a slot prints.
 pub mod Record
 pub mod Text
-pub mod Log

@@ -3,21 +3,19 @@
 #![tactic(auto)]
 
 mod log;
+mod output;
 mod record;
 mod run;
 mod text;
 
-use session::STATE_SIZE;
+use bench::Gun;
 
 // The start number of the seeds.
 const START: u32 = 1;
 
 fn main(rt: HostRuntime) {
-    let mut state = [0; STATE_SIZE];
-    let mut cal = [0; 4096];
-    let mut meas = [0; 4096];
+    let mut gun = Gun::new();
     // Done, as the state has its size.
-    session::power_up(&mut state, START);
-    let mut stdin = rt.stdin();
-    log::replay(&mut stdin, &mut state, &mut cal, &mut meas);
+    let _ = gun.power_up(START);
+    log::replay(&rt, &mut rt.stdin(), &mut gun);
 }

@@ -1,7 +1,8 @@
 // One record of a log: body length, kind, body.
 ghost use Rattle.std.specs.Prelude.{◌≡◌, ◌+◌, ◌<◌, ◌≤◌, true, length};
-ghost use Rattle.state.specs.Bytes.{u16_at};
-ghost use Rattle.replay.specs.Record.{longest_body, record_at, body_of, measured_of, whole_of, fits_of, next_of, bad_of};
+ghost use Rattle.replay.specs.Record.{longest_body, record_at, body_of, measured_of, whole_of, fits_of, next_of};
+
+use state::bytes::get16;
 
 // Body length and kind.
 const HEADER: usize = 4;
@@ -12,11 +13,6 @@ const MEMORY: usize = 4096;
 
 #[derive(Clone, Copy)]
 pub enum Record {
-    // The bytes end where a record would begin.
-    End,
-    // The bytes end inside a record that may still turn out good.
-    More,
-    Bad,
     Wire {
         from: usize,
         len: usize,
@@ -33,21 +29,18 @@ pub enum Record {
     },
 }
 
-fn wide(x: u8) -> u32
-    ensures { (result ≡ x) × (result < 256) }
-{
-    x as u32
-}
-
-// The number in the two bytes from `at`.
-fn word(bytes: &[u8], at: usize) -> u16
-    requires { at + 2 ≤ length bytes.now }
-    ensures { result ≡ u16_at bytes.now at }
-{
-    (wide(bytes[at]) + 256 * wide(bytes[at + 1])) as u16
+// Why there is no record to run.
+#[derive(Clone, Copy)]
+pub enum Halt {
+    // The bytes end where a record would begin.
+    End,
+    // The bytes end inside a record that may still turn out good.
+    More,
+    Bad,
 }
 
 // Whether a body of that length is one of its kind.
+#[tactic(auto, unfolding(crate::specs::Record::fits_of))]
 fn fits(kind: u16, len: usize) -> bool
     ensures { result ≡ fits_of kind len }
 {
@@ -61,110 +54,86 @@ fn fits(kind: u16, len: usize) -> bool
 }
 
 // Measured bytes, if all of them have a place.
-fn measured(bytes: &[u8], from: usize, len: usize) -> Record
+#[tactic(auto, unfolding(crate::specs::Record::measured_of))]
+fn measured(bytes: &[u8], from: usize, len: usize) -> Result<Record, Halt>
     requires { (from + len ≤ length bytes.now) × (2 ≤ len) × (len ≤ longest_body) }
     ensures { result ≡ measured_of bytes.now from len }
 {
-    let offset = word(bytes, from) as usize;
+    let offset = get16(bytes, from) as usize;
     let count = len - 2;
     if MEMORY < offset + count {
-        return Record::Bad;
+        return Err(Halt::Bad);
     }
-    Record::Measured {
+    Ok(Record::Measured {
         from: from + 2,
-        offset: offset,
+        offset,
         len: count,
-    }
+    })
 }
 
 // A record whose body is all there.
-fn whole(bytes: &[u8], kind: u16, from: usize, len: usize) -> Record
+#[tactic(auto, using(crate::proofs::Records::event_three, crate::proofs::Records::measured_two), unfolding(crate::specs::Record::whole_of))]
+fn whole(bytes: &[u8], kind: u16, from: usize, len: usize) -> Result<Record, Halt>
     requires { (from + len ≤ length bytes.now) × (len ≤ longest_body) × (fits_of kind len ≡ true) }
     ensures { result ≡ whole_of bytes.now kind from len }
 {
-    if kind == 1 {
-        return Record::Wire {
-            from: from,
-            len: len,
-        };
-    }
-    if kind == 2 {
-        return Record::Event {
+    match kind {
+        1 => Ok(Record::Wire { from, len }),
+        2 => Ok(Record::Event {
             event: bytes[from],
-            clock: word(bytes, from + 1),
-        };
+            clock: get16(bytes, from + 1),
+        }),
+        3 => Ok(Record::Slot),
+        _ => measured(bytes, from, len),
     }
-    if kind == 3 {
-        return Record::Slot;
-    }
-    measured(bytes, from, len)
 }
 
 // The header is judged before the body is waited for.
-fn body(bytes: &[u8], kind: u16, from: usize, len: usize) -> Record
+#[tactic(auto, unfolding(crate::specs::Record::body_of))]
+fn body(bytes: &[u8], kind: u16, from: usize, len: usize) -> Result<Record, Halt>
     requires { from ≤ length bytes.now }
     ensures { result ≡ body_of bytes.now kind from len }
 {
-    if LONGEST_BODY < len {
-        return Record::Bad;
+    if LONGEST_BODY < len || !fits(kind, len) {
+        return Err(Halt::Bad);
     }
-    if fits(kind, len) {
-        if bytes.len() - from < len {
-            return Record::More;
-        }
-        return whole(bytes, kind, from, len);
+    if bytes.len() - from < len {
+        return Err(Halt::More);
     }
-    Record::Bad
+    whole(bytes, kind, from, len)
 }
 
 // The record that begins at `at`.
-pub fn record_at(bytes: &[u8], at: usize) -> Record
+#[tactic(auto, unfolding(crate::specs::Record::record_at))]
+pub fn record_at(bytes: &[u8], at: usize) -> Result<Record, Halt>
     ensures { result ≡ record_at bytes.now at }
 {
     if bytes.len() <= at {
-        return Record::End;
+        return Err(Halt::End);
     }
     if bytes.len() - at < HEADER {
-        return Record::More;
+        return Err(Halt::More);
     }
-    let len = word(bytes, at) as usize;
-    body(bytes, word(bytes, at + 2), at + HEADER, len)
+    let len = get16(bytes, at) as usize;
+    body(bytes, get16(bytes, at + 2), at + HEADER, len)
 }
 
-// Where the record after this one begins; `at` itself after one that is not run.
-pub fn next(found: Record, at: usize) -> usize
-    requires { next_of found at < 18446744073709551616 }
-    ensures { result ≡ next_of found at }
-{
-    match found {
-        Record::End => at,
-        Record::More => at,
-        Record::Bad => at,
-        Record::Wire { from, len } => from + len,
-        Record::Event { event: _, clock: _ } => at + HEADER + 3,
-        Record::Slot => at + HEADER,
-        Record::Measured {
-            from,
-            offset: _,
-            len,
-        } => from + len,
-    }
-}
-
-pub fn is_bad(found: Record) -> bool
-    ensures { result ≡ bad_of found }
-{
-    match found {
-        Record::End => false,
-        Record::More => false,
-        Record::Bad => true,
-        Record::Wire { from: _, len: _ } => false,
-        Record::Event { event: _, clock: _ } => false,
-        Record::Slot => false,
-        Record::Measured {
-            from: _,
-            offset: _,
-            len: _,
-        } => false,
+impl Record {
+    // Where the record after this one begins, which begins at `at`.
+    #[tactic(auto, unfolding(crate::specs::Record::next_of))]
+    pub fn next(self, at: usize) -> usize
+        requires { next_of self at < 18446744073709551616 }
+        ensures { result ≡ next_of self at }
+    {
+        match self {
+            Record::Wire { from, len } => from + len,
+            Record::Event { event: _, clock: _ } => at + HEADER + 3,
+            Record::Slot => at + HEADER,
+            Record::Measured {
+                from,
+                offset: _,
+                len,
+            } => from + len,
+        }
     }
 }

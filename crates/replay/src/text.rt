@@ -8,9 +8,7 @@ fn put_byte(byte: u8, out: &mut [u8], at: usize)
     requires { at + 2 ≤ length out.old }
     ensures { out.new ≡ sets out.old at (pair_of byte) }
 {
-    let digits = digits::pair(byte);
-    out[at] = digits[0];
-    out[at + 1] = digits[1];
+    out[at..at + 2].copy_from_slice(&digits::pair(byte));
 }
 
 // A space and two digits for each byte, and a line feed.
@@ -19,12 +17,10 @@ fn put_rest(bytes: &[u8], out: &mut [u8], at: usize) -> usize
     ensures { Stored out.old at (rest_of bytes.now) out.new result }
 {
     let mut to = at;
-    let mut i = 0;
-    while i < bytes.len() {
+    for byte in bytes {
         out[to] = b' ';
-        put_byte(bytes[i], out, to + 1);
+        put_byte(*byte, out, to + 1);
         to += 3;
-        i += 1;
     }
     out[to] = b'\n';
     to + 1
@@ -35,11 +31,11 @@ pub fn put_line(frame: &[u8], out: &mut [u8], at: usize) -> usize
     requires { at + 3 * length frame.now + 2 ≤ length out.old }
     ensures { Stored out.old at (line_of frame.now) out.new result }
 {
-    if frame.len() == 0 {
+    let Some((first, rest)) = frame.split_first() else {
         out[at] = b'-';
         out[at + 1] = b'\n';
         return at + 2;
-    }
-    put_byte(frame[0], out, at);
-    put_rest(&frame[1..], out, at + 2)
+    };
+    put_byte(*first, out, at);
+    put_rest(rest, out, at + 2)
 }

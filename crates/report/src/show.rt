@@ -2,6 +2,8 @@
 ghost use Rattle.std.specs.Prelude.{◌≡◌};
 ghost use Rattle.report.specs.Verdict.{Says, AsExpected};
 
+// By io: what standard output does not take is let go, and the sheet runs on to its end. With println! each step would answer an
+// io::Result.
 pub fn print(text: &[u8]) {
     io::write_all(1, text);
 }
@@ -9,21 +11,6 @@ pub fn print(text: &[u8]) {
 fn print_byte(byte: u8) {
     let digits = digits::pair(byte);
     print(&digits);
-}
-
-pub fn print_bytes(bytes: &[u8]) {
-    if bytes.len() == 0 {
-        print(b"nothing");
-        return;
-    }
-    let mut i = 0;
-    while i < bytes.len() {
-        if 0 < i {
-            print(b" ");
-        }
-        print_byte(bytes[i]);
-        i += 1;
-    }
 }
 
 // As wide as a byte, so that it stands under its byte.
@@ -34,17 +21,30 @@ fn print_number(number: u8) {
     io::print_decimal(1, number as u64);
 }
 
-// What each byte on the wire gave.
-pub fn print_numbers(numbers: &[u8]) {
-    print(b"\n    each byte gave            ");
-    let mut i = 0;
-    while i < numbers.len() {
+// Each by `print_one`, with a space between.
+fn print_spaced<F: Fn(u8)>(bytes: &[u8], print_one: F)
+    requires { F.IsAlwaysCallable print_one }
+{
+    for (i, byte) in bytes.iter().enumerate() {
         if 0 < i {
             print(b" ");
         }
-        print_number(numbers[i]);
-        i += 1;
+        print_one(*byte);
     }
+}
+
+pub fn print_bytes(bytes: &[u8]) {
+    if bytes.is_empty() {
+        print(b"nothing");
+        return;
+    }
+    print_spaced(bytes, print_byte);
+}
+
+// What each byte on the wire gave.
+pub fn print_numbers(numbers: &[u8]) {
+    print(b"\n    each byte gave            ");
+    print_spaced(numbers, print_number);
 }
 
 pub fn print_verdict(good: bool) {
@@ -69,12 +69,13 @@ pub fn check(came: &[u8], expected: &[u8]) -> bool
 }
 
 // A frame, and whether it is the expected one where the sheet says what to expect.
+#[tactic(auto, using(crate::proofs::Verdicts::verdict_none))]
 pub fn on_the_wire(frame: &[u8], expected: &[u8]) -> bool
     ensures { Says result (AsExpected frame.now expected.now) }
 {
     print(b"\n    on the wire               ");
     print_bytes(frame);
-    if expected.len() == 0 {
+    if expected.is_empty() {
         return true;
     }
     check(frame, expected)

@@ -1,25 +1,23 @@
 -- What the line leaves in the state: the reader's place, its message buffer, and the packet in it. Assumes nothing.
-use mathlib.Core.Path.{◌≡◌, sym, ap, subst, ◌∙◌}
-use mathlib.Core.List.{List, ◌++◌, append-nil}
-use Prim.Native.Nat.{ℕ, ◌-◌, ◌≤◌}
-use native.Mathlib.Omega.{arith}
-use lib.ListN.{length, set, take, drop, length-drop}
-use lib.Seq.{take_all, drop-length, drop-drop, drop-append-add, drop-append-le, take-append-le, length-take-le, drop-set-lt}
+use Rattle.std.proofs.Common.{Err, ◌≡◌, refl, sym, ap, subst, ◌∙◌, ◌≢◌, false, List, ◌++◌, append-nil, ne_eqb, ℕ, ◌-◌, ◌≤◌, arith, length, set, take, drop, length-drop, take_all, drop-drop, length-take-le, drop-set-lt}
+use Rattle.std.proofs.Math.Seq.{drop-length, drop-append-add}
+use Rattle.std.proofs.lemmas.List.{drop-append-le, take-append-le}
 use Rattle.line.specs.Message.{longest}
 use Rattle.line.specs.Unstuffing.{Fed, Does}
 use Rattle.line.specs.Reader.{take_of}
 use Rattle.line.specs.declared.Place.{Place}
 use Rattle.line.specs.declared.Place.TheVariants.{Outside, Inside, Escaped}
-use Rattle.line.specs.declared.Outcome.{Outcome}
-use Rattle.line.specs.declared.Outcome.TheVariants.{Good}
+use Rattle.line.specs.Values.{Outcome, good_message}
+use Rattle.line.specs.declared.Fault.{Fault}
+use Rattle.line.specs.declared.Fault.TheVariants.{BadLength, BadEscape, BadChecksum, CutOff, ShortBuffer}
 use Rattle.line.specs.declared.Taken.{Taken}
 use Rattle.line.proofs.After.{take_length}
 use Rattle.line.proofs.Sound.{good_where}
 use Rattle.state.specs.Layout.{place_at, count_at, message_at, packet_at, packet_most, size}
 use Rattle.state.specs.Bytes.{block}
-use Rattle.state.specs.State.{place_of, set_place, message_of, set_message}
-use Rattle.session.specs.Receive.{Receives, meant, read_on, fed_of, received_by}
-use Rattle.words.specs.declared.Received.{Received}
+use Rattle.state.specs.State.{consistent, place_of, set_place, message_of, set_message}
+use Rattle.session.specs.Receive.{Receives, only, dropped_as, meant, read_on, fed_of, received_by}
+use Rattle.words.specs.Values.{Received}
 use Rattle.state.proofs.Sets.{block_length}
 
 -- the state s with the message buffer m, as a part that was lent comes back
@@ -48,7 +46,7 @@ told s b p taken m t e d st =
     }
 
 -- a good message's packet
-pub good : (s : List ℕ) (b : ℕ) (taken : Taken) (m t : List ℕ) (c at n : ℕ) → Told s b taken m t → taken.outcome ≡ Good c at n → (at ≡ 2) × (1 ≤ n) × (n ≤ packet_most)
+pub good : (s : List ℕ) (b : ℕ) (taken : Taken) (m t : List ℕ) (c at n : ℕ) → Told s b taken m t → taken.outcome ≡ good_message c at n → (at ≡ 2) × (1 ≤ n) × (n ≤ packet_most)
 good s b taken m t c at n w e =
     let g = good_where (place_of s) (message_of s) b c at n (w.outcome ∙ e) in
     (g.0, g.1, g.2)
@@ -77,6 +75,25 @@ message_length s b p taken m h d = ap length d.bytes ∙ take_length p (block s 
 pub by_outcome : (s cal meas : List ℕ) (f : Fed) {o : Outcome} {r : Received} {s' cal' : List ℕ} → f.taken.outcome ≡ o
     → Receives (meant o f.message (read_on s f) cal meas) r s' cal' → Receives (received_by f s cal meas) r s' cal'
 by_outcome s cal meas f {r = r} {s' = s'} {cal' = cal'} e x = subst (λ (o : Outcome). Receives (meant o f.message (read_on s f) cal meas) r s' cal') (sym e) x
+
+-- a message that the line dropped
+fault_means : (f : Fault) (m s cal meas : List ℕ) → meant (Err f) m s cal meas ≡ only (dropped_as f) s cal
+unfolding meant
+fault_means BadLength m s cal meas = refl
+fault_means BadEscape m s cal meas = refl
+fault_means BadChecksum m s cal meas = refl
+fault_means CutOff m s cal meas = refl
+fault_means ShortBuffer m s cal meas = refl
+
+pub by_fault : (s cal meas : List ℕ) (f : Fed) (fault : Fault) (r : Received) (t : List ℕ) → f.taken.outcome ≡ Err fault → r ≡ dropped_as fault → t ≡ read_on s f
+    → Receives (received_by f s cal meas) r t cal
+by_fault s cal meas f fault r t e told st =
+    by_outcome s cal meas f e (rw (fault_means fault f.message (read_on s f) cal meas) (record { result = told; state = st; memory = refl }))
+
+-- bytes of another size are no state
+pub other_size : (s : List ℕ) → length s ≢ size → consistent s ≡ false
+unfolding consistent
+other_size s h = rw (ne_eqb (length s) size h) refl
 
 -- a whole slice that was lent, and what comes back
 pub whole : (s : List ℕ) → take (length s - 0) (drop 0 s) ≡ s

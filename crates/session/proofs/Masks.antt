@@ -1,15 +1,9 @@
 -- The locked mask once a lock is open. Assumes nothing.
-use Prim.Native.Nat.{ℕ}
-use mathlib.Core.Path.{◌≡◌}
-use mathlib.Core.List.{List}
-use native.Mathlib.Omega.{arith}
-use lib.ListN.{length, set}
-use lib.Seq.{get_or-set_same, get_or-set_other}
+use Rattle.std.proofs.Common.{None, ℕ, ◌≡◌, List, arith, length, set, get_or-set_same, get_or-set_other}
 use Rattle.state.specs.Layout.{calibration_at, lists_at, seed_at, size}
 use Rattle.state.specs.State.{flag_of, lock_at, unlocked_of, mask_by, mask_of, set_seed}
 use Rattle.words.specs.declared.Resource.{Resource}
 use Rattle.words.specs.declared.Resource.TheVariants.{Calibration, Lists}
-use Rattle.words.specs.declared.Seed.TheVariants.{None}
 use Rattle.model.specs.Step.{unlock}
 
 pub unlocked_mask : (s : List ℕ) (r : Resource) → length s ≡ size → mask_of (set_seed (set s (lock_at r) 1) None) ≡ mask_by (unlock r (unlocked_of s))

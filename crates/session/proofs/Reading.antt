@@ -1,14 +1,7 @@
 -- A byte of the reader, with its place in two bytes: what it leads to, case by case. Assumes nothing.
-use mathlib.Core.Path.{◌≡◌, refl, sym, ap, ap₂, subst, ◌∙◌}
-use mathlib.Core.Logic.{◌≢◌}
-use mathlib.Core.Bool.{Bool, true, false, cond}
-use mathlib.Core.List.{List, ◌++◌}
-use Prim.Native.Nat.{ℕ, zero, suc, ◌+◌, ◌-◌, ◌%◌, ◌≤◌, ◌<◌}
-use native.Mathlib.Omega.{arith}
-use borrow.Author.Tests.{eq-eqb, ne_eqb, lt-ltb, ltb-true, ltb-false}
-use lib.Dec.{eqb, ltb}
-use lib.ListN.{length, get_or, set, take, drop, length-set, take-append-drop}
-use lib.Seq.{get_or-set_same, get_or-set_other, set-set, set_comm, set-get_or, take-set-le, take-set-lt, drop-set-lt, drop-set-add, get_or-take, get_or-drop, drop-drop}
+use Rattle.std.proofs.Common.{Option, Some, None, Err, ◌≡◌, refl, sym, ap, ap₂, subst, ◌∙◌, ◌≢◌, Bool, true, false, cond, List, ◌++◌, ℕ, zero, suc, ◌+◌, ◌-◌, ◌%◌, ◌≤◌, ◌<◌, arith, eq-eqb, ne_eqb, lt-ltb, ltb-true, ltb-false, eqb, ltb, length, get_or, set, take, drop, length-set, take-append-drop, get_or-set_same, get_or-set_other, set-set, drop-set-lt, get_or-take, get_or-drop, drop-drop}
+use Rattle.std.proofs.lemmas.List.{set_comm, set-get_or, take-set-le, drop-set-add}
+use Rattle.std.proofs.Math.Seq.{take-set-lt}
 use Rattle.line.specs.Stuffing.{SYNC, ESC}
 use Rattle.line.specs.Form.{number_at}
 use Rattle.line.specs.Message.{byte_form, checksum_at, most, longest}
@@ -16,8 +9,7 @@ use Rattle.line.specs.Unstuffing.{Fed, on, over, take_by}
 use Rattle.line.specs.Reader.{len_in, begun_of, judged_of, put_of, messages, take_of}
 use Rattle.line.specs.declared.Place.{Place}
 use Rattle.line.specs.declared.Place.TheVariants.{Outside, Inside, Escaped}
-use Rattle.line.specs.declared.Outcome.{Outcome}
-use Rattle.line.specs.declared.Outcome.TheVariants.{BadLength, BadEscape}
+use Rattle.line.specs.Values.{Outcome}
 use Rattle.line.proofs.Laws.{cond_ind}
 use Rattle.line.proofs.Begun.{Begun, begun_known, begun_right, begun_ended}
 use Rattle.line.proofs.Steps.{put_rest, put_len, put_within, take_long}
@@ -26,6 +18,8 @@ use Rattle.state.specs.State.{place_of, set_place, message_of, set_message}
 use Rattle.state.proofs.Sets.{block_length}
 use Rattle.session.specs.Receive.{fed_of, read_on}
 use Rattle.session.specs.Quiet.{ReadsOn, ends, placed, len_of, Steps}
+use Rattle.session.specs.declared.slice.At.{At}
+use Rattle.line.specs.declared.Fault.TheVariants.{BadLength, BadEscape}
 
 -- ---- the message buffer in the state
 pub message_long : (s : List ℕ) → length s ≡ size → length (message_of s) ≡ longest
@@ -173,7 +167,7 @@ module _ (s : List ℕ) (k b : ℕ) (h : length s ≡ size) (g : begun_of k (len
   in_message = let l : get_or (message_of s) 0 0 ≡ len_of s = len_there s in simp (ne_eqb b SYNC e, l, g)
 
   behind_escape : take_by messages (place_in 2 k) (message_of s) b
-      ≡ cond (eqb b 0) (put_of k (message_of s) ESC) (cond (eqb b 1) (put_of k (message_of s) SYNC) (over BadEscape (message_of s)))
+      ≡ cond (eqb b 0) (put_of k (message_of s) ESC) (cond (eqb b 1) (put_of k (message_of s) SYNC) (over (Err BadEscape) (message_of s)))
   behind_escape = let l : get_or (message_of s) 0 0 ≡ len_of s = len_there s in simp (ne_eqb b SYNC e, l, g)
 
 escaped_value : (b : ℕ) {A : Type 0} (f : ℕ → A) (x : A) → b ≤ 1 → cond (eqb b 0) (f ESC) (cond (eqb b 1) (f SYNC) x) ≡ f (ESC - b)
@@ -192,7 +186,7 @@ module _ (s : List ℕ) (k b : ℕ) (h : length s ≡ size) (some : 1 ≤ k) (g 
   escaped_goes few =
       goes_in s 2 k b h k (ESC - b) within
       (behind_escape s k b h (went_on k (len_of s) some g) (λ (e : b ≡ SYNC). omega arith)
-      ∙ escaped_value b (put_of k (message_of s)) (over BadEscape (message_of s)) few
+      ∙ escaped_value b (put_of k (message_of s)) (over (Err BadEscape) (message_of s)) few
       ∙ put_on s k (ESC - b) h some g)
 
 pub escape_comes : (s : List ℕ) (k b : ℕ) → length s ≡ size → begun_of k (len_of s) ≡ true → b ≡ ESC → ReadsOn (placed s 1 k) b (placed s 2 k)
@@ -214,14 +208,14 @@ ends_so s tag k b h f e x = ap (λ (y : Fed). ends y.taken.outcome) (fed s tag k
 module _ (s : List ℕ) (b : ℕ) (h : length s ≡ size) where
   pub len_wrong : begun_of 1 b ≡ false → b ≢ SYNC → b ≢ ESC → ends (fed_of (placed s 1 0) b).taken.outcome ≡ true
   len_wrong g n e =
-      ends_so s 1 0 b h (over BadLength (message_of s))
+      ends_so s 1 0 b h (over (Err BadLength) (message_of s))
       (in_message s 0 b h refl n ∙ simp (ne_eqb b ESC e) (put_len 0 (message_of s) b (omega arith) (omega (arith, message_long s h)) ∙ simp g)) refl
 
   len_escaped_at : b ≤ 1 → ends (fed_of (placed s 2 0) b).taken.outcome ≡ true
   len_escaped_at few =
-      ends_so s 2 0 b h (over BadLength (message_of s))
+      ends_so s 2 0 b h (over (Err BadLength) (message_of s))
       (behind_escape s 0 b h refl (λ (e : b ≡ SYNC). omega arith)
-      ∙ escaped_value b (put_of 0 (message_of s)) (over BadEscape (message_of s)) few
+      ∙ escaped_value b (put_of 0 (message_of s)) (over (Err BadEscape) (message_of s)) few
       ∙ put_len 0 (message_of s) (ESC - b) (omega arith) (omega (arith, message_long s h))
       ∙ simp (len_long (ESC - b) (omega arith))) refl
 
@@ -241,7 +235,7 @@ module _ (s : List ℕ) (k b : ℕ) (h : length s ≡ size) (g : begun_of k (len
 
   pub bad_escape : b ≢ SYNC → 1 < b → ends (fed_of (placed s 2 k) b).taken.outcome ≡ true
   bad_escape n e =
-      ends_so s 2 k b h (over BadEscape (message_of s))
+      ends_so s 2 k b h (over (Err BadEscape) (message_of s))
       (behind_escape s k b h g n ∙ simp (ne_eqb b 0 (λ (z : b ≡ 0). omega arith), ne_eqb b 1 (λ (z : b ≡ 1). omega arith))) refl
 
   module _ (some : 1 ≤ k) (last : len_of s + 2 ≤ k) where
@@ -257,18 +251,21 @@ module _ (s : List ℕ) (k b : ℕ) (h : length s ≡ size) (g : begun_of k (len
     last_escaped few =
         ends_so s 2 k b h (over (judged_of (set (message_of s) k (ESC - b))) (set (message_of s) k (ESC - b)))
         (behind_escape s k b h g (λ (e : b ≡ SYNC). omega arith)
-        ∙ escaped_value b (put_of k (message_of s)) (over BadEscape (message_of s)) few
+        ∙ escaped_value b (put_of k (message_of s)) (over (Err BadEscape) (message_of s)) few
         ∙ put_last s k (ESC - b) h some over_now) (judged_ends (set (message_of s) k (ESC - b)))
 
 -- ---- one byte with the place beside the state
 pub not_zero : (n : ℕ) → 1 ≤ n → n ≢ 0
 not_zero n h = λ (z : n ≡ 0). omega arith
 
-pub leaves : (s : List ℕ) (tag k b k' : ℕ) → ends (fed_of (placed s tag k) b).taken.outcome ≡ true → Steps s tag k b 3 k' s
-leaves s tag k b k' e = record { left = λ _. (refl, e); went = λ (n : ◌≢◌ {A = ℕ} 3 3). absurd (n refl) }
+pub leaves : (s : List ℕ) (tag k b : ℕ) → ends (fed_of (placed s tag k) b).taken.outcome ≡ true → Steps s tag k b None s
+leaves s tag k b e = (refl, e)
 
-pub goes : (s t : List ℕ) (tag k b tag' k' : ℕ) → tag' ≤ 2 → (tag' ≢ 0 → begun_of k' (len_of t) ≡ true) → ReadsOn (placed s tag k) b (placed t tag' k') → Steps s tag k b tag' k' t
-goes s t tag k b tag' k' few g r = record { left = λ (e : tag' ≡ 3). absurd (omega arith); went = λ _. (r, record { few = few; begun = g }) }
+abbrev at : ℕ → ℕ → Option At
+at tag k = Some (record { tag = tag; k = k })
+
+pub goes : (s t : List ℕ) (tag k b tag' k' : ℕ) → tag' ≤ 2 → (tag' ≢ 0 → begun_of k' (len_of t) ≡ true) → ReadsOn (placed s tag k) b (placed t tag' k') → Steps s tag k b (at tag' k') t
+goes s t tag k b tag' k' few g r = (r, record { few = few; begun = g })
 
 -- of a message that has begun
 module _ (k n : ℕ) (some : 1 ≤ k) (g : begun_of k n ≡ true) where
@@ -285,14 +282,14 @@ module _ (s : List ℕ) (k b : ℕ) (h : length s ≡ size) (some : 1 ≤ k) (g 
   stands_on : (x : ℕ) → begun_of (k + 1) (len_of (set s (message_at + k) x)) ≡ true
   stands_on x = ap (begun_of (k + 1)) (len_stays s k x some) ∙ more k (len_of s) some g short
 
-  pub step_plain : b ≢ SYNC → b ≢ ESC → Steps s 1 k b 1 (k + 1) (set s (message_at + k) b)
+  pub step_plain : b ≢ SYNC → b ≢ ESC → Steps s 1 k b (at 1 (k + 1)) (set s (message_at + k) b)
   step_plain n e = goes s (set s (message_at + k) b) 1 k b 1 (k + 1) (omega arith) (λ _. stands_on b) (plain_goes s k b h some (more k (len_of s) some g short) n e)
 
-  pub step_escaped : b ≤ 1 → Steps s 2 k b 1 (k + 1) (set s (message_at + k) (ESC - b))
+  pub step_escaped : b ≤ 1 → Steps s 2 k b (at 1 (k + 1)) (set s (message_at + k) (ESC - b))
   step_escaped few =
       goes s (set s (message_at + k) (ESC - b)) 2 k b 1 (k + 1) (omega arith) (λ _. stands_on (ESC - b)) (escaped_goes s k b h some (more k (len_of s) some g short) few)
 
-pub step_len : (s : List ℕ) (b : ℕ) → length s ≡ size → 1 ≤ b → b ≤ most → Steps s 1 0 b 1 1 (set s message_at b)
+pub step_len : (s : List ℕ) (b : ℕ) → length s ≡ size → 1 ≤ b → b ≤ most → Steps s 1 0 b (at 1 1) (set s message_at b)
 step_len s b h some few =
     goes s (set s message_at b) 1 0 b 1 1 (omega arith)
     (λ _. ap (begun_of 1) (get_or-set_same s message_at b 0 (omega arith)) ∙ begun_right byte_form 1 b some few (omega arith)) (len_comes s b h some few)

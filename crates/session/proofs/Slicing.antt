@@ -1,22 +1,14 @@
 -- Bytes in a slice, one after the other: what each leads to. Assumes nothing.
-use mathlib.Core.Path.{◌≡◌, refl, sym, ap, ap₂, subst, ◌∙◌}
-use mathlib.Core.Logic.{◌≢◌}
-use mathlib.Core.Bool.{Bool, true, false, cond}
-use mathlib.Core.List.{List, [], ◌∷◌, ◌++◌}
-use Prim.Native.Nat.{ℕ, zero, suc, ◌+◌, ◌%◌, ◌≤◌, ◌<◌}
-use native.Mathlib.Omega.{arith}
-use borrow.Author.Tests.{ne_eqb, ltb-true, ltb-false}
-use lib.Dec.{eqb, ltb}
-use lib.ListN.{length, get_or, set, take, drop, length-set, length-take}
-use lib.Seq.{set-set, set_comm, set-append_left, take-set-lt, drop-set-lt, drop-cons, drop-length, length-take-le, take_all}
+use Rattle.std.proofs.Common.{Some, None, Ok, Err, ◌≡◌, refl, sym, ap, ap₂, subst, ◌∙◌, ◌≢◌, Bool, true, false, cond, List, [], ◌∷◌, ◌++◌, ℕ, zero, suc, ◌+◌, ◌%◌, ◌≤◌, ◌<◌, arith, ne_eqb, ltb-true, ltb-false, eqb, ltb, length, get_or, set, take, drop, length-set, length-take, set-set, drop-set-lt, drop-cons, length-take-le, take_all}
+use Rattle.std.proofs.lemmas.List.{set_comm, set-append_left}
+use Rattle.std.proofs.Math.Seq.{take-set-lt, drop-length}
 use Rattle.line.specs.Stuffing.{SYNC, ESC}
 use Rattle.line.specs.Message.{byte_form}
 use Rattle.line.specs.Unstuffing.{Fed, place_by, inside_by, cut_of}
 use Rattle.line.specs.Reader.{begun_of, messages}
 use Rattle.line.specs.declared.Place.{Place}
 use Rattle.line.specs.declared.Place.TheVariants.{Outside, Inside, Escaped}
-use Rattle.line.specs.declared.Outcome.{Outcome}
-use Rattle.line.specs.declared.Outcome.TheVariants as line
+use Rattle.line.specs.Values.{Outcome}
 use Rattle.line.proofs.Laws.{cond_ind, false_true}
 use Rattle.line.proofs.Begun.{begun_right}
 use Rattle.state.specs.Layout.{place_at, count_at, message_at, answer_at, size}
@@ -31,16 +23,17 @@ use Rattle.session.specs.declared.Took.{Took}
 use Rattle.session.specs.Quiet.{ReadsOn, Quiet, ends, placed, len_of, reads_as, Stands, from, Leads, Fits, Runs, Skips, Passes}
 use Rattle.session.proofs.Reading.{place_in, fed, len_there, placed_there, outside_other, plain_goes, len_stays}
 use Rattle.words.specs.Number.{received_number}
-use Rattle.words.specs.declared.Received.{Received}
-use Rattle.words.specs.declared.Received.TheVariants.{Nothing, NoState}
+use Rattle.words.specs.Values.{Received, no_state}
+use Rattle.line.specs.declared.Fault.TheVariants.{BadLength, BadEscape, BadChecksum, CutOff, ShortBuffer}
+use Rattle.words.specs.declared.Heard.TheVariants.{Nothing}
 
 -- ---- a byte that ends nothing, and what is behind it
 module _ (s cal meas : List ℕ) (b : ℕ) where
-  reads_nothing : (t : List ℕ) → ReadsOn s b t → received_by (fed_of s b) s cal meas ≡ only Nothing t cal
+  reads_nothing : (t : List ℕ) → ReadsOn s b t → received_by (fed_of s b) s cal meas ≡ only (Ok Nothing) t cal
   unfolding meant
   reads_nothing t r =
       ap (λ (o : Outcome). meant o (fed_of s b).message (read_on s (fed_of s b)) cal meas) r.nothing
-      ∙ ap (λ (x : List ℕ). only Nothing x cal) (sym r.state)
+      ∙ ap (λ (x : List ℕ). only (Ok Nothing) x cal) (sym r.state)
 
   behind_nothing : (t rest : List ℕ) → ReadsOn s b t
       → bytes_of s cal meas (b ∷ rest) ≡ taking (bytes_of t cal meas rest).received (suc (bytes_of t cal meas rest).taken) (bytes_of t cal meas rest).state (bytes_of t cal meas rest).cal
@@ -72,13 +65,13 @@ heeded_tells p s cal meas = go (heeding_in (waits s) p (session_of s) (length ca
 
 meant_tells : (o : Outcome) (m s cal meas : List ℕ) → ends o ≡ true → eqb (received_number (meant o m s cal meas).received) 0 ≡ false
 unfolding meant
-meant_tells line.Nothing m s cal meas e = absurd (false_true e)
-meant_tells (line.Good ctr at n) m s cal meas e = heeded_tells (block m at n) s cal meas
-meant_tells line.BadLength m s cal meas e = refl
-meant_tells line.BadEscape m s cal meas e = refl
-meant_tells line.BadChecksum m s cal meas e = refl
-meant_tells line.CutOff m s cal meas e = refl
-meant_tells line.ShortBuffer m s cal meas e = refl
+meant_tells (Ok None) m s cal meas e = absurd (false_true e)
+meant_tells (Ok (Some good)) m s cal meas e = heeded_tells (block m good.at good.len) s cal meas
+meant_tells (Err BadLength) m s cal meas e = refl
+meant_tells (Err BadEscape) m s cal meas e = refl
+meant_tells (Err BadChecksum) m s cal meas e = refl
+meant_tells (Err CutOff) m s cal meas e = refl
+meant_tells (Err ShortBuffer) m s cal meas e = refl
 
 -- ---- a whole slice
 pub none_taken : (bs s cal meas : List ℕ) → from bs s 0 cal meas ≡ bytes_of s cal meas bs
@@ -87,12 +80,12 @@ none_taken bs s cal meas =
     let z : 0 + o.taken ≡ o.taken = omega arith in
     ap (λ (k : ℕ). taking o.received k o.state o.cal) z
 
-pub all_taken : (bs s cal meas : List ℕ) (r : ℕ) → r ≡ length bs → from bs s r cal meas ≡ taking Nothing r s cal
+pub all_taken : (bs s cal meas : List ℕ) (r : ℕ) → r ≡ length bs → from bs s r cal meas ≡ taking (Ok Nothing) r s cal
 all_taken bs s cal meas r e =
     let d : drop r bs ≡ [] = ap (λ (k : ℕ). drop k bs) e ∙ drop-length bs in
     let z : r + 0 ≡ r = omega arith in
     ap (λ (l : List ℕ). taking (bytes_of s cal meas l).received (r + (bytes_of s cal meas l).taken) (bytes_of s cal meas l).state (bytes_of s cal meas l).cal) d
-    ∙ ap (λ (k : ℕ). taking Nothing k s cal) z
+    ∙ ap (λ (k : ℕ). taking (Ok Nothing) k s cal) z
 
 pub ended : (bs s cal meas : List ℕ) (r : ℕ) → r < length bs → ends (fed_of s (get_or bs r 0)).taken.outcome ≡ true
     → from bs s r cal meas ≡ taking (received_by (fed_of s (get_or bs r 0)) s cal meas).received (r + 1) (received_by (fed_of s (get_or bs r 0)) s cal meas).state (received_by (fed_of s (get_or bs r 0)) s cal meas).cal
@@ -257,7 +250,7 @@ pub passed_all : (bs s t : List ℕ) (i : ℕ) → i ≡ length bs → Leads bs 
 passed_all bs s t i e r = record { most = omega arith; leads = r; next = λ (h : i < length bs). absurd (omega arith) }
 
 -- ---- the byte call
-pub quiet_byte : (s cal meas : List ℕ) (b : ℕ) (r : Bool) (t : List ℕ) → Quiet s b r t → r ≡ true → Receives (received_by (fed_of s b) s cal meas) Nothing t cal
+pub quiet_byte : (s cal meas : List ℕ) (b : ℕ) (r : Bool) (t : List ℕ) → Quiet s b r t → r ≡ true → Receives (received_by (fed_of s b) s cal meas) (Ok Nothing) t cal
 quiet_byte s cal meas b true t q e =
     let x = reads_nothing s cal meas b t q in
     record { result = ap (λ (y : Step). y.received) (sym x); state = ap (λ (y : Step). y.state) (sym x); memory = ap (λ (y : Step). y.cal) (sym x) }
@@ -276,7 +269,7 @@ so_taken o k s cal e = record {
   memory = ap (λ (x : Slice). x.cal) (sym e);
 }
 
-pub all_received : (bs s t cal meas : List ℕ) (r : ℕ) → Passes bs s r t → length bs ≤ r → bytes_of s cal meas bs ≡ taking Nothing r t cal
+pub all_received : (bs s t cal meas : List ℕ) (r : ℕ) → Passes bs s r t → length bs ≤ r → bytes_of s cal meas bs ≡ taking (Ok Nothing) r t cal
 all_received bs s t cal meas r p h = sym (none_taken bs s cal meas) ∙ p.leads cal meas ∙ all_taken bs t cal meas r (omega (arith, p.most))
 
 pub one_received : (bs s t cal meas : List ℕ) (r : ℕ) (x : Received) (u c : List ℕ) → Passes bs s r t → r < length bs → Receives (received_by (fed_of t (get_or bs r 0)) t cal meas) x u c
@@ -294,10 +287,10 @@ counted_take bs n =
     (λ t. take_all (length bs) bs (omega arith) ∙ sym (take_all n bs (omega (arith, ltb-true (length bs) n t)))) (λ _. refl)
 
 bytes_by : (s cal meas bs : List ℕ) (most n : ℕ) (k : Took) (t c : List ℕ) → consistent s ≡ true → n ≡ cond (ltb (length bs) most) (length bs) most
-    → ReceivesBytes (bytes_of s cal meas (take n bs)) k t c → ReceivesBytes (cond (consistent s) (bytes_of s cal meas (take most bs)) (taking NoState 0 s cal)) k t c
+    → ReceivesBytes (bytes_of s cal meas (take n bs)) k t c → ReceivesBytes (cond (consistent s) (bytes_of s cal meas (take most bs)) (taking (Err no_state) 0 s cal)) k t c
 bytes_by s cal meas bs most n k t c e f x =
     let d : take n bs ≡ take most bs = ap (λ (m : ℕ). take m bs) f ∙ counted_take bs most in
-    subst (λ (y : Bool). ReceivesBytes (cond y (bytes_of s cal meas (take most bs)) (taking NoState 0 s cal)) k t c) (sym e)
+    subst (λ (y : Bool). ReceivesBytes (cond y (bytes_of s cal meas (take most bs)) (taking (Err no_state) 0 s cal)) k t c) (sym e)
     (subst (λ (l : List ℕ). ReceivesBytes (bytes_of s cal meas l) k t c) d x)
 
 pub bytes_so : (s cal meas bs : List ℕ) (n : ℕ) (k : Took) (t c : List ℕ) → consistent s ≡ true → n ≡ cond (ltb (length bs) taken_most) (length bs) taken_most
@@ -313,7 +306,7 @@ bytes_within s cal meas (b ∷ bs) =
     let h : (bytes_of x.state x.cal meas bs).taken ≤ length bs = bytes_within x.state x.cal meas bs in
     cond_ind (λ (o : Slice). o.taken ≤ suc (length bs)) (eqb (received_number x.received) 0) (λ _. omega (arith, h)) (λ _. omega arith)
 
-within_by : (s cal meas bs : List ℕ) (most : ℕ) → (cond (consistent s) (bytes_of s cal meas (take most bs)) (taking NoState 0 s cal)).taken ≤ length bs
+within_by : (s cal meas bs : List ℕ) (most : ℕ) → (cond (consistent s) (bytes_of s cal meas (take most bs)) (taking (Err no_state) 0 s cal)).taken ≤ length bs
 within_by s cal meas bs most =
     let few : length (take most bs) ≤ length bs = omega (arith, length-take most bs) in
     cond_ind (λ (o : Slice). o.taken ≤ length bs) (consistent s) (λ _. omega (arith, bytes_within s cal meas (take most bs), few)) (λ _. omega arith)

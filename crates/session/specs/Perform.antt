@@ -1,5 +1,5 @@
 -- What is done: of each deed the state after it, in bytes; its answer and the calibration memory after it are the model's. No check is left.
-use Rattle.std.specs.Prelude.{ℕ, ◌+◌, ◌≡◌, List, set}
+use Rattle.std.specs.Prelude.{ℕ, ◌+◌, ◌≡◌, List, set, Some, None}
 use Rattle.state.specs.Layout.{selected_at}
 use Rattle.state.specs.Pool.{list_count, first_odt, entry_count}
 use Rattle.state.specs.Generator.{next_of}
@@ -8,7 +8,6 @@ use Rattle.lists.specs.Alloc.{lists_freed, lists_allocated, odts_allocated, entr
 use Rattle.lists.specs.Lists.{stopped, started, list_cleared, mode_set, entry_set, stop_each, start_selected, stop_selected}
 use Rattle.words.specs.declared.Extension.{Extension}
 use Rattle.words.specs.declared.Extension.TheVariants.{Calibration}
-use Rattle.words.specs.declared.Seed.TheVariants.{None, For}
 use Rattle.words.specs.declared.Mta.TheVariants.{At}
 use Rattle.words.specs.declared.Pointer.TheVariants.{At as Entry}
 use Rattle.model.specs.declared.Deed.{Deed}
@@ -32,7 +31,7 @@ effect Disconnect s = closed s
 effect Status s = s
 effect Synch s = s
 effect NoSeed s = s
-effect (GiveSeed r) s = set_seed (set_generator s (next_of (generator_of s))) (For r)
+effect (GiveSeed r) s = set_seed (set_generator s (next_of (generator_of s))) (Some r)
 effect (Unlock r) s = set_seed (set s (lock_at r) 1) None
 effect (SetMta e a) s = set_mta s (At e a)
 effect (Upload e a n) s = set_mta s (At e (a + n))

@@ -1,15 +1,16 @@
 -- Bytes that end nothing, for the functions that handle them first. None of this is promised to anyone outside.
-use Rattle.std.specs.Prelude.{ℕ, ◌+◌, ◌≤◌, ◌<◌, ◌≡◌, ◌≢◌, Bool, true, false, cond, List, ltb, get_or, set, drop, length}
+use Rattle.std.specs.Prelude.{ℕ, ◌+◌, ◌≤◌, ◌<◌, ◌≡◌, ◌≢◌, Bool, true, false, cond, List, ltb, get_or, set, drop, length, Option, Some, None, Ok, Err}
 use Rattle.line.specs.Reader.{begun_of}
-use Rattle.line.specs.declared.Outcome.{Outcome}
-use Rattle.line.specs.declared.Outcome.TheVariants.{Nothing, Good, BadLength, BadEscape, BadChecksum, CutOff, ShortBuffer}
+use Rattle.line.specs.Values.{Outcome}
 use Rattle.state.specs.Layout.{packet_most, place_at, count_at, message_at, size}
 use Rattle.session.specs.Receive.{fed_of, read_on}
 use Rattle.session.specs.Slice.{Slice, taking, bytes_of}
+use Rattle.session.specs.declared.slice.At.{At}
+use Rattle.line.specs.declared.Fault.TheVariants.{BadLength, BadEscape, BadChecksum, CutOff, ShortBuffer}
 
 -- byte b ends nothing: the reader reads on, and leaves t
 pub record ReadsOn (s : List ℕ) (b : ℕ) (t : List ℕ) : Type 0 where
-  pub nothing : (fed_of s b).taken.outcome ≡ Nothing
+  pub nothing : (fed_of s b).taken.outcome ≡ Ok None
   pub state : t ≡ read_on s (fed_of s b)
 
 -- a byte that was taken has ended nothing; else nothing is changed
@@ -18,13 +19,13 @@ Quiet s b true t = ReadsOn s b t
 Quiet s b false t = t ≡ s
 
 abbrev pub ends : Outcome → Bool
-ends Nothing = false
-ends (Good ctr at n) = true
-ends BadLength = true
-ends BadEscape = true
-ends BadChecksum = true
-ends CutOff = true
-ends ShortBuffer = true
+ends (Ok None) = false
+ends (Ok (Some good)) = true
+ends (Err BadLength) = true
+ends (Err BadEscape) = true
+ends (Err BadChecksum) = true
+ends (Err CutOff) = true
+ends (Err ShortBuffer) = true
 
 -- s with the two bytes of the reader's place
 abbrev pub placed : List ℕ → ℕ → ℕ → List ℕ
@@ -42,10 +43,10 @@ pub record Stands (s : List ℕ) (tag k : ℕ) : Type 0 where
 abbrev pub reads_as : List ℕ → ℕ → ℕ → ℕ
 reads_as s tag k = cond (ltb 2 tag) 0 (cond (begun_of k (len_of s)) tag 0)
 
--- byte b, with the reader's place beside s: it ends something and is left (3 in the tag's place), or the reader reads on
-pub record Steps (s : List ℕ) (tag k b tag' k' : ℕ) (t : List ℕ) : Type 0 where
-  pub left : tag' ≡ 3 → (t ≡ s) × (ends (fed_of (placed s tag k) b).taken.outcome ≡ true)
-  pub went : tag' ≢ 3 → ReadsOn (placed s tag k) b (placed t tag' k') × Stands t tag' k'
+-- byte b, with the reader's place beside s: it ends something and is left, or the reader reads on to the place at
+abbrev pub Steps : List ℕ → ℕ → ℕ → ℕ → Option At → List ℕ → Type 0
+Steps s tag k b None t = (t ≡ s) × (ends (fed_of (placed s tag k) b).taken.outcome ≡ true)
+Steps s tag k b (Some at) t = ReadsOn (placed s tag k) b (placed t at.tag at.k) × Stands t at.tag at.k
 
 -- what a slice comes to from its byte i on, with i bytes taken before
 abbrev pub from : List ℕ → List ℕ → ℕ → List ℕ → List ℕ → Slice

@@ -1,11 +1,11 @@
 -- Received bytes in a slice: the byte call repeated, up to and with the first byte whose number is not 0.
-use Rattle.std.specs.Prelude.{ℕ, suc, ◌≡◌, cond, List, [], ◌∷◌, eqb, take}
+use Rattle.std.specs.Prelude.{ℕ, suc, ◌≡◌, cond, List, [], ◌∷◌, eqb, take, Ok, Err}
 use Rattle.state.specs.State.{consistent}
 use Rattle.session.specs.Receive.{Step, fed_of, received_by}
 use Rattle.session.specs.declared.Took.{Took}
 use Rattle.words.specs.Number.{received_number}
-use Rattle.words.specs.declared.Received.{Received}
-use Rattle.words.specs.declared.Received.TheVariants.{Nothing, NoState}
+use Rattle.words.specs.Values.{Received, no_state}
+use Rattle.words.specs.declared.Heard.TheVariants.{Nothing}
 
 -- what the call answers, how many bytes it took, and the state and the calibration memory after it
 pub record Slice : Type 0 where
@@ -26,7 +26,7 @@ then t o =
 
 -- bytes in a consistent state
 abbrev pub bytes_of : List ℕ → List ℕ → List ℕ → List ℕ → Slice
-bytes_of s cal meas [] = taking Nothing 0 s cal
+bytes_of s cal meas [] = taking (Ok Nothing) 0 s cal
 bytes_of s cal meas (b ∷ bs) =
     then (received_by (fed_of s b) s cal meas)
     (bytes_of (received_by (fed_of s b) s cal meas).state (received_by (fed_of s b) s cal meas).cal meas bs)
@@ -36,7 +36,7 @@ abbrev pub taken_most : ℕ
 taken_most = 4294967295
 
 unfoldable pub receive_bytes_of : List ℕ → List ℕ → List ℕ → List ℕ → Slice
-receive_bytes_of s cal meas bs = cond (consistent s) (bytes_of s cal meas (take taken_most bs)) (taking NoState 0 s cal)
+receive_bytes_of s cal meas bs = cond (consistent s) (bytes_of s cal meas (take taken_most bs)) (taking (Err no_state) 0 s cal)
 
 -- a function that answers r and leaves s and cal does what o says
 pub record ReceivesBytes (o : Slice) (r : Took) (s cal : List ℕ) : Type 0 where

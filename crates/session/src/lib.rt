@@ -11,7 +11,7 @@ ghost use Rattle.session.specs.Slice.{ReceivesBytes, receive_bytes_of, taken_mos
 ghost use Rattle.session.specs.PowerUp.{Powers, power_up_of};
 
 use state::fields::is_consistent;
-use words::{Evented, PoweredUp, Received, Slotted};
+use words::{Counted, EventRefusal, Heard, NoState, SlotRefusal};
 
 mod answer;
 mod blocks;
@@ -28,14 +28,22 @@ mod slice;
 // The size of the state that each call is lent.
 pub const STATE_SIZE: usize = state::layout::STATE;
 
+// What is lent as the state, once its size is known.
+type State = [u8; STATE_SIZE];
+
 // What became of a slice: the answer to its last byte taken, and how many were.
 #[derive(Clone, Copy)]
 pub struct Took {
-    pub received: Received,
+    pub received: Result<Heard, NoState>,
     pub taken: u32,
 }
 
 pub const TAKEN_MOST: usize = 0xFFFF_FFFF;
+
+const NONE_TAKEN: Took = Took {
+    received: Err(NoState),
+    taken: 0,
+};
 
 pub fn state_size() -> usize
     ensures { result ≡ size }
@@ -44,27 +52,35 @@ pub fn state_size() -> usize
 }
 
 // Writes a fresh state. Only its size is judged.
-pub fn power_up(state: &mut [u8], start: u32) -> PoweredUp
+pub fn power_up(state: &mut [u8], start: u32) -> Result<(), NoState>
     ensures { Powers (power_up_of state.old start) result state.new }
 {
-    if state.len() != STATE_SIZE {
-        return PoweredUp::NoState;
-    }
-    power::write_all(state, start);
-    PoweredUp::Done
+    let Some(s) = state.as_mut_array::<STATE_SIZE>() else {
+        return Err(NoState);
+    };
+    power::write_all(s, start);
+    Ok(())
 }
 
 // One received byte. Most end nothing: they are handled first, in few instructions.
-pub fn receive_byte(state: &mut [u8], cal: &mut [u8], meas: &[u8], byte: u8) -> Received
+pub fn receive_byte(
+    state: &mut [u8],
+    cal: &mut [u8],
+    meas: &[u8],
+    byte: u8,
+) -> Result<Heard, NoState>
     ensures { Receives (receive_of state.old cal.old meas.now byte) result state.new cal.new }
 {
-    if !is_consistent(state) {
-        return Received::NoState;
+    let Some(s) = state.as_mut_array::<STATE_SIZE>() else {
+        return Err(NoState);
+    };
+    if !is_consistent(s) {
+        return Err(NoState);
     }
-    if quiet::quiet(state, byte) {
-        return Received::Nothing;
+    if quiet::quiet(s, byte) {
+        return Ok(Heard::Nothing);
     }
-    receive::receive(state, cal, &meas[0..], byte)
+    receive::receive(s, cal, &meas[0..], byte)
 }
 
 // So many bytes of a slice are taken at most: C gets their number in 32 bits.
@@ -81,25 +97,31 @@ fn counted(n: usize) -> usize
 pub fn receive_bytes(state: &mut [u8], cal: &mut [u8], meas: &[u8], bytes: &[u8]) -> Took
     ensures { ReceivesBytes (receive_bytes_of state.old cal.old meas.now bytes.now) result state.new cal.new }
 {
-    if !is_consistent(state) {
-        return Took {
-            received: Received::NoState,
-            taken: 0,
-        };
+    let Some(s) = state.as_mut_array::<STATE_SIZE>() else {
+        return NONE_TAKEN;
+    };
+    if !is_consistent(s) {
+        return NONE_TAKEN;
     }
     let n = counted(bytes.len());
-    slice::receive_all(state, cal, meas, &bytes[..n])
+    slice::receive_all(s, cal, meas, &bytes[..n])
 }
 
 // One event with its clock.
-pub fn event(state: &mut [u8], cal: &[u8], meas: &[u8], number: u32, clock: u16) -> Evented
+pub fn event(
+    state: &mut [u8],
+    cal: &[u8],
+    meas: &[u8],
+    number: u32,
+    clock: u16,
+) -> Result<Counted, EventRefusal>
     ensures { Happens (event_of state.old cal.now meas.now number clock) result state.new }
 {
     lists::event(state, cal, meas, number, clock)
 }
 
 // One sending slot.
-pub fn slot(state: &mut [u8], out: &mut [u8]) -> Slotted
+pub fn slot(state: &mut [u8], out: &mut [u8]) -> Result<Option<usize>, SlotRefusal>
     ensures { Sends (slot_of state.old out.old) result state.new out.new }
 {
     lists::slot(state, out)

@@ -1,44 +1,36 @@
 // The deeds of the lists that change nothing: of each its answer.
-ghost use Rattle.std.specs.Prelude.{◌≡◌, [], ◌<◌, length};
-ghost use Rattle.state.specs.Layout.{size};
+#![tactic(auto, unfolding(crate::specs::Perform::effect, model::specs::Answers::reply_in, model::specs::View::session_of))]
+
+ghost use Rattle.std.specs.Prelude.{◌≡◌, [], ◌<◌};
 ghost use Rattle.model.specs.View.{session_of};
 ghost use Rattle.session.specs.Perform.{after};
 
-use crate::answer;
 use crate::list_deeds::first_odt;
+use crate::{State, answer};
 use model::Deed;
 use state::{layout, pool};
 
 // A running list that is started again goes on as it is.
-pub fn keep_running(s: &mut [u8], l: u8)
-    requires { (length s.old ≡ size) × (l < (session_of s.old).lists) }
+pub fn keep_running(s: &mut State, l: u8)
+    requires { l < (session_of s.old).lists }
     ensures { s.new ≡ after (Deed.KeepRunning l) s.old [] [] }
 {
     let first = first_odt(s, l);
-    answer::two(s, 0xFF, first);
+    answer::put(s, [0xFF, first]);
 }
 
-pub fn processor_info(s: &mut [u8])
-    requires { length s.old ≡ size }
+pub fn processor_info(s: &mut State)
     ensures { s.new ≡ after Deed.ProcessorInfo s.old [] [] }
 {
     let n = pool::list_count(s);
-    answer::eight(s, 0xFF, 0x11, n, 0x00, layout::EVENTS, 0x00, 0x00, 0x00);
+    answer::put(s, [0xFF, 0x11, n, 0x00, layout::EVENTS, 0x00, 0x00, 0x00]);
 }
 
-pub fn resolution_info(s: &mut [u8])
-    requires { length s.old ≡ size }
+pub fn resolution_info(s: &mut State)
     ensures { s.new ≡ after Deed.ResolutionInfo s.old [] [] }
 {
-    answer::eight(
+    answer::put(
         s,
-        0xFF,
-        0x01,
-        layout::ENTRY_MOST,
-        0x00,
-        0x00,
-        0x6A,
-        0x01,
-        0x00,
+        [0xFF, 0x01, layout::ENTRY_MOST, 0x00, 0x00, 0x6A, 0x01, 0x00],
     );
 }

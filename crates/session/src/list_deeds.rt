@@ -1,39 +1,29 @@
 // The deeds of the lists: of each its effect, then its answer.
-ghost use Rattle.std.specs.Prelude.{◌≡◌, [], ◌≤◌, ◌<◌, length};
-ghost use Rattle.state.specs.Layout.{all_entries, size};
+#![tactic(auto, unfolding(crate::specs::Perform::effect, model::specs::Step::next_entry, model::specs::Answers::reply_in, model::specs::View::session_of))]
+
+ghost use Rattle.std.specs.Prelude.{ℕ, ◌≡◌, List, [], ◌∷◌, ◌≤◌, ◌<◌};
+ghost use Rattle.std.specs.Fn.{FnOnceReturnsAtMut};
+ghost use Rattle.state.specs.State.{answered};
+ghost use Rattle.state.specs.Layout.{all_entries};
 ghost use Rattle.model.specs.Model.{first_of};
 ghost use Rattle.model.specs.Step.{next_entry};
 ghost use Rattle.model.specs.View.{session_of};
 ghost use Rattle.judge.specs.Doable.{Entered};
 ghost use Rattle.session.specs.Perform.{after};
 
-use crate::answer;
-use lists::{alloc, changes};
+use crate::{State, answer};
+use lists::changes;
 use model::Deed;
 use state::{fields, pool};
 use words::{Extension, Pointer};
 
-pub fn clear_list(s: &mut [u8], l: u8)
-    requires { length s.old ≡ size }
-    ensures { s.new ≡ after (Deed.ClearList l) s.old [] [] }
+// A change that FF alone answers.
+pub fn acknowledge<F: FnOnce(&mut State)>(s: &mut State, change: F)
+    requires { F.IsAlwaysCallable change }
+    ensures { (t : List ℕ) × FnOnceReturnsAtMut F.FnOnce change s.old tt t × (s.new ≡ answered t (0xFF ∷ [])) }
 {
-    changes::clear_list(s, l);
-    answer::ok(s);
-}
-
-pub fn set_pointer(s: &mut [u8], l: u8, odt: u8, e: u8)
-    requires { length s.old ≡ size }
-    ensures { s.new ≡ after (Deed.SetPointer l odt e) s.old [] [] }
-{
-    fields::set_pointer(
-        s,
-        Pointer::At {
-            list: l,
-            odt,
-            entry: e,
-        },
-    );
-    answer::ok(s);
+    change(s);
+    answer::put(s, [0xFF]);
 }
 
 // After the last of an ODT's n entries the pointer is unset.
@@ -51,120 +41,38 @@ fn next_entry(n: u16, l: u8, odt: u8, e: u8) -> Pointer
     }
 }
 
-pub fn write_entry(s: &mut [u8], l: u8, odt: u8, e: u8, n: u8, extension: Extension, address: u32)
-    requires { (length s.old ≡ size) × Entered (session_of s.old) l odt e }
+pub fn write_entry(s: &mut State, l: u8, odt: u8, e: u8, n: u8, extension: Extension, address: u32)
+    requires { Entered (session_of s.old) l odt e }
     ensures { s.new ≡ after (Deed.WriteEntry l odt e n extension address) s.old [] [] }
 {
     let k = pool::odts(s, l as u16).first + odt as u16;
     let next = next_entry(pool::entries(s, k).count, l, odt, e);
     changes::set_entry(s, l, odt, e, n, extension, address);
     fields::set_pointer(s, next);
-    answer::ok(s);
+    answer::put(s, [0xFF]);
 }
 
 // One of size 0 is none.
-pub fn clear_entry(s: &mut [u8], l: u8, odt: u8, e: u8)
-    requires { (length s.old ≡ size) × Entered (session_of s.old) l odt e }
+pub fn clear_entry(s: &mut State, l: u8, odt: u8, e: u8)
+    requires { Entered (session_of s.old) l odt e }
     ensures { s.new ≡ after (Deed.ClearEntry l odt e) s.old [] [] }
 {
     write_entry(s, l, odt, e, 0, Extension::Calibration, 0);
 }
 
-pub fn set_mode(s: &mut [u8], l: u8, event: u8)
-    requires { length s.old ≡ size }
-    ensures { s.new ≡ after (Deed.SetMode l event) s.old [] [] }
+// A change to a list that FF and the number of its first ODT answer.
+pub fn switch<F: FnOnce(&mut State)>(first: u8, s: &mut State, change: F)
+    requires { F.IsAlwaysCallable change }
+    ensures { (t : List ℕ) × FnOnceReturnsAtMut F.FnOnce change s.old tt t × (s.new ≡ answered t (0xFF ∷ first ∷ [])) }
 {
-    changes::set_mode(s, l, event);
-    answer::ok(s);
+    change(s);
+    answer::put(s, [0xFF, first]);
 }
 
 // The number of a list's first ODT.
-pub fn first_odt(s: &[u8], l: u8) -> u8
+pub fn first_odt(s: &State, l: u8) -> u8
     requires { l < (session_of s.now).lists }
     ensures { result ≡ first_of (session_of s.now) l }
 {
     pool::odts(s, l as u16).first as u8
-}
-
-pub fn stop(s: &mut [u8], l: u8)
-    requires { (length s.old ≡ size) × (l < (session_of s.old).lists) }
-    ensures { s.new ≡ after (Deed.Stop l) s.old [] [] }
-{
-    let first = first_odt(s, l);
-    changes::stop(s, l);
-    answer::two(s, 0xFF, first);
-}
-
-pub fn start(s: &mut [u8], l: u8)
-    requires { (length s.old ≡ size) × (l < (session_of s.old).lists) }
-    ensures { s.new ≡ after (Deed.Start l) s.old [] [] }
-{
-    let first = first_odt(s, l);
-    changes::start(s, l);
-    answer::two(s, 0xFF, first);
-}
-
-pub fn select(s: &mut [u8], l: u8)
-    requires { (length s.old ≡ size) × (l < (session_of s.old).lists) }
-    ensures { s.new ≡ after (Deed.Select l) s.old [] [] }
-{
-    let first = first_odt(s, l);
-    changes::select(s, l, 1);
-    answer::two(s, 0xFF, first);
-}
-
-pub fn stop_all(s: &mut [u8])
-    requires { length s.old ≡ size }
-    ensures { s.new ≡ after Deed.StopAll s.old [] [] }
-{
-    changes::stop_all(s);
-    answer::ok(s);
-}
-
-pub fn start_selected(s: &mut [u8])
-    requires { length s.old ≡ size }
-    ensures { s.new ≡ after Deed.StartSelected s.old [] [] }
-{
-    changes::start_selected(s);
-    answer::ok(s);
-}
-
-pub fn stop_selected(s: &mut [u8])
-    requires { length s.old ≡ size }
-    ensures { s.new ≡ after Deed.StopSelected s.old [] [] }
-{
-    changes::stop_selected(s);
-    answer::ok(s);
-}
-
-pub fn free_lists(s: &mut [u8])
-    requires { length s.old ≡ size }
-    ensures { s.new ≡ after Deed.FreeLists s.old [] [] }
-{
-    alloc::free(s);
-    answer::ok(s);
-}
-
-pub fn alloc_lists(s: &mut [u8], n: u8)
-    requires { length s.old ≡ size }
-    ensures { s.new ≡ after (Deed.AllocLists n) s.old [] [] }
-{
-    alloc::alloc_lists(s, n);
-    answer::ok(s);
-}
-
-pub fn alloc_odts(s: &mut [u8], l: u8, n: u8)
-    requires { length s.old ≡ size }
-    ensures { s.new ≡ after (Deed.AllocOdts l n) s.old [] [] }
-{
-    alloc::alloc_odts(s, l, n);
-    answer::ok(s);
-}
-
-pub fn alloc_entries(s: &mut [u8], l: u8, odt: u8, n: u8)
-    requires { length s.old ≡ size }
-    ensures { s.new ≡ after (Deed.AllocEntries l odt n) s.old [] [] }
-{
-    alloc::alloc_entries(s, l, odt, n);
-    answer::ok(s);
 }

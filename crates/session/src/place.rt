@@ -1,13 +1,14 @@
 // The reader's place. Every received byte reads and writes it, so it goes straight to its bytes.
-ghost use Rattle.std.specs.Prelude.{◌≡◌, length};
-ghost use Rattle.state.specs.Layout.{size};
+#![tactic(auto, unfolding(state::specs::State::place_of, state::specs::State::set_place))]
+
+ghost use Rattle.std.specs.Prelude.{◌≡◌};
 ghost use Rattle.state.specs.State.{place_of, set_place};
 
+use crate::State;
 use line::Place;
 use state::layout;
 
-pub fn place(s: &[u8]) -> Place
-    requires { length s.now ≡ size }
+pub fn place(s: &State) -> Place
     ensures { result ≡ place_of s.now }
 {
     let tag = s[layout::PLACE];
@@ -20,8 +21,7 @@ pub fn place(s: &[u8]) -> Place
     Place::Outside
 }
 
-pub fn set_place(s: &mut [u8], place: Place)
-    requires { length s.old ≡ size }
+pub fn set_place(s: &mut State, place: Place)
     ensures { s.new ≡ set_place s.old place }
 {
     match place {

@@ -1,9 +1,10 @@
 // A received byte that ends nothing, straight on the state: most bytes are such, and cost what stands here.
-ghost use Rattle.std.specs.Prelude.{◌≡◌, ◌≢◌, ◌+◌, ◌≤◌, true, length, get_or};
+ghost use Rattle.std.specs.Prelude.{◌≡◌, ◌≢◌, ◌+◌, ◌≤◌, true, get_or};
 ghost use Rattle.line.specs.Reader.{begun_of};
-ghost use Rattle.state.specs.Layout.{size, place_at, count_at};
+ghost use Rattle.state.specs.Layout.{place_at, count_at};
 ghost use Rattle.session.specs.Quiet.{Quiet, len_of};
 
+use crate::State;
 use line::{ESC, SYNC};
 use state::layout;
 
@@ -22,8 +23,8 @@ fn goes_on(k: u8, len: u8) -> bool
 }
 
 // Outside a message.
-fn outside(s: &mut [u8], byte: u8) -> bool
-    requires { (length s.old ≡ size) × (get_or s.old place_at 0 ≡ 0) }
+fn outside(s: &mut State, byte: u8) -> bool
+    requires { get_or s.old place_at 0 ≡ 0 }
     ensures { Quiet s.old byte result s.new }
 {
     if byte == SYNC {
@@ -35,8 +36,8 @@ fn outside(s: &mut [u8], byte: u8) -> bool
 }
 
 // The first byte of a message, LEN.
-fn first(s: &mut [u8], tag: u8, byte: u8) -> bool
-    requires { (length s.old ≡ size) × (get_or s.old place_at 0 ≡ tag) × (tag ≢ 0) × (tag ≤ 2) × (get_or s.old count_at 0 ≡ 0) }
+fn first(s: &mut State, tag: u8, byte: u8) -> bool
+    requires { (get_or s.old place_at 0 ≡ tag) × (tag ≢ 0) × (tag ≤ 2) × (get_or s.old count_at 0 ≡ 0) }
     ensures { Quiet s.old byte result s.new }
 {
     if tag == 2 {
@@ -57,8 +58,8 @@ fn first(s: &mut [u8], tag: u8, byte: u8) -> bool
 }
 
 // Byte k of a message that goes on behind it. SYNC and ESC differ in the last bit alone.
-fn within(s: &mut [u8], tag: u8, k: u8, byte: u8) -> bool
-    requires { (length s.old ≡ size) × (get_or s.old place_at 0 ≡ tag) × (tag ≢ 0) × (tag ≤ 2) × (get_or s.old count_at 0 ≡ k) × (1 ≤ k) × (begun_of (k + 1) (len_of s.old) ≡ true) }
+fn within(s: &mut State, tag: u8, k: u8, byte: u8) -> bool
+    requires { (get_or s.old place_at 0 ≡ tag) × (tag ≢ 0) × (tag ≤ 2) × (get_or s.old count_at 0 ≡ k) × (1 ≤ k) × (begun_of (k + 1) (len_of s.old) ≡ true) }
     ensures { Quiet s.old byte result s.new }
 {
     if tag == 2 {
@@ -83,8 +84,7 @@ fn within(s: &mut [u8], tag: u8, k: u8, byte: u8) -> bool
 }
 
 // Whether the byte was taken because it ends nothing. Of those that end nothing, only rare ones are left.
-pub fn quiet(s: &mut [u8], byte: u8) -> bool
-    requires { length s.old ≡ size }
+pub fn quiet(s: &mut State, byte: u8) -> bool
     ensures { Quiet s.old byte result s.new }
 {
     let tag = s[layout::PLACE];

@@ -1,20 +1,16 @@
 // Received bytes in a slice. The reader's place stays in registers until a byte ends something, which `receive` then takes.
 ghost use Rattle.std.specs.Prelude.{◌≡◌, ◌≢◌, ◌+◌, ◌≤◌, ◌<◌, length};
 ghost use Rattle.line.specs.Stuffing.{SYNC as sync, ESC as esc};
-ghost use Rattle.state.specs.Layout.{size};
 ghost use Rattle.session.specs.Slice.{ReceivesBytes, bytes_of, taken_most};
 ghost use Rattle.session.specs.Quiet.{placed, reads_as, Stands, Steps, Fits, Runs, Skips, Passes};
 
-use crate::Took;
 use crate::receive::receive;
+use crate::{State, Took};
 use line::{ESC, SYNC};
 use state::layout;
-use words::Received;
+use words::Heard;
 
-// In a tag's place: the byte ends something, and was not taken.
-const ENDS: u8 = 3;
-
-// The reader's place, as PLACE and COUNT have it.
+// The reader's place, as PLACE and COUNT have it. The tag stays the number that PLACE has in the state, whose form docs/STATE.md fixes.
 #[derive(Clone, Copy)]
 struct At {
     tag: u8,
@@ -22,8 +18,7 @@ struct At {
 }
 
 // The tag as it reads: a place that no message can have is outside.
-fn reads(s: &[u8], tag: u8, k: u8) -> u8
-    requires { length s.now ≡ size }
+fn reads(s: &State, tag: u8, k: u8) -> u8
     ensures { result ≡ reads_as s.now tag k }
 {
     if 2 < tag {
@@ -45,76 +40,76 @@ fn reads(s: &[u8], tag: u8, k: u8) -> u8
     tag
 }
 
-// A byte behind ESC.
-fn escaped(s: &mut [u8], k: u8, byte: u8) -> At
-    requires { (length s.old ≡ size) × Stands s.old 2 k × (byte ≢ sync) }
-    ensures { Steps s.old 2 k byte result.tag result.k s.new }
+// A byte behind ESC. Here and in the three below, a byte that ends something is left, and gives no place.
+fn escaped(s: &mut State, k: u8, byte: u8) -> Option<At>
+    requires { Stands s.old 2 k × (byte ≢ sync) }
+    ensures { Steps s.old 2 k byte result s.new }
 {
     if 1 < byte {
-        return At { tag: ENDS, k };
+        return None;
     }
     if k == 0 {
-        return At { tag: ENDS, k };
+        return None;
     }
     if s[layout::MESSAGE] + 2 <= k {
-        return At { tag: ENDS, k };
+        return None;
     }
     s[layout::MESSAGE + k as usize] = ESC - byte;
-    At { tag: 1, k: k + 1 }
+    Some(At { tag: 1, k: k + 1 })
 }
 
 // LEN.
-fn first(s: &mut [u8], byte: u8) -> At
-    requires { (length s.old ≡ size) × (byte ≢ sync) × (byte ≢ esc) }
-    ensures { Steps s.old 1 0 byte result.tag result.k s.new }
+fn first(s: &mut State, byte: u8) -> Option<At>
+    requires { (byte ≢ sync) × (byte ≢ esc) }
+    ensures { Steps s.old 1 0 byte result s.new }
 {
     if byte == 0 {
-        return At { tag: ENDS, k: 0 };
+        return None;
     }
     if layout::PACKET_MOST < byte {
-        return At { tag: ENDS, k: 0 };
+        return None;
     }
     s[layout::MESSAGE] = byte;
-    At { tag: 1, k: 1 }
+    Some(At { tag: 1, k: 1 })
 }
 
 // A byte behind LEN.
-fn inside(s: &mut [u8], k: u8, byte: u8) -> At
-    requires { (length s.old ≡ size) × Stands s.old 1 k × (1 ≤ k) × (byte ≢ sync) × (byte ≢ esc) }
-    ensures { Steps s.old 1 k byte result.tag result.k s.new }
+fn inside(s: &mut State, k: u8, byte: u8) -> Option<At>
+    requires { Stands s.old 1 k × (1 ≤ k) × (byte ≢ sync) × (byte ≢ esc) }
+    ensures { Steps s.old 1 k byte result s.new }
 {
     if s[layout::MESSAGE] + 2 <= k {
-        return At { tag: ENDS, k };
+        return None;
     }
     s[layout::MESSAGE + k as usize] = byte;
-    At { tag: 1, k: k + 1 }
+    Some(At { tag: 1, k: k + 1 })
 }
 
-// One byte, with the reader's place beside the state.
-fn step(s: &mut [u8], tag: u8, k: u8, byte: u8) -> At
-    requires { (length s.old ≡ size) × Stands s.old tag k }
-    ensures { Steps s.old tag k byte result.tag result.k s.new }
+// One byte, with the reader's place beside the state: the place behind it.
+fn step(s: &mut State, tag: u8, k: u8, byte: u8) -> Option<At>
+    requires { Stands s.old tag k }
+    ensures { Steps s.old tag k byte result s.new }
 {
     if byte == SYNC {
         if tag == 0 {
-            return At { tag: 1, k: 0 };
+            return Some(At { tag: 1, k: 0 });
         }
         if tag == 2 {
-            return At { tag: ENDS, k };
+            return None;
         }
         if k == 0 {
-            return At { tag: 1, k: 0 };
+            return Some(At { tag: 1, k: 0 });
         }
-        return At { tag: ENDS, k };
+        return None;
     }
     if tag == 0 {
-        return At { tag: 0, k };
+        return Some(At { tag: 0, k });
     }
     if tag == 2 {
         return escaped(s, k, byte);
     }
     if byte == ESC {
-        return At { tag: 2, k };
+        return Some(At { tag: 2, k });
     }
     if k == 0 {
         return first(s, byte);
@@ -123,8 +118,8 @@ fn step(s: &mut [u8], tag: u8, k: u8, byte: u8) -> At
 }
 
 // How many bytes of the message may come before its last, of those that are left.
-fn room(s: &[u8], tag: u8, k: u8, left: u32) -> u32
-    requires { (length s.now ≡ size) × Stands s.now tag k }
+fn room(s: &State, tag: u8, k: u8, left: u32) -> u32
+    requires { Stands s.now tag k }
     ensures { (result ≤ left) × (0 < result → Fits s.now tag k result) }
 {
     if tag != 1 {
@@ -141,20 +136,18 @@ fn room(s: &[u8], tag: u8, k: u8, left: u32) -> u32
 }
 
 // Bytes of a message from its byte k on, up to the first SYNC or ESC, which differ in the last bit alone. Answers how many.
-fn run(s: &mut [u8], k: u8, bytes: &[u8], from: u32, most: u32) -> u32
-    requires { (length s.old ≡ size) × (from + most ≤ length bytes.now) × (length bytes.now ≤ taken_most) × (0 < most → Fits s.old 1 k most) }
+fn run(s: &mut State, k: u8, bytes: &[u8], from: u32, most: u32) -> u32
+    requires { (from + most ≤ length bytes.now) × (length bytes.now ≤ taken_most) × (0 < most → Fits s.old 1 k most) }
     ensures { (result ≤ most) × Runs bytes.now s.old k from result s.new }
 {
-    let mut i: u32 = 0;
-    while i < most {
+    for i in 0..most {
         let byte = bytes[(from + i) as usize];
         if byte / 2 == SYNC / 2 {
             return i;
         }
         s[layout::MESSAGE + (k as u32 + i) as usize] = byte;
-        i += 1;
     }
-    i
+    most
 }
 
 // Where the next SYNC stands, or the end: outside a message nothing else is looked at. Inside, and behind ESC, it is here.
@@ -165,19 +158,16 @@ fn skip(tag: u8, bytes: &[u8], from: u32, n: u32) -> u32
     if tag != 0 {
         return from;
     }
-    let mut i = from;
-    while i < n {
+    for i in from..n {
         if bytes[i as usize] == SYNC {
             return i;
         }
-        i += 1;
     }
-    i
+    n
 }
 
 // Puts the reader's place into the state.
-fn settle(s: &mut [u8], tag: u8, k: u8)
-    requires { length s.old ≡ size }
+fn settle(s: &mut State, tag: u8, k: u8)
     ensures { s.new ≡ placed s.old tag k }
 {
     s[layout::PLACE] = tag;
@@ -185,8 +175,8 @@ fn settle(s: &mut [u8], tag: u8, k: u8)
 }
 
 // Takes the bytes before the first that ends something, or all. Answers how many.
-fn pass(s: &mut [u8], bytes: &[u8]) -> u32
-    requires { (length s.old ≡ size) × (length bytes.now ≤ taken_most) }
+fn pass(s: &mut State, bytes: &[u8]) -> u32
+    requires { length bytes.now ≤ taken_most }
     ensures { Passes bytes.now s.old result s.new }
 {
     let n = bytes.len() as u32;
@@ -196,6 +186,7 @@ fn pass(s: &mut [u8], bytes: &[u8]) -> u32
     let mut k = s[layout::COUNT];
     let mut tag = reads(s, s[layout::PLACE], k);
     let mut i: u32 = 0;
+    // No `for`: i goes on by as many bytes as were skipped or went into the message.
     while i < n {
         i = skip(tag, bytes, i, n);
         let most = room(s, tag, k, n - i);
@@ -206,11 +197,10 @@ fn pass(s: &mut [u8], bytes: &[u8]) -> u32
             settle(s, tag, k);
             return i;
         }
-        let at = step(s, tag, k, bytes[i as usize]);
-        if at.tag == ENDS {
+        let Some(at) = step(s, tag, k, bytes[i as usize]) else {
             settle(s, tag, k);
             return i;
-        }
+        };
         tag = at.tag;
         k = at.k;
         i += 1;
@@ -220,14 +210,14 @@ fn pass(s: &mut [u8], bytes: &[u8]) -> u32
 }
 
 // Bytes in a consistent state.
-pub fn receive_all(s: &mut [u8], cal: &mut [u8], meas: &[u8], bytes: &[u8]) -> Took
-    requires { (length s.old ≡ size) × (length bytes.now ≤ taken_most) }
+pub fn receive_all(s: &mut State, cal: &mut [u8], meas: &[u8], bytes: &[u8]) -> Took
+    requires { length bytes.now ≤ taken_most }
     ensures { ReceivesBytes (bytes_of s.old cal.old meas.now bytes.now) result s.new cal.new }
 {
     let taken = pass(s, bytes);
     if bytes.len() <= taken as usize {
         return Took {
-            received: Received::Nothing,
+            received: Ok(Heard::Nothing),
             taken,
         };
     }

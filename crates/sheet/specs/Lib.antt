@@ -1,3 +1,2 @@
--- The sheet program. `Bytes`: parts of bytes, and bytes that are stored. `Tool`: what is kept from line to line.
-pub mod Bytes
+-- The sheet program. `Tool`: what is kept from line to line.
 pub mod Tool

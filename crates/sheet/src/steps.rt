@@ -1,147 +1,89 @@
-// What the steps of a sheet do. Each prints what came, and hands the tool on with its verdict.
+// What the steps of a sheet do. Each prints what came, and the tool keeps the verdict.
 ghost use Rattle.std.specs.Prelude.{◌≡◌, length};
-ghost use Rattle.state.specs.Bytes.{u16_at};
-ghost use Rattle.sheet.specs.Bytes.{part_of, stored_in};
+ghost use Rattle.state.specs.Bytes.{u16_at, block};
+ghost use Rattle.bench.specs.Stored.{stored_in};
 
 use crate::tool::Tool;
-use crate::{bytes, keys, wire};
-use line::{LONGEST, MOST, ROOM};
+use crate::wire;
+use bench::Gun;
+use line::MOST;
 use report::show;
-use session::STATE_SIZE;
-use state::bytes::{get, get16, get32, store32};
-use state::layout::ADDRESSABLE;
+use state::bytes::{block, get, get16, get32};
 use state::seeds::key_for;
-use words::Evented;
+use words::{Counted, EventRefusal, Numbered, Resource};
+
+const UNLOCK: u8 = 0xF7;
 
 // Power-up: the start number, four bytes.
-pub fn power_up(bytes: &[u8], was: Tool, state: &mut [u8; STATE_SIZE]) -> Tool {
+pub fn power_up(bytes: &[u8], tool: &mut Tool, gun: &mut Gun) {
     show::print_bytes(bytes);
     // Done, as the state has its size.
-    session::power_up(state, get32(bytes, 0));
-    let mut now = was;
-    now.ctr = 0;
-    now
+    let _ = gun.power_up(get32(bytes, 0));
+    tool.ctr = 0;
 }
 
 // Measured bytes: their place, two bytes, and they.
-pub fn measured(bytes: &[u8], meas: &mut [u8; 4096])
-    ensures { meas.new ≡ stored_in meas.old (u16_at bytes.now 0) (part_of bytes.now 2 (length bytes.now)) }
+pub fn measured(bytes: &[u8], gun: &mut Gun)
+    ensures meas { gun.new.meas ≡ stored_in gun.old.meas (u16_at bytes.now 0) (block bytes.now 2 (length bytes.now)) }
+    ensures state { gun.new.state ≡ gun.old.state }
+    ensures cal { gun.new.cal ≡ gun.old.cal }
 {
     show::print_bytes(bytes);
-    set(
-        bytes::part(bytes, 2, bytes.len()),
-        meas,
-        get16(bytes, 0) as usize,
-    );
-}
-
-// Bytes past the memory's end have no place and are left out.
-fn set(bytes: &[u8], meas: &mut [u8; 4096], at: usize)
-    ensures { meas.new ≡ stored_in meas.old at bytes.now }
-{
-    let from = bytes::least(at, ADDRESSABLE);
-    let count = bytes::least(bytes.len(), ADDRESSABLE - from);
-    let mut i = 0;
-    while i < count {
-        meas[from + i] = bytes[i];
-        i += 1;
-    }
+    gun.measure(get16(bytes, 0) as usize, block(bytes, 2, bytes.len()));
 }
 
 // A command, and the frame that it is to be in.
-pub fn command(
-    bytes: &[u8],
-    expected: &[u8],
-    was: Tool,
-    state: &mut [u8; STATE_SIZE],
-    cal: &mut [u8; 4096],
-    meas: &[u8; 4096],
-) -> Tool {
-    let mut frame = [0; ROOM];
-    let mut numbers = [0; ROOM];
-    let size = wire::frame(bytes, was.ctr, &mut frame);
-    wire::send(&frame, size, &mut numbers, state, cal, meas);
+pub fn command(bytes: &[u8], expected: &[u8], tool: &mut Tool, gun: &mut Gun) {
+    let frame = wire::framed(bytes, tool.ctr);
+    let numbers = wire::send(frame.as_slice(), gun);
     show::print_bytes(bytes);
-    let good = show::on_the_wire(bytes::front(&frame, size), expected);
-    show::print_numbers(bytes::front(&numbers, size));
-    was.judged(good).sent(1)
+    tool.judge(show::on_the_wire(frame.as_slice(), expected));
+    show::print_numbers(numbers.as_slice());
+    tool.sent(1);
 }
 
 // Bytes on the wire as they are, and the number that each is to give. The tool's own CTR stays.
-pub fn wire(
-    bytes: &[u8; ROOM],
-    count: usize,
-    expected: &[u8],
-    was: Tool,
-    state: &mut [u8; STATE_SIZE],
-    cal: &mut [u8; 4096],
-    meas: &[u8; 4096],
-) -> Tool {
-    let mut numbers = [0; ROOM];
-    wire::send(bytes, count, &mut numbers, state, cal, meas);
-    show::print_bytes(bytes::front(bytes, count));
-    let gave = bytes::front(&numbers, count);
-    show::print_numbers(gave);
-    was.judged(show::check(gave, expected))
+pub fn wire(bytes: &[u8], expected: &[u8], tool: &mut Tool, gun: &mut Gun) {
+    let numbers = wire::send(bytes, gun);
+    show::print_bytes(bytes);
+    show::print_numbers(numbers.as_slice());
+    tool.judge(show::check(numbers.as_slice(), expected));
 }
 
 // Bytes on the wire, lent as one slice; the number that it is to give, and how many of them it is to
 // take. The tool's own CTR stays.
-pub fn slice(
-    bytes: &[u8],
-    expected: &[u8],
-    was: Tool,
-    state: &mut [u8; STATE_SIZE],
-    cal: &mut [u8; 4096],
-    meas: &[u8; 4096],
-) -> Tool {
+pub fn slice(bytes: &[u8], expected: &[u8], tool: &mut Tool, gun: &mut Gun) {
     show::print_bytes(bytes);
     show::print(b"\n    number, bytes taken       ");
-    let took = session::receive_bytes(state, cal, meas, bytes);
-    let received = took.received;
-    let came = [(received.number() % 256) as u8, (took.taken % 256) as u8];
+    let took = gun.receive_bytes(bytes);
+    let came = [took.received.number(), (took.taken % 256) as u8];
     show::print_bytes(&came);
-    was.judged(show::check(&came, expected))
+    tool.judge(show::check(&came, expected));
 }
 
 // A slot: the packet that is to come, and the frame that it is to be in.
-pub fn slot(
-    expected: &[u8],
-    frame_expected: &[u8],
-    was: Tool,
-    state: &mut [u8; STATE_SIZE],
-) -> Tool {
-    let mut frame = [0; ROOM];
-    let mut message = [0; LONGEST];
-    let size = wire::take_frame(state, &mut frame);
-    let outcome = wire::read(bytes::front(&frame, size), &mut message);
-    let packet = wire::packet(outcome, &message);
-    show::print_bytes(packet);
-    let good = show::check(packet, expected);
-    let good_frame = show::on_the_wire(bytes::front(&frame, size), frame_expected);
-    let mut now = was.judged(good & good_frame);
-    now.seed = get32(packet, 2);
-    now
+pub fn slot(expected: &[u8], frame_expected: &[u8], tool: &mut Tool, gun: &mut Gun) {
+    let frame = gun.take_frame();
+    let packet = wire::packet(frame.as_slice());
+    show::print_bytes(packet.as_slice());
+    tool.judge(show::check(packet.as_slice(), expected));
+    tool.judge(show::on_the_wire(frame.as_slice(), frame_expected));
+    tool.seed = get32(packet.as_slice(), 2);
 }
 
 // UNLOCK: the resource, and the key that the seed in the last answer is to give.
-pub fn unlock(
-    bytes: &[u8],
-    expected: &[u8],
-    was: Tool,
-    state: &mut [u8; STATE_SIZE],
-    cal: &mut [u8; 4096],
-    meas: &[u8; 4096],
-) -> Tool {
-    let key = key_for(keys::resource(get(bytes, 0)), was.seed);
-    let good = check_key(key, expected);
-    command(&keys::unlock(key), b"", was.judged(good), state, cal, meas)
+pub fn unlock(bytes: &[u8], expected: &[u8], tool: &mut Tool, gun: &mut Gun) {
+    // 01 is calibration, 04 the lists.
+    let resource = Resource::try_from(get(bytes, 0)).unwrap_or(Resource::Lists);
+    let key = key_for(resource, tool.seed);
+    tool.judge(check_key(key, expected));
+    let [a, b, c, d] = key.to_le_bytes();
+    command(&[UNLOCK, 4, a, b, c, d], b"", tool, gun);
 }
 
 // The key, and whether it is the expected one.
 fn check_key(key: u32, expected: &[u8]) -> bool {
-    let mut bytes = [0; 4];
-    store32(&mut bytes, 0, key);
+    let bytes = key.to_le_bytes();
     show::print(b"key ");
     show::print_bytes(&bytes);
     let good = show::check(&bytes, expected);
@@ -150,57 +92,40 @@ fn check_key(key: u32, expected: &[u8]) -> bool {
 }
 
 // A command as often as the first byte says, and the answer that is to come each time.
-pub fn repeat(
-    bytes: &[u8],
-    expected: &[u8],
-    was: Tool,
-    state: &mut [u8; STATE_SIZE],
-    cal: &mut [u8; 4096],
-    meas: &[u8; 4096],
-) -> Tool {
+pub fn repeat(bytes: &[u8], expected: &[u8], tool: &mut Tool, gun: &mut Gun) {
     let times = get(bytes, 0);
-    let command = bytes::part(bytes, 1, MOST);
+    let command = block(bytes, 1, MOST);
     show::print_bytes(command);
     show::print(b"\n    times                     ");
     io::print_decimal(1, times as u64);
     show::print(b"\n    each answer is to be      ");
     show::print_bytes(expected);
-    let good = wire::exchanges(times, command, expected, was.ctr, state, cal, meas);
+    let good = wire::exchanges(times, command, expected, tool.ctr, gun);
     show::print_verdict(good);
-    was.judged(good).sent(times)
+    tool.judge(good);
+    tool.sent(times);
 }
 
 // An event: its number and two bytes of clock; the lists that are to sample, and to miss it.
-pub fn event(
-    bytes: &[u8],
-    expected: &[u8],
-    was: Tool,
-    state: &mut [u8; STATE_SIZE],
-    cal: &[u8; 4096],
-    meas: &[u8; 4096],
-) -> Tool {
+pub fn event(bytes: &[u8], expected: &[u8], tool: &mut Tool, gun: &mut Gun) {
     show::print_bytes(bytes);
     show::print(b"\n    sampled, missed           ");
-    let number = get(bytes, 0) as u32;
-    let evented = session::event(state, cal, meas, number, get16(bytes, 1));
-    was.judged(counted(evented, expected))
+    let evented = gun.event(get(bytes, 0) as u32, get16(bytes, 1));
+    tool.judge(counted(evented, expected));
 }
 
-fn counted(evented: Evented, expected: &[u8]) -> bool {
+fn counted(evented: Result<Counted, EventRefusal>, expected: &[u8]) -> bool {
     match evented {
-        Evented::Done { sampled, missed } => {
+        Ok(Counted { sampled, missed }) => {
             let counts = [sampled, missed];
             show::print_bytes(&counts);
             show::check(&counts, expected)
         }
-        Evented::BadEvent => refused(8, expected),
-        Evented::NoState => refused(10, expected),
+        Err(_) => {
+            let numbers = [evented.number()];
+            show::print(b"refused with ");
+            io::print_decimal(1, numbers[0] as u64);
+            show::check(&numbers, expected)
+        }
     }
-}
-
-fn refused(number: u8, expected: &[u8]) -> bool {
-    let numbers = [number];
-    show::print(b"refused with ");
-    io::print_decimal(1, number as u64);
-    show::check(&numbers, expected)
 }

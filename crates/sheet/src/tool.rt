@@ -1,6 +1,6 @@
 // What the tool keeps from one line of the sheet to the next.
 ghost use Rattle.std.specs.Prelude.{◌≡◌};
-ghost use Rattle.sheet.specs.Tool.{one_more, first_of, differing, fresh, next_line, judged_of, sent_of, placed_in, begun_of, stepped_of, ended_of, stopped_of};
+ghost use Rattle.sheet.specs.Tool.{one_more, fresh, next_line, judged_of, sent_of, begun_of, stepped_of, ended_of};
 
 use syntax::Case;
 
@@ -19,29 +19,14 @@ pub struct Tool {
     pub cases: u32,
     pub steps: u32,
     pub different: u32,
-    pub first: u32,
-    // A line was wrong, and no other is run.
-    pub stopped: bool,
+    pub first: Option<u32>,
 }
 
 // A sheet has fewer than 65,536 lines: no count wraps.
 fn one_more(count: u32) -> u32
     ensures { result ≡ one_more count }
 {
-    std::num::wrapping_add_u32(count, 1)
-}
-
-// The first line that differs stays the first; 0 is none.
-fn first_of(first: u32, line: u32) -> u32
-    ensures { result ≡ first_of first line }
-{
-    if first == 0 { line } else { first }
-}
-
-fn differing(count: u32, good: bool) -> u32
-    ensures { result ≡ differing count good }
-{
-    if good { count } else { one_more(count) }
+    count.wrapping_add(1)
 }
 
 impl Tool {
@@ -57,94 +42,57 @@ impl Tool {
             cases: 0,
             steps: 0,
             different: 0,
-            first: 0,
-            stopped: false,
+            first: None,
         }
     }
 
-    // At the next line.
-    pub fn next_line(self) -> Self
-        ensures { result ≡ next_line self }
+    pub fn next_line(&mut self)
+        ensures { self.new ≡ next_line self.old }
     {
-        let mut now = self;
-        now.line = one_more(self.line);
-        now
+        self.line = one_more(self.line);
     }
 
-    // After a verdict.
-    pub fn judged(self, good: bool) -> Self
-        ensures { result ≡ judged_of self good }
+    // A verdict. The first line that differs stays the first.
+    pub fn judge(&mut self, good: bool)
+        ensures { self.new ≡ judged_of self.old good }
     {
-        if good {
-            return self;
-        }
-        let mut now = self;
-        now.good = false;
-        now.first = first_of(self.first, self.line);
-        now
-    }
-
-    // After so many messages to the slave.
-    pub fn sent(self, times: u8) -> Self
-        ensures { result ≡ sent_of self times }
-    {
-        let mut now = self;
-        now.ctr = std::num::wrapping_add_u8(self.ctr, times);
-        now
-    }
-
-    // Elsewhere in a case.
-    fn placed(self, case: Case) -> Self
-        ensures { result ≡ placed_in self case }
-    {
-        Self {
-            ctr: self.ctr,
-            seed: self.seed,
-            line: self.line,
-            case: case,
-            good: self.good,
-            cases: self.cases,
-            steps: self.steps,
-            different: self.different,
-            first: self.first,
-            stopped: self.stopped,
+        if !good {
+            self.good = false;
+            self.first = self.first.or(Some(self.line));
         }
     }
 
-    // After a case's title.
-    pub fn begun(self) -> Self
-        ensures { result ≡ begun_of self }
+    // So many messages went to the slave.
+    pub fn sent(&mut self, times: u8)
+        ensures { self.new ≡ sent_of self.old times }
     {
-        let mut now = self.placed(Case::Titled(self.line));
-        now.good = true;
-        now
+        self.ctr = self.ctr.wrapping_add(times);
     }
 
-    // After a step.
-    pub fn stepped(self) -> Self
-        ensures { result ≡ stepped_of self }
+    // A case's title.
+    pub fn begin(&mut self)
+        ensures { self.new ≡ begun_of self.old }
     {
-        let mut now = self.placed(Case::Stepped);
-        now.steps = one_more(self.steps);
-        now
+        self.case = Case::Titled(self.line);
+        self.good = true;
     }
 
-    // After the end of a case.
-    pub fn ended(self) -> Self
-        ensures { result ≡ ended_of self }
+    // A step was run.
+    pub fn step(&mut self)
+        ensures { self.new ≡ stepped_of self.old }
     {
-        let mut now = self.placed(Case::Closed);
-        now.cases = one_more(self.cases);
-        now.different = differing(self.different, self.good);
-        now
+        self.case = Case::Stepped;
+        self.steps = one_more(self.steps);
     }
 
-    // After a line that is wrong.
-    pub fn stop(self) -> Self
-        ensures { result ≡ stopped_of self }
+    // The end of a case.
+    pub fn end(&mut self)
+        ensures { self.new ≡ ended_of self.old }
     {
-        let mut now = self;
-        now.stopped = true;
-        now
+        self.case = Case::Closed;
+        self.cases = one_more(self.cases);
+        if !self.good {
+            self.different = one_more(self.different);
+        }
     }
 }

@@ -1,10 +1,5 @@
 -- A run of ours in which every premise of an answer's bound is met, and one slot is not enough: the first sends a list's packet. Assumes nothing.
-use Prim.Native.Nat.{ℕ}
-use mathlib.Core.Path.{◌≡◌, refl, ap, sym, subst, subst₂}
-use mathlib.Core.List.{List, [], ◌∷◌, ◌++◌}
-use native.Mathlib.Omega.{arith}
-use lib.Dec.{lit≤}
-use lib.ListN.{length, length-append, get_or, replicate}
+use Rattle.std.proofs.Common.{◌≡◌, ℕ, List, [], ◌∷◌, ◌++◌, length, get_or, replicate, refl, sym, ap, subst, subst₂, arith, lit≤, length-append}
 use Rattle.line.specs.Message.{room, frame}
 use Rattle.model.specs.View.{view_of}
 use Rattle.demands.specs.Slave.{AnySlave, ours}

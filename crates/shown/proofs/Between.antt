@@ -1,16 +1,7 @@
 -- Runs of ours with commands between two that belong together: GET_SEED and UNLOCK, SHORT_UPLOAD and UPLOAD, and the allocations of a plan, asked by packets
 -- with any reserved bytes and bytes behind. Every premise is met, and the answers show that the commands between were heard. Assumes nothing.
-use Prim.Native.Nat.{ℕ, ◌^◌, ◌<◌}
-use mathlib.Core.Path.{◌≡◌, refl, sym, ap, subst}
-use mathlib.Core.Logic.{inl, ⊎_elim}
-use mathlib.Core.Bool.{Bool, true, false, ◌&&◌}
-use mathlib.Core.Option.{Option, some}
-use mathlib.Core.List.{List, [], ◌∷◌, ◌++◌, map}
-use native.Mathlib.Omega.{arith}
-use lib.Dec.{ltb, lit<, lit≤}
-use lib.ListN.{take, drop}
-use borrow.Author.Tests.{ltb-true}
-use Rattle.line.proofs.Stuffed.{false_true}
+use Rattle.std.proofs.Common.{◌≡◌, ℕ, ◌^◌, ◌<◌, inl, ⊎_elim, Bool, true, false, ◌&&◌, List, [], ◌∷◌, ◌++◌, map, take, drop, ltb, refl, sym, ap, subst, arith, lit<, lit≤, ltb-true, Option, Some}
+use Rattle.std.proofs.lemmas.Bool.{and_parts}
 use Rattle.state.specs.State.{consistent, bit_of}
 use Rattle.words.specs.declared.Resource.TheVariants.{Calibration, Lists}
 use Rattle.model.specs.Model.{Bytes, has_answer}
@@ -36,18 +27,16 @@ low_in (Event cal meas event clock ∷ cs) = low cal && (low meas && low_in cs)
 low_in (SendingSlot out ∷ cs) = low_in cs
 low_in (Elsewhere ∷ cs) = low_in cs
 
-both : {P Q : Type 0} (x y : Bool) → (x ≡ true → P) → (y ≡ true → Q) → x && y ≡ true → P × Q
-both true y f g e = (f refl, g e)
-both false y f g e = absurd (false_true e)
-
 lent_so : (cs : List Call) → low_in cs ≡ true → LentBytes cs
 unfolding low_in
 lent_so [] e = tt
 lent_so (Byte cal meas b ∷ cs) e =
-    let w = both (low cal) (low meas && (ltb b 256 && low_in cs)) (low_bytes cal) (both (low meas) (ltb b 256 && low_in cs) (low_bytes meas) (both (ltb b 256) (low_in cs) (ltb-true b 256) (lent_so cs))) e in
-    (w.0, w.1.0, w.1.1.0, w.1.1.1)
+    let x = and_parts (low cal) (low meas && (ltb b 256 && low_in cs)) e in
+    let y = and_parts (low meas) (ltb b 256 && low_in cs) x.1 in
+    let z = and_parts (ltb b 256) (low_in cs) y.1 in (low_bytes cal x.0, low_bytes meas y.0, ltb-true b 256 z.0, lent_so cs z.1)
 lent_so (Event cal meas event clock ∷ cs) e =
-    let w = both (low cal) (low meas && low_in cs) (low_bytes cal) (both (low meas) (low_in cs) (low_bytes meas) (lent_so cs)) e in (w.0, w.1.0, w.1.1)
+    let x = and_parts (low cal) (low meas && low_in cs) e in
+    let y = and_parts (low meas) (low_in cs) x.1 in (low_bytes cal x.0, low_bytes meas y.0, lent_so cs y.1)
 lent_so (SendingSlot out ∷ cs) e = lent_so cs e
 lent_so (Elsewhere ∷ cs) e = lent_so cs e
 
@@ -74,7 +63,7 @@ comes changes s cs p = record {
 }
 
 unfoldable heard : List ℕ → List (List ℕ) → Come
-heard p said = record { kept = true; lent = true; ended = some p; opened = true; waits = false; answers = said }
+heard p said = record { kept = true; lent = true; ended = Some p; opened = true; waits = false; answers = said }
 
 -- nothing was changed, and it is heard
 pub record Comes (changes : List ℕ → List ℕ → Bool) (s : List ℕ) (cs : List Call) (p : List ℕ) (said : List (List ℕ)) : Type 0 where
@@ -87,7 +76,7 @@ comes_so : (changes : List ℕ → List ℕ → Bool) (s : List ℕ) (cs : List 
 unfolding comes heard
 comes_so changes s cs p said k = record {
   kept = never_so (answered changes) ours s cs (ap (λ x. x.kept) k);
-  lent = both (low_in cs) (ltb (last_byte p) 256) (lent_so cs) (ltb-true (last_byte p) 256) (ap (λ x. x.lent) k);
+  lent = let w = and_parts (low_in cs) (ltb (last_byte p) 256) (ap (λ x. x.lent) k) in (lent_so cs w.0, ltb-true (last_byte p) 256 w.1);
   command = record { ends = ap (λ x. x.ended) k; opened = ap (λ x. x.opened) k; free = ap (λ x. x.waits) k };
   answers = ap (λ x. x.answers) k;
 }

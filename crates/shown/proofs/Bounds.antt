@@ -1,9 +1,5 @@
 -- A run of ours from power-up in which every premise of demand 3 is met, and its bounds are just enough. That a smaller one fails is in `TooFew`. Assumes nothing.
-use Prim.Native.Nat.{ℕ}
-use mathlib.Core.Path.{◌≡◌, refl, ap, sym, ◌∙◌}
-use mathlib.Core.Bool.{Bool, true}
-use mathlib.Core.List.{List, [], ◌∷◌, map}
-use lib.ListN.{get_or}
+use Rattle.std.proofs.Common.{◌≡◌, ℕ, Bool, true, List, [], ◌∷◌, map, get_or, refl, sym, ap, ◌∙◌}
 use Rattle.state.specs.State.{consistent}
 use Rattle.model.specs.View.{session_of}
 use Rattle.views.specs.Events.{takes_sample}

@@ -1,9 +1,6 @@
 -- Lives of ours with a power-up in them: the CTR begins at 0 again, what DOWNLOAD wrote lasts, and what three wrong keys had shut is open again; a list is
 -- started. Assumes nothing.
-use Prim.Native.Nat.{ℕ}
-use mathlib.Core.Path.{◌≡◌, refl}
-use mathlib.Core.Bool.{true}
-use mathlib.Core.List.{List, [], ◌∷◌, ◌++◌}
+use Rattle.std.proofs.Common.{◌≡◌, ℕ, true, List, [], ◌∷◌, ◌++◌, refl}
 use Rattle.line.specs.Message.{frame}
 use Rattle.model.specs.View.{session_of}
 use Rattle.demands.specs.Slave.{ours}

@@ -1,10 +1,7 @@
 -- Whether a test holds at no byte of a run can be computed. Assumes nothing.
-use Prim.Native.Nat.{ℕ}
-use mathlib.Core.Path.{◌≡◌}
-use mathlib.Core.Bool.{Bool, true, false, cond}
-use mathlib.Core.List.{List, [], ◌∷◌}
+use Rattle.std.proofs.Common.{◌≡◌, ℕ, Bool, true, false, cond, List, [], ◌∷◌}
+use Rattle.std.proofs.lemmas.Bool.{false≢true}
 use Rattle.line.proofs.Laws.{cond_ind}
-use Rattle.line.proofs.Stuffed.{false_true}
 use Rattle.demands.specs.Slave.{AnySlave}
 use Rattle.demands.specs.Runs.{Call, Byte, Event, SendingSlot, Elsewhere, after_call, Never}
 
@@ -20,7 +17,7 @@ unfolding never
 never_so test v s [] e = tt
 never_so test v s (Byte cal meas b ∷ cs) e =
     cond_ind (λ (t : Bool). t ≡ true → (test s cal meas b ≡ false) × Never test v (after_call v s (Byte cal meas b)) cs) (test s cal meas b)
-    (λ _ x. absurd (false_true x)) (λ f x. (f, never_so test v (after_call v s (Byte cal meas b)) cs x)) e
+    (λ _ x. absurd (false≢true x)) (λ f x. (f, never_so test v (after_call v s (Byte cal meas b)) cs x)) e
 never_so test v s (Event cal meas event clock ∷ cs) e = never_so test v (after_call v s (Event cal meas event clock)) cs e
 never_so test v s (SendingSlot out ∷ cs) e = never_so test v (after_call v s (SendingSlot out)) cs e
 never_so test v s (Elsewhere ∷ cs) e = never_so test v s cs e

@@ -1,14 +1,10 @@
 -- Runs of ours that meet premises which no other run here meets: a good message while an answer waits; a wrong key; SHORT_DOWNLOAD; three wrong keys, and
 -- GET_SEED and UNLOCK after them; an allocation that fills the pool, and one that passes it. Assumes nothing.
-use Prim.Native.Nat.{ℕ}
-use mathlib.Core.Path.{◌≡◌, refl}
-use mathlib.Core.Bool.{true}
-use mathlib.Core.Option.{Option, none, some}
-use mathlib.Core.List.{List, [], ◌∷◌, ◌++◌}
+use Rattle.std.proofs.Common.{◌≡◌, ℕ, true, List, [], ◌∷◌, ◌++◌, Some, Ok, refl}
+use Rattle.std.proofs.Math.Option.{Option as Fault, none as no_fault, some as fault_of}
 use Rattle.state.specs.State.{consistent}
 use Rattle.model.specs.Model.{has_answer}
 use Rattle.model.specs.View.{session_of, view_of}
-use Rattle.words.specs.declared.Received.TheVariants.{Unread}
 use Rattle.demands.specs.Slave.{ours}
 use Rattle.demands.specs.Runs.{Call}
 use Rattle.demands.specs.Heard.{packet_ended, Commands, wrong_key}
@@ -17,13 +13,14 @@ use Rattle.demands.specs.StaysShut.{wrong_in}
 use Rattle.shown.specs.Exchange.{says, asks, ask_all, begun, last_byte, device, powered_on, reached, connect, synch, seed_of_calibration, key_of_calibration, key_of_lists, tries, download_first, pair, loading_first, listable, free_lists, alloc_lists, alloc_odts, alloc_entries, with_lists, freed_again}
 use Rattle.shown.proofs.Computed.{computed, told}
 use Rattle.shown.proofs.Taken.{asked, heard_so}
+use Rattle.words.specs.declared.Heard.TheVariants.{Unread}
 
 -- ---- CONNECT's answer waits, and SYNCH comes whole: number 6
 abbrev waiting : List ℕ
 waiting = reached ours (says [] [] connect ++ begun [] [] synch)
 
-pub meanwhile_met : (consistent waiting ≡ true) × (has_answer (view_of waiting) ≡ true) × (packet_ended waiting (last_byte synch) ≡ some synch)
-    × ((ours.receive waiting [] [] (last_byte synch)).received ≡ Unread)
+pub meanwhile_met : (consistent waiting ≡ true) × (has_answer (view_of waiting) ≡ true) × (packet_ended waiting (last_byte synch) ≡ Some synch)
+    × ((ours.receive waiting [] [] (last_byte synch)).received ≡ Ok Unread)
 unfolding computed
 meanwhile_met = (refl, refl, refl, refl)
 
@@ -63,7 +60,7 @@ unfolding computed
 stays_shut_met = ((refl, record { ends = refl; opened = refl; free = refl }, refl, refl), (refl, record { ends = refl; opened = refl; free = refl }, refl, refl))
 
 -- ---- the pool: after these commands allocation p has that first fault, and is answered a
-abbrev Fills : List Call → List ℕ → Option ℕ → List ℕ → Type 0
+abbrev Fills : List Call → List ℕ → Fault ℕ → List ℕ → Type 0
 Fills cs p fault a = asked ours (reached ours (cs ++ begun [] [] p)) [] p ≡ heard_so p fault a
 
 abbrev full : List ℕ
@@ -76,7 +73,7 @@ fine = 0xFF ∷ []
 abbrev free_lists_done : List Call
 free_lists_done = listable ++ asks [] [] free_lists
 
-pub lists_met : Fills free_lists_done (alloc_lists 8) none fine × Fills free_lists_done (alloc_lists 9) (some 0x30) full
+pub lists_met : Fills free_lists_done (alloc_lists 8) no_fault fine × Fills free_lists_done (alloc_lists 9) (fault_of 0x30) full
 unfolding computed told asked heard_so
 lists_met = (refl, refl)
 
@@ -84,7 +81,7 @@ lists_met = (refl, refl)
 abbrev two_taken : List Call
 two_taken = listable ++ ask_all [] [] (free_lists ∷ alloc_lists 2 ∷ alloc_odts 0 2 ∷ [])
 
-pub odts_met : Fills two_taken (alloc_odts 1 14) none fine × Fills two_taken (alloc_odts 1 15) (some 0x30) full
+pub odts_met : Fills two_taken (alloc_odts 1 14) no_fault fine × Fills two_taken (alloc_odts 1 15) (fault_of 0x30) full
 unfolding computed told asked heard_so
 odts_met = (refl, refl)
 
@@ -92,11 +89,11 @@ odts_met = (refl, refl)
 abbrev one_taken : List Call
 one_taken = with_lists 1 ++ asks [] [] (alloc_entries 0 0 1)
 
-pub entries_met : Fills one_taken (alloc_entries 0 1 127) none fine × Fills one_taken (alloc_entries 0 1 128) (some 0x30) full
+pub entries_met : Fills one_taken (alloc_entries 0 1 127) no_fault fine × Fills one_taken (alloc_entries 0 1 128) (fault_of 0x30) full
 unfolding computed told asked heard_so
 entries_met = (refl, refl)
 
 -- an entry was written and freed: all 128 are there again
-pub whole_again_met : Fills freed_again (alloc_entries 0 0 128) none fine
+pub whole_again_met : Fills freed_again (alloc_entries 0 0 128) no_fault fine
 unfolding computed told asked heard_so
 whole_again_met = refl

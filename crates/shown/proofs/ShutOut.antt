@@ -1,19 +1,11 @@
 -- Each wrong slave fails the demand that is to shut it out: one run of it is computed. Assumes nothing.
-use Prim.Native.Nat.{ℕ, ◌+◌, ◌-◌, ◌≤◌}
-use mathlib.Core.Path.{◌≡◌, refl, ap, sym, ◌∙◌, subst}
-use mathlib.Core.Logic.{◌≢◌}
-use mathlib.Core.Bool.{Bool, true, false, cond}
-use mathlib.Core.Option.{Option, none, some}
-use mathlib.Core.List.{List, [], ◌∷◌, ◌++◌}
-use native.Mathlib.Omega.{arith}
-use lib.Dec.{lit<, lit≤}
-use lib.ListN.{length, get_or, replicate}
+use Rattle.std.proofs.Common.{◌≡◌, ℕ, ◌+◌, ◌-◌, ◌≤◌, Bool, true, false, cond, List, [], ◌∷◌, ◌++◌, length, get_or, replicate, Option, Some, None, Ok, refl, sym, ap, ◌∙◌, subst, arith, lit<, lit≤}
+use Rattle.std.proofs.Math.Option.{none as no_fault, some as fault_of}
 use Rattle.line.specs.Message.{longest, room}
 use Rattle.line.specs.Number.{outcome_number}
 use Rattle.line.specs.Run as line
 use Rattle.line.specs.Wire.{heard}
 use Rattle.line.specs.declared.Place.TheVariants.{Outside}
-use Rattle.line.specs.declared.Outcome.TheVariants.{Nothing}
 use Rattle.state.specs.Layout.{address_at, session_at}
 use Rattle.state.specs.Bytes.{block}
 use Rattle.state.specs.State.{consistent}
@@ -26,7 +18,7 @@ use Rattle.words.specs.declared.Mta.TheVariants.{Unset, At}
 use Rattle.model.specs.Calls.{turn_in, packet_for}
 use Rattle.model.specs.Model.{byte, has_answer}
 use Rattle.model.specs.View.{session_of, view_of}
-use Rattle.views.specs.Commands.{Part, TheGenerator, TheWrongKeys, WhetherOpen, TheLocks, TheSeed, TheMta, ThePointer, WhetherFreed, HowManyLists, TheRound, TheLists, Obeys}
+use Rattle.views.specs.Commands.{TheRound, Obeys}
 use Rattle.demands.specs.Slave.{AnySlave, ours}
 use Rattle.demands.specs.Runs.{Byte, Event, SendingSlot}
 use Rattle.demands.specs.Heard.{packet_ended}
@@ -118,7 +110,7 @@ exchanged v cal s t p q =
 
 -- both commands are heard, with the MTA at x and at y; the first is answered FF, the second a
 ready : List ℕ → Mta → Standing
-ready p x = record { sound = true; ended = some p; opened = true; waiting = false; place = x }
+ready p x = record { sound = true; ended = Some p; opened = true; waiting = false; place = x }
 
 answers : List ℕ → List ℕ → Mta → Mta → List ℕ → Exchanged
 answers p q x y a = record { before = ready p x; first = 0xFF ∷ []; between = ready q y; second = a }
@@ -176,7 +168,7 @@ pub sums_escaped_fails : Demand2 sums_escaped → ⊥
 unfolding computed
 sums_escaped_fails d =
     let s : List ℕ = reached sums_escaped (asks [] [] connect ++ says (0x9A ∷ []) [] upload_first) in
-    let e : ◌≡◌ {A = ℕ} 5 1 = ap (λ r. outcome_number (get_or r.outcomes 6 Nothing)) (read_back (0x9A ∷ 2 ∷ 1 ∷ 0xFF ∷ 0x9B ∷ 1 ∷ 0x9E ∷ []) s (0xFF ∷ 0x9A ∷ []) refl (d.wire.reads_back s (replicate room 0) refl (lit≤ tt))) in omega arith
+    let e : ◌≡◌ {A = ℕ} 5 1 = ap (λ r. outcome_number (get_or r.outcomes 6 (Ok None))) (read_back (0x9A ∷ 2 ∷ 1 ∷ 0xFF ∷ 0x9B ∷ 1 ∷ 0x9E ∷ []) s (0xFF ∷ 0x9A ∷ []) refl (d.wire.reads_back s (replicate room 0) refl (lit≤ tt))) in omega arith
 
 -- ---- events
 -- list 0 is sampled, and no packet waits
@@ -207,29 +199,7 @@ pub keeps_freed_fails : Checked keeps_freed → ⊥
 unfolding computed told asked heard_so
 keeps_freed_fails d =
     let p : List ℕ = alloc_entries 0 0 128 in
-    let e : ◌≡◌ {A = ℕ} 0xFE 0xFF = done_so keeps_freed (reached keeps_freed (freed_again ++ begun [] [] p)) [] p none (0xFE ∷ 0x30 ∷ []) refl refl d in omega arith
-
--- one part of a session is not another
-part_number : Part → ℕ
-part_number TheGenerator = 0
-part_number TheWrongKeys = 1
-part_number WhetherOpen = 2
-part_number TheLocks = 3
-part_number TheSeed = 4
-part_number TheMta = 5
-part_number ThePointer = 6
-part_number WhetherFreed = 7
-part_number HowManyLists = 8
-part_number TheRound = 9
-part_number TheLists = 10
-
-round_not_many : TheRound ≢ HowManyLists
-unfolding part_number
-round_not_many e = let n : ◌≡◌ {A = ℕ} 9 8 = ap part_number e in omega arith
-
-round_not_lists : TheRound ≢ TheLists
-unfolding part_number
-round_not_lists e = let n : ◌≡◌ {A = ℕ} 9 10 = ap part_number e in omega arith
+    let e : ◌≡◌ {A = ℕ} 0xFE 0xFF = done_so keeps_freed (reached keeps_freed (freed_again ++ begun [] [] p)) [] p no_fault (0xFE ∷ 0x30 ∷ []) refl refl d in omega arith
 
 -- after FREE_DAQ two lists are allocated, and the round begins with the second
 pub begins_behind_fails : Obeys (Obeyed begins_behind) → ⊥
@@ -238,7 +208,7 @@ begins_behind_fails d =
     let p : List ℕ = alloc_lists 2 in
     let s : List ℕ = reached begins_behind (listable ++ (asks [] [] free_lists ++ begun [] [] p)) in
     let law = d.alloc_daq p (session_of s) [] [] (left begins_behind s [] p) (taken_so_lem begins_behind s [] p (lit< tt) refl) refl refl in
-    let e : ◌≡◌ {A = ℕ} 1 0 = law.rest TheRound round_not_many round_not_lists in omega arith
+    let e : ◌≡◌ {A = ℕ} 1 0 = law.rest TheRound (λ n. cc) (λ n. cc) in omega arith
 
 -- ---- slips
 -- refused for want of memory, UPLOAD of 1 moves the MTA from 0 to 1
@@ -306,7 +276,7 @@ pub shuts_first_fails : Checked shuts_first → ⊥
 unfolding computed told asked heard_so
 shuts_first_fails d =
     let s : List ℕ = reached shuts_first (ask_all [] [] (tries 3 ++ connect ∷ []) ++ begun [] [] (0xF8 ∷ [])) in
-    let e : ◌≡◌ {A = ℕ} 0x25 0x21 = ap (λ a. get_or a 1 0) (refused_so shuts_first s [] (0xF8 ∷ []) (some 0x21) (0xFE ∷ 0x25 ∷ []) refl 0x21 refl d) in omega arith
+    let e : ◌≡◌ {A = ℕ} 0x25 0x21 = ap (λ a. get_or a 1 0) (refused_so shuts_first s [] (0xF8 ∷ []) (fault_of 0x21) (0xFE ∷ 0x25 ∷ []) refl 0x21 refl d) in omega arith
 
 -- ---- slices
 -- CONNECT and a byte behind it are lent: seven bytes count as taken, and the byte call ended the command with the sixth

@@ -1,11 +1,6 @@
 -- Every starred case of the bench sheet, by computation. Assumes nothing.
-use Prim.Native.Nat.{ℕ}
-use mathlib.Core.Path.{◌≡◌, refl, ap, sym, ◌∙◌, subst}
-use mathlib.Core.Bool.{Bool, true, false}
-use mathlib.Core.Option.{Option, some}
-use mathlib.Core.List.{List, [], ◌∷◌}
-use lib.ListN.{length}
-use lib.Seq.{sets}
+use Rattle.std.proofs.Common.{◌≡◌, ℕ, Bool, true, false, List, [], ◌∷◌, length, refl, sym, ap, ◌∙◌, subst, Option, Some}
+use Rattle.std.proofs.Math.Seq.{sets}
 use Rattle.state.specs.Layout.{addressable}
 use Rattle.state.specs.State.{consistent}
 use Rattle.session.specs.Receive.{obeyed}
@@ -112,7 +107,7 @@ standing : List ℕ → ℕ → Standing
 standing s b = record { sound = consistent s; ended = packet_ended s b; waiting = has_answer (view_of s); opened = (session_of s).opened }
 
 ready : Standing
-ready = record { sound = true; ended = some (download 62); waiting = false; opened = true }
+ready = record { sound = true; ended = Some (download 62); waiting = false; opened = true }
 
 -- the deed follows from the memory's length
 the_62 : (v : AnySlave) (s cal meas : List ℕ) (b : ℕ) (d : Deed) → Demand2 v → standing s b ≡ ready → length cal ≡ addressable → ((nm : ℕ) → judge_in (download 62) (session_of s) addressable nm ≡ d)

@@ -1,12 +1,6 @@
 -- The bounds of demand 3 on a list's packets are tight, with as many lists as the pool allows: one slot less is too few. Assumes nothing.
 -- Each of L lists has a sample of two packets, the last list's come last in the round, and an answer goes before each packet.
-use Prim.Native.Nat.{ℕ, zero, suc, ◌+◌, ◌*◌, ◌-◌, ◌≤◌, ◌<◌}
-use mathlib.Core.Path.{◌≡◌, refl, ap, sym, subst₂}
-use mathlib.Core.Bool.{Bool, true}
-use mathlib.Core.List.{List, [], ◌∷◌}
-use native.Mathlib.Omega.{arith}
-use lib.Dec.{lit≤}
-use lib.ListN.{length, length-append}
+use Rattle.std.proofs.Common.{◌≡◌, ℕ, zero, suc, ◌+◌, ◌-◌, ◌*◌, ◌≤◌, ◌<◌, Bool, true, List, [], ◌∷◌, length, refl, sym, ap, subst₂, arith, lit≤, length-append}
 use Rattle.state.specs.State.{consistent}
 use Rattle.model.specs.View.{session_of}
 use Rattle.views.specs.Events.{takes_sample}

@@ -1,6 +1,5 @@
 -- Wrong slaves, to be shut out by name: each is ours but for one thing.
-use Rattle.std.specs.Prelude.{ℕ, zero, suc, ◌+◌, ◌%◌, Bool, true, false, cond, List, [], ◌∷◌, ◌++◌, eqb, ltb, leb, length, get_or, set, take, drop}
-use Rattle.std.proofs.Math.Option.{Option, none, some}
+use Rattle.std.specs.Prelude.{ℕ, zero, suc, ◌+◌, ◌%◌, Bool, true, false, cond, List, [], ◌∷◌, ◌++◌, eqb, ltb, leb, length, get_or, set, take, drop, Option, Some, None, Ok, Err}
 use Rattle.line.specs.Stuffing.{stuff, on_wire}
 use Rattle.line.specs.Message.{sum}
 use Rattle.line.specs.Writer.{at_front}
@@ -25,11 +24,8 @@ use Rattle.model.specs.declared.Sampling.TheVariants.{Idle as Unsampled, Sampled
 use Rattle.words.specs.declared.Reason.TheVariants.{Unknown, Locked, PoolFull}
 use Rattle.words.specs.declared.Mta.{Mta}
 use Rattle.words.specs.declared.Mta.TheVariants.{Unset, At}
-use Rattle.words.specs.declared.Received.TheVariants.{Silent, BadChecksum}
-use Rattle.words.specs.declared.Evented.{Evented}
-use Rattle.words.specs.declared.Evented.TheVariants.{Done, BadEvent, NoState as EventNoState}
-use Rattle.words.specs.declared.Slotted.{Slotted}
-use Rattle.words.specs.declared.Slotted.TheVariants.{Idle, Sent, NoRoom, NoState as SlotNoState}
+use Rattle.words.specs.Values.{Evented, event_done, Slotted}
+use Rattle.words.specs.declared.Heard.TheVariants.{Silent, BadChecksum}
 use Rattle.session.specs.Slice.{Slice, taking, receive_bytes_of}
 use Rattle.demands.specs.Slave.{AnySlave}
 use Rattle.demands.specs.Slices.{SliceCall}
@@ -51,8 +47,8 @@ abbrev pub Heed : Type 0
 Heed = List ℕ → List ℕ → List ℕ → List ℕ → Step
 
 abbrev pub heard_by : Heed → Option (List ℕ) → List ℕ → List ℕ → List ℕ → ℕ → Step
-heard_by heed none s cal meas b = receive_of s cal meas b
-heard_by heed (some p) s cal meas b = cond (waits s) (receive_of s cal meas b) (heed p (read_by s b) cal meas)
+heard_by heed None s cal meas b = receive_of s cal meas b
+heard_by heed (Some p) s cal meas b = cond (waits s) (receive_of s cal meas b) (heed p (read_by s b) cal meas)
 
 abbrev pub heeding : Heed → AnySlave
 heeding heed = receiving (λ s cal meas b. cond (consistent s) (heard_by heed (packet_ended s b) s cal meas b) (receive_of s cal meas b))
@@ -63,11 +59,11 @@ refuses_always = heeding (λ p s cal meas. obeyed (Refuse Unknown) p s cal meas)
 
 -- CONNECT is ours, and no other command is answered: it changes the reader's place alone
 abbrev pub silent : AnySlave
-silent = heeding (λ p s cal meas. cond (good_connect p) (heeded p s cal meas) (only Silent s cal))
+silent = heeding (λ p s cal meas. cond (good_connect p) (heeded p s cal meas) (only (Ok Silent) s cal))
 
 -- CONNECT is ours, and in a session every other command is refused
 abbrev pub only_connects : AnySlave
-only_connects = heeding (λ p s cal meas. cond (good_connect p) (heeded p s cal meas) (cond (open_of s) (obeyed (Refuse Unknown) p s cal meas) (only Silent s cal)))
+only_connects = heeding (λ p s cal meas. cond (good_connect p) (heeded p s cal meas) (cond (open_of s) (obeyed (Refuse Unknown) p s cal meas) (only (Ok Silent) s cal)))
 
 -- what is done is ours, and each answer is FF alone
 abbrev pub with_ff : Step → Step
@@ -85,7 +81,7 @@ stores_nothing = heeding (λ p s cal meas. unstored (heeded p s cal meas) cal)
 
 -- the packet of a message that has just ended, with a right checksum or not
 abbrev pub packet_anyway : List ℕ → ℕ → Option (List ℕ)
-packet_anyway s b = cond (eqb (outcome_number (fed_of s b).taken.outcome) 5) (some (packet_inside (fed_of s b).message)) (packet_ended s b)
+packet_anyway s b = cond (eqb (outcome_number (fed_of s b).taken.outcome) 5) (Some (packet_inside (fed_of s b).message)) (packet_ended s b)
 
 -- a message whose checksum is wrong is obeyed too
 abbrev pub obeys_damaged : AnySlave
@@ -102,21 +98,20 @@ summed_in m = take (get_or m 0 0 + 2) m
 abbrev pub reads_escaped : AnySlave
 reads_escaped =
     receiving (λ s cal meas b. cond (consistent s) (cond (message_ends_at s b)
-    (cond (eqb b (sum (stuff (summed_in (fed_of s b).message)) % 256)) (heeded (packet_inside (fed_of s b).message) (read_by s b) cal meas) (only BadChecksum (read_by s b) cal))
+    (cond (eqb b (sum (stuff (summed_in (fed_of s b).message)) % 256)) (heeded (packet_inside (fed_of s b).message) (read_by s b) cal meas) (only (Ok BadChecksum) (read_by s b) cal))
     (receive_of s cal meas b)) (receive_of s cal meas b))
 
 -- ---- slots
 -- a frame is followed at once by what `rest` sends into the bytes after it
 abbrev pub followed : Slotted → Slot → (List ℕ → List ℕ → Slot) → Slot
-followed Idle o rest = o
-followed (Sent n) o rest =
+followed (Ok None) o rest = o
+followed (Ok (Some n)) o rest =
     record {
-      slotted = Sent (n + slotted_value (rest o.state (drop n o.out)).slotted);
+      slotted = Ok (Some (n + slotted_value (rest o.state (drop n o.out)).slotted));
       state = (rest o.state (drop n o.out)).state;
       out = take n o.out ++ (rest o.state (drop n o.out)).out;
     }
-followed NoRoom o rest = o
-followed SlotNoState o rest = o
+followed (Err refusal) o rest = o
 
 unfoldable pub slots_up_to : ℕ → List ℕ → List ℕ → Slot
 slots_up_to zero s out = slot_of s out
@@ -135,11 +130,10 @@ summed ctr p = on_wire (escaped_sum (length p ∷ ctr ∷ p))
 
 -- the packet whose turn it was stands in such a frame
 abbrev pub in_frames : Slotted → List (List ℕ) → Slot → ℕ → List ℕ → Slot
-in_frames Idle ps o ctr out = o
-in_frames (Sent n) [] o ctr out = o
-in_frames (Sent n) (p ∷ ps) o ctr out = record { slotted = Sent (length (summed ctr p)); state = o.state; out = at_front (summed ctr p) out }
-in_frames NoRoom ps o ctr out = o
-in_frames SlotNoState ps o ctr out = o
+in_frames (Ok None) ps o ctr out = o
+in_frames (Ok (Some n)) [] o ctr out = o
+in_frames (Ok (Some n)) (p ∷ ps) o ctr out = record { slotted = Ok (Some (length (summed ctr p))); state = o.state; out = at_front (summed ctr p) out }
+in_frames (Err refusal) ps o ctr out = o
 
 abbrev pub sums_escaped : AnySlave
 sums_escaped = sending (λ s out. in_frames (slot_of s out).slotted (packet_for (turn_of s) (view_of s)) (slot_of s out) (ctr_of s) out)
@@ -151,18 +145,16 @@ never_samples = happening (λ s cal meas event clock. record { evented = (event_
 
 -- samples are ours; a done event counts one sampled list more
 abbrev pub one_sampled_more : Evented → Evented
-one_sampled_more (Done sampled missed) = Done (suc sampled) missed
-one_sampled_more BadEvent = BadEvent
-one_sampled_more EventNoState = EventNoState
+one_sampled_more (Ok counted) = event_done (suc counted.sampled) counted.missed
+one_sampled_more (Err refusal) = Err refusal
 
 abbrev pub invents_counts : AnySlave
 invents_counts = happening (λ s cal meas event clock. record { evented = one_sampled_more (event_of s cal meas event clock).evented; state = (event_of s cal meas event clock).state })
 
 -- and one that counts one missed list more
 abbrev pub one_missed_more : Evented → Evented
-one_missed_more (Done sampled missed) = Done sampled (suc missed)
-one_missed_more BadEvent = BadEvent
-one_missed_more EventNoState = EventNoState
+one_missed_more (Ok counted) = event_done counted.sampled (suc counted.missed)
+one_missed_more (Err refusal) = Err refusal
 
 abbrev pub invents_missed : AnySlave
 invents_missed = happening (λ s cal meas event clock. record { evented = one_missed_more (event_of s cal meas event clock).evented; state = (event_of s cal meas event clock).state })

@@ -11,76 +11,56 @@ ghost use Rattle.lists.specs.Event.{event_of};
 ghost use Rattle.lists.specs.Slot.{slot_of};
 ghost use Rattle.session.specs.PowerUp.{power_up_of};
 ghost use Rattle.lists.specs.Slot.{Small};
-ghost use Rattle.words.specs.Number.{received_c, evented_c, slotted_c, powered_up_c};
+ghost use Rattle.words.specs.Number.{received_c, evented_c, slotted_c};
 ghost use Rattle.slave.specs.Returns.{PowersUpC, ReceivesC, TakesC, HappensC, SendsC};
 
 use session::Took;
-use words::{Evented, PoweredUp, Received, Slotted};
+use words::{Counted, EventRefusal, Numbered, SlotRefusal};
 
-fn received(r: Received) -> u32
-    ensures { result ≡ received_c r }
+// An answer's number, above the 16 bits of its value.
+fn number_above<R: Numbered>(answer: R) -> u32
+    ensures { result ≡ 65536 * R.numbers answer }
 {
-    match r {
-        Received::Nothing => 0,
-        Received::Answered => 65_536,
-        Received::Silent => 131_072,
-        Received::BadLength => 196_608,
-        Received::BadEscape => 262_144,
-        Received::BadChecksum => 327_680,
-        Received::Unread => 393_216,
-        Received::CutOff => 458_752,
-        Received::NoState => 655_360,
-    }
+    65_536 * u32::from(answer.number())
 }
 
 fn took(r: Took) -> u64
     ensures { result ≡ received_c r.received + 4294967296 * r.taken }
 {
-    let answer = r.received;
-    received(answer) as u64 + 4_294_967_296 * r.taken as u64
+    u64::from(number_above(r.received)) + 4_294_967_296 * u64::from(r.taken)
 }
 
-fn evented(r: Evented) -> u32
+fn evented(r: Result<Counted, EventRefusal>) -> u32
     ensures { result ≡ evented_c r }
 {
-    match r {
-        Evented::Done { sampled, missed } => 256 * sampled as u32 + missed as u32,
-        Evented::BadEvent => 524_288,
-        Evented::NoState => 655_360,
-    }
+    let value = match r {
+        Ok(Counted { sampled, missed }) => 256 * sampled as u32 + missed as u32,
+        Err(_) => 0,
+    };
+    value + number_above(r)
 }
 
-fn slotted(r: Slotted) -> u32
+fn slotted(r: Result<Option<usize>, SlotRefusal>) -> u32
     requires { Small r }
     ensures { result ≡ slotted_c r }
 {
-    match r {
-        Slotted::Idle => 0,
-        Slotted::Sent { size } => size as u32,
-        Slotted::NoRoom => 589_824,
-        Slotted::NoState => 655_360,
-    }
-}
-
-fn powered_up(r: PoweredUp) -> u32
-    ensures { result ≡ powered_up_c r }
-{
-    match r {
-        PoweredUp::Done => 0,
-        PoweredUp::NoState => 655_360,
-    }
+    let value = match r {
+        Ok(Some(size)) => size as u32,
+        Ok(None) | Err(_) => 0,
+    };
+    value + number_above(r)
 }
 
 pub fn xcp_power_up(state: &mut [u8], start: u32) -> u32
     ensures { PowersUpC (power_up_of state.old start) result state.new }
 {
-    powered_up(session::power_up(state, start))
+    number_above(session::power_up(state, start))
 }
 
 pub fn xcp_receive_byte(state: &mut [u8], cal: &mut [u8], meas: &[u8], byte: u8) -> u32
     ensures { ReceivesC (receive_of state.old cal.old meas.now byte) result state.new cal.new }
 {
-    received(session::receive_byte(state, cal, meas, byte))
+    number_above(session::receive_byte(state, cal, meas, byte))
 }
 
 pub fn xcp_receive(state: &mut [u8], cal: &mut [u8], meas: &[u8], bytes: &[u8]) -> u64

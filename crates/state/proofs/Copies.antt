@@ -1,6 +1,7 @@
 -- Copies made from the back: first what lies behind, then what lies before it. Assumes nothing.
 use Rattle.std.proofs.Common.{◌≡◌, ℕ, suc, ◌+◌, ◌-◌, ◌<◌, ◌≤◌, List, [], ◌∷◌, ◌++◌, length, get_or, take, drop, set, sym, refl, ap, ◌∙◌, add-zero, add-suc, suc-add, arith, drop-cons, drop-drop, take-add}
-use lib.Seq.{sets, set_comm, take-set-le, drop-set-add}
+use Rattle.std.proofs.lemmas.List.Edits.{sets}
+use Rattle.std.proofs.lemmas.List.{set_comm, take-set-le, drop-set-add}
 use Rattle.state.specs.Bytes.{block, copied}
 use Rattle.state.proofs.Sets.{block_length}
 

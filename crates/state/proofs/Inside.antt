@@ -1,6 +1,6 @@
 -- A block inside a memory ends inside it, and within what can be addressed. Assumes nothing.
 use Rattle.std.proofs.Common.{◌≡◌, ℕ, ◌+◌, ◌≤◌, min, true, arith, leb-true}
-use native.Mathlib.Nat.{min-le_left, min-le_right}
+use Rattle.std.proofs.Math.Nat.{min-le_left, min-le_right}
 use Rattle.state.specs.Layout.{addressable}
 use Rattle.state.specs.Memory.{inside_of}
 

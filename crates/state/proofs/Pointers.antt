@@ -1,7 +1,7 @@
 -- Whatever its bytes are, the pointer is unset or at one of the entries that there are. Assumes nothing.
 use Prim.{tt}
 use Rattle.std.proofs.Common.{◌≡◌, ℕ, ◌+◌, ◌-◌, ◌/◌, ◌%◌, ◌<◌, ◌≤◌, eqb, leb, ◌≢◌, List, get_or, ne_eqb, le-leb, leb-false}
-use borrow.Author.Tests.{lt-leb}
+use Rattle.std.proofs.lemmas.Bool.{lt-leb}
 use Rattle.line.proofs.Laws.{cond_ind}
 use Rattle.state.specs.Layout.{all_odts, pointer_at, pointer_entry_at}
 use Rattle.state.specs.Pool.{list_count, first_odt, odt_count, entry_count}

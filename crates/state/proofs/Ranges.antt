@@ -1,6 +1,5 @@
 -- Laws of things that lie one behind the other in a pool, whatever their counts are. Assumes nothing.
-use Rattle.std.proofs.Common.{◌≡◌, ℕ, zero, suc, ◌+◌, ◌-◌, ◌<◌, ◌≤◌, min, Bool, true, false, ltb, ◌≢◌, List, length, get_or, refl, subst, add-zero, add-suc, arith, ltb-false, ltb-true}
-use lib.ListN.{get_or-eq_default}
+use Rattle.std.proofs.Common.{◌≡◌, ℕ, zero, suc, ◌+◌, ◌-◌, ◌<◌, ◌≤◌, min, Bool, true, false, ltb, ◌≢◌, refl, subst, add-zero, add-suc, arith, ltb-false, ltb-true}
 use Rattle.state.specs.Ranges.{start_in, count_in}
 
 -- a number is below another or not
@@ -56,22 +55,6 @@ sum_to f (suc n) = sum_to f n + f n
 pub cut_once : (pool : ℕ) (f : ℕ → ℕ) (n : ℕ) → start_in pool f n ≡ min pool (sum_to f n)
 cut_once pool f zero = omega (arith, start_zero pool f)
 cut_once pool f (suc n) = omega (arith, start_suc pool f n, cut_once pool f n)
-
--- bytes of a buffer that are not there add nothing
-sum_more : (f : ℕ → ℕ) (m d : ℕ) → ((i : ℕ) → m ≤ i → f i ≡ 0) → sum_to f (m + d) ≡ sum_to f m
-sum_more f m zero h = rw add-zero refl
-sum_more f m (suc d) h = rw add-suc (omega (arith, sum_more f m d h, h (m + d) (omega arith)))
-
-pub sum_there : (s : List ℕ) (at n : ℕ) → sum_to (λ (i : ℕ). get_or s (at + i) 0) n ≡ sum_to (λ (i : ℕ). get_or s (at + i) 0) (min n (length s - at))
-sum_there s at n =
-    by_lt (length s - at) n
-    (λ h. let m : min n (length s - at) ≡ length s - at = omega arith in
-    let e : length s - at + (n - (length s - at)) ≡ n = omega arith in
-    rw m (subst (λ (k : ℕ). sum_to f k ≡ sum_to f (length s - at)) e (sum_more f (length s - at) (n - (length s - at)) (λ i q. get_or-eq_default s 0 (omega arith)))))
-    (λ h. let m : min n (length s - at) ≡ n = omega arith in rw m refl)
-  where
-    f : ℕ → ℕ
-    f i = get_or s (at + i) 0
 
 -- equal counts, equal places
 pub start_same : (pool : ℕ) (f g : ℕ → ℕ) (n : ℕ) → ((i : ℕ) → i < n → g i ≡ f i) → start_in pool g n ≡ start_in pool f n

@@ -1,18 +1,17 @@
 -- Laws of runs of stores. Assumes nothing.
-use Rattle.std.proofs.Common.{◌≡◌, ℕ, suc, ◌+◌, ◌-◌, ◌<◌, ◌≤◌, min, List, [], ◌∷◌, ◌++◌, length, get_or, drop, set, replicate, sym, refl, ap, ◌∙◌, append-nil, add-one, arith, length-drop, length-set, drop_of_length-le, length-take-le, get_or-drop, take-suc}
-use lib.ListN.{length-replicate, replicate-append-replicate}
-use lib.Seq.{set_out, sets-eq, sets, length-sets}
-use Rattle.line.proofs.Laws.{sets_append}
+use Rattle.std.proofs.Common.{◌≡◌, ℕ, zero, suc, ◌+◌, ◌-◌, ◌<◌, ◌≤◌, min, List, [], ◌∷◌, ◌++◌, length, get_or, take, drop, drop-drop, set, replicate, sym, refl, ap, ◌∙◌, append_assoc, append-nil, add-one, arith, length-drop, length-set, drop_of_length-le, length-take-le, get_or-drop, take-suc, take_all}
+use Rattle.std.proofs.Math.ListN.{get_or-eq_default}
+use Rattle.std.proofs.lemmas.List.{length-replicate, replicate-append-replicate}
+use Rattle.std.proofs.Math.Seq.{set_out, length-sets}
+use Rattle.std.proofs.lemmas.List.Edits.{sets-eq, sets}
+use Rattle.line.proofs.Laws.{sets_append, sum_append}
 use Rattle.state.specs.Bytes.{block, copied, cleared, put32}
-use Rattle.state.proofs.Ranges.{by_lt}
+use Rattle.state.proofs.Ranges.{by_lt, sum_to}
+use Rattle.line.specs.Message.{sum}
 
 -- one byte more
 pub sets_next : (l : List ℕ) (i : ℕ) (xs : List ℕ) (n a : ℕ) → length xs ≡ n → set (sets l i xs) (i + n) a ≡ sets l i (xs ++ a ∷ [])
 sets_next l i xs n a e = rw (← e) (sets_append xs (a ∷ []) l i)
-
-pub cleared_next : (s : List ℕ) (i n : ℕ) → set (cleared s i n) (i + n) 0 ≡ cleared s i (n + 1)
-unfolding cleared
-cleared_next s i n = sets_next s i (replicate n 0) n 0 (length-replicate n 0) ∙ ap (sets s i) (replicate-append-replicate n 1 0)
 
 pub cleared_length : (s : List ℕ) (i n : ℕ) → length (cleared s i n) ≡ length s
 unfolding cleared
@@ -25,10 +24,6 @@ pub block_next : (s : List ℕ) (i n : ℕ) → i + n < length s → block s i (
 block_next s i n h =
     let k : n < length (drop i s) = simp length-drop (omega arith) in
     rw (add-one, take-suc (drop i s) n 0 k, get_or-drop i s n 0)
-
-pub copied_next : (d : List ℕ) (at : ℕ) (s : List ℕ) (from n : ℕ) → from + n < length s → set (copied d at s from n) (at + n) (get_or s (from + n) 0) ≡ copied d at s from (n + 1)
-unfolding copied
-copied_next d at s from n h = sets_next d at (block s from n) n (get_or s (from + n) 0) (block_length s from n (omega arith)) ∙ ap (sets d at) (sym (block_next s from n h))
 
 pub put32_length : (s : List ℕ) (i x : ℕ) → length (put32 s i x) ≡ length s
 unfolding put32
@@ -70,3 +65,29 @@ cleared_cut s i n =
     by_lt (length s - i) n
     (λ many. let m : min n (length s - i) ≡ length s - i = omega arith in rw m (cleared_past s i (length s - i) n (omega arith) (omega arith)))
     (λ few. let m : min n (length s - i) ≡ n = omega arith in rw m refl)
+
+-- zeros in the part that there is
+pub cleared_part : (s ys : List ℕ) (i n from k : ℕ) → from ≡ min i (length s) → k ≡ min n (length s - from) → ys ≡ replicate (length (take k (drop from s))) 0 → take from s ++ (ys ++ drop k (drop from s)) ≡ cleared s i n
+unfolding cleared
+cleared_part s ys i n from k e f g =
+    let zs : List ℕ = replicate k 0 in
+    let zeros : length zs ≡ k = length-replicate k 0 in
+    let there : length (take k (drop from s)) ≡ k = length-take-le k (drop from s) (simp length-drop (omega arith)) in
+    let inside : from + length zs ≤ length s = omega (arith, zeros) in
+    ap (λ (t : List ℕ). take from s ++ (t ++ drop k (drop from s))) (g ∙ ap (λ (m : ℕ). replicate m 0) there)
+    ∙ ap (λ (t : List ℕ). take from s ++ (zs ++ t)) (drop-drop k from s ∙ ap (λ (m : ℕ). drop (from + m) s) (sym zeros))
+    ∙ sym (append_assoc (take from s) zs (drop (from + length zs) s))
+    ∙ sym (sets-eq zs s from inside)
+    ∙ by_lt (length s) i
+    (λ past. let none : k ≡ 0 = omega arith in rw none (sym (sets_out (replicate n 0) s i (omega arith))))
+    (λ near. let at : from ≡ i = omega arith in ap (λ (m : ℕ). cleared s m k) at ∙ ap (cleared s i) (f ∙ ap (λ (m : ℕ). min n (length s - m)) at) ∙ cleared_cut s i n)
+
+-- a block's sum, byte by byte
+pub sum_block : (s : List ℕ) (i n : ℕ) → sum (block s i n) ≡ sum_to (λ (k : ℕ). get_or s (i + k) 0) n
+sum_block s i zero = refl
+sum_block s i (suc n) = by_lt (i + n) (length s)
+    (λ there. ap (λ (m : ℕ). sum (block s i m)) (sym (add-one n)) ∙ ap sum (block_next s i n there) ∙ omega (arith, sum_append (block s i n) (get_or s (i + n) 0 ∷ []), sum_block s i n))
+    (λ past.
+    let few : length (drop i s) ≤ n = simp length-drop (omega arith) in
+    let same : sum (take (suc n) (drop i s)) ≡ sum (take n (drop i s)) = ap sum (take_all (suc n) (drop i s) (omega arith) ∙ sym (take_all n (drop i s) few)) in
+    omega (arith, same, sum_block s i n, get_or-eq_default s 0 {n = i + n} past))

@@ -1,8 +1,8 @@
 -- The generator never comes to 0: each of its three shifts can be undone, so it leaves no number but 0 as 0. Assumes nothing.
 use Rattle.std.proofs.Common.{◌≡◌, ℕ, zero, suc, ◌+◌, ◌-◌, ◌*◌, ◌/◌, ◌%◌, ◌^◌, ◌<◌, eqb, ◌≢◌, List, sym, ap, ◌∙◌, mod-lt, pow-suc, div-add-mod', arith, lit<, ne_eqb}
-use borrow.Author.Tests.{eqb-false}
-use lib.Bits.{bit_xor, xor_add_and, and_le_l, and_le_r, xor_lt}
-use lib.Pow.{shr_le}
+use Rattle.std.proofs.lemmas.Bool.{eqb-false}
+use Rattle.std.proofs.lemmas.Nat.{and_le_l, and_le_r, xor_lt, shr_le}
+use lib.Bits.{bit_xor, xor_add_and}
 use Rattle.line.proofs.Laws.{cond_ind}
 use Rattle.state.specs.Layout.{generator_at}
 use Rattle.state.specs.Bytes.{u32_at}

@@ -1,5 +1,5 @@
 -- How each byte of the state reads, and the state with a field changed. Every value of every byte reads as some legal value.
-use Rattle.std.specs.Prelude.{ℕ, zero, suc, ◌+◌, ◌-◌, ◌*◌, ◌/◌, ◌%◌, ◌<◌, Bool, false, cond, List, ◌∷◌, ◌++◌, length, take, drop, ◌==◌, nat_le, nat_lt, slice_index, slice_set}
+use Rattle.std.specs.Prelude.{ℕ, zero, suc, ◌+◌, ◌-◌, ◌*◌, ◌/◌, ◌%◌, ◌<◌, Bool, false, cond, List, ◌∷◌, ◌++◌, length, take, drop, ◌==◌, nat_le, nat_lt, slice_index, slice_set, Some, None}
 use Rattle.std.proofs.lemmas.List.Edits.{sets}
 use Rattle.line.specs.Message.{longest}
 use Rattle.line.specs.declared.Place.{Place}
@@ -12,8 +12,7 @@ use Rattle.words.specs.declared.Resource.{Resource}
 use Rattle.words.specs.declared.Resource.TheVariants.{Calibration, Lists}
 use Rattle.words.specs.declared.Extension.{Extension}
 use Rattle.words.specs.declared.Extension.TheVariants.{Calibration as CalibrationMemory, Measured}
-use Rattle.words.specs.declared.Seed.{Seed}
-use Rattle.words.specs.declared.Seed.TheVariants.{None, For}
+use Rattle.words.specs.Values.{Seed}
 use Rattle.words.specs.declared.Mta.{Mta}
 use Rattle.words.specs.declared.Mta.TheVariants.{Unset, At}
 use Rattle.words.specs.declared.Pointer.{Pointer}
@@ -72,13 +71,13 @@ mask_of s = mask_by (unlocked_of s)
 unfoldable pub seed_of : List ℕ → Seed
 seed_of s =
     cond (stays_shut (wrong_keys_of s)) None
-    (cond (slice_index s seed_at == bit_of Calibration) (For Calibration)
-    (cond (slice_index s seed_at == bit_of Lists) (For Lists)
+    (cond (slice_index s seed_at == bit_of Calibration) (Some Calibration)
+    (cond (slice_index s seed_at == bit_of Lists) (Some Lists)
     None))
 
 unfoldable pub set_seed : List ℕ → Seed → List ℕ
 set_seed s None = slice_set s seed_at 0
-set_seed s (For r) = slice_set s seed_at (bit_of r)
+set_seed s (Some r) = slice_set s seed_at (bit_of r)
 
 abbrev pub mta_tag : Extension → ℕ
 mta_tag CalibrationMemory = 1

@@ -11,17 +11,6 @@ pub const ALL_ENTRIES: u8 = 128;
 
 pub const EVENTS: u8 = 2;
 
-// The same, in the widths of a packet's numbers and of an event's.
-pub const LISTS_U16: u16 = LISTS as u16;
-
-pub const ALL_ODTS_U16: u16 = ALL_ODTS as u16;
-
-pub const ALL_ENTRIES_U16: u16 = ALL_ENTRIES as u16;
-
-pub const EVENTS_U16: u16 = EVENTS as u16;
-
-pub const EVENTS_U32: u32 = EVENTS as u32;
-
 // Most bytes of a packet, and of a sample in store, which is without its ODT's number.
 pub const PACKET_MOST: u8 = line::MOST as u8;
 
@@ -104,20 +93,8 @@ pub const ANSWER: usize = MESSAGE + line::LONGEST;
 
 pub const ANSWER_BYTES: usize = ANSWER + 1;
 
-// Its bytes after the first.
+// The second.
 pub const ANSWER_1: usize = ANSWER_BYTES + 1;
-
-pub const ANSWER_2: usize = ANSWER_BYTES + 2;
-
-pub const ANSWER_3: usize = ANSWER_BYTES + 3;
-
-pub const ANSWER_4: usize = ANSWER_BYTES + 4;
-
-pub const ANSWER_5: usize = ANSWER_BYTES + 5;
-
-pub const ANSWER_6: usize = ANSWER_BYTES + 6;
-
-pub const ANSWER_7: usize = ANSWER_BYTES + 7;
 
 // The session's own bytes: up to the count of lists they are written 0 when it closes, and what is behind it means nothing then.
 pub const SESSION: usize = ANSWER_BYTES + line::MOST;
@@ -166,7 +143,8 @@ pub const STATE: usize = SAMPLE + SAMPLE_SIZE * ALL_ODTS as usize;
 
 pub const SESSION_SIZE: usize = ODTS - SESSION;
 
-// Places are reckoned in 32 bits: a small processor has no product of 64.
+// Places are reckoned in 32 bits: a small processor has no product of 64. Each has a function of one line, under the name of its
+// definition in specs/: one function for all would take as many casts at each call, and the size besides.
 
 // ---- a list's bytes
 
@@ -214,8 +192,10 @@ pub fn is_first(odt: u16) -> bool
 pub fn odt_most(odt: u16) -> u16
     ensures { result ≡ odt_most odt }
 {
-    if is_first(odt) {
-        return (STORED_MOST - CLOCK_SIZE) as u16;
-    }
-    STORED_MOST as u16
+    let most = if is_first(odt) {
+        STORED_MOST - CLOCK_SIZE
+    } else {
+        STORED_MOST
+    };
+    most as u16
 }

@@ -9,11 +9,7 @@ use words::Extension;
 pub fn reach(length: usize) -> usize
     ensures { result ≡ reach length }
 {
-    if length < ADDRESSABLE {
-        length
-    } else {
-        ADDRESSABLE
-    }
+    length.min(ADDRESSABLE)
 }
 
 // The length of the memory that an extension stands for.
@@ -27,6 +23,7 @@ pub fn length_of(extension: Extension, nc: usize, nm: usize) -> usize
 }
 
 // Whether a block lies inside a memory of that length; address plus size never wraps.
+#[tactic(auto, unfolding(crate::specs::Memory::inside_of))]
 pub fn inside(address: u32, n: u32, length: usize) -> bool
     ensures { result ≡ inside_of address n length }
 {

@@ -8,6 +8,7 @@ use words::Resource;
 impl Generator {
     pub const DEFAULT: Self = Self { x: 0x2545_F491 };
 
+    #[tactic(auto, unfolding(crate::specs::Generator::start_of))]
     pub fn new(start: u32) -> Self
         ensures { result.x ≡ start_of start }
     {
@@ -19,6 +20,7 @@ impl Generator {
     }
 
     // Marsaglia's 32-bit xorshift.
+    #[tactic(auto, unfolding(crate::specs::Generator::next_of))]
     pub fn next(self) -> Self
         ensures { result.x ≡ next_of self.x }
     {
@@ -39,11 +41,11 @@ fn addend_for(resource: Resource) -> u32
 }
 
 // The key to a seed.
+#[tactic(auto, unfolding(crate::specs::Generator::key_of))]
 pub fn key_for(resource: Resource, seed: u32) -> u32
     ensures { result ≡ key_of resource seed }
 {
-    let x = std::num::wrapping_add_u32(seed, addend_for(resource));
-    std::num::wrapping_add_u32(x << 8, x >> 24)
+    seed.wrapping_add(addend_for(resource)).rotate_left(8)
 }
 
 // Whether with n wrong keys no seed is given any more.
@@ -56,9 +58,5 @@ pub fn stays_shut(n: u8) -> bool
 pub fn one_wrong_more(n: u8) -> u8
     ensures { result ≡ one_wrong_more n }
 {
-    if stays_shut(n) {
-        layout::WRONG_MOST
-    } else {
-        n + 1
-    }
+    n.saturating_add(1).min(layout::WRONG_MOST)
 }

@@ -4,14 +4,6 @@ use Rattle.line.specs.Message.{sum}
 use Rattle.line.proofs.Laws.{sum_next}
 use Rattle.sums.specs.Run.{run_words}
 
--- ---- a word's bytes
-module _ (w a b c d : ℕ) (e : w ≡ a + 256 * b + 65536 * c + 16777216 * d) (h₀ : a < 256) (h₁ : b < 256) (h₂ : c < 256) where
-  pub word_even : w % 256 + 65536 * (w / 65536 % 256) ≡ a + 65536 * c
-  word_even = omega arith
-
-  pub word_upper : w / 256 ≡ b + 256 * c + 65536 * d
-  word_upper = omega arith
-
 -- ---- many words
 -- the sum of the k-th bytes of n words
 abbrev pub lane : List ℕ → ℕ → ℕ → ℕ
@@ -22,9 +14,6 @@ lane s k (suc n) = lane s k n + get_or s (4 * n + k) 0
 pub record Lanes (s : List ℕ) (n evens uppers : ℕ) : Type 0 where
   pub even : evens ≡ lane s 0 n + 65536 * lane s 2 n
   pub upper : uppers ≡ lane s 1 n + 256 * lane s 2 n + 65536 * lane s 3 n
-
-pub lanes_none : (s : List ℕ) → Lanes s 0 0 0
-lanes_none s = record { even = refl; upper = refl }
 
 module _ (s : List ℕ) (n : ℕ) where
   lane_next : (k : ℕ) → lane s k (n + 1) ≡ lane s k n + get_or s (4 * n + k) 0

@@ -7,17 +7,12 @@
 // bytes that it adds.
 ghost use Rattle.std.specs.Prelude.{◌≡◌, ◌+◌, ◌-◌, ◌*◌, ◌/◌, ◌%◌, ◌≤◌, length, slice_index};
 
-use state::bytes::wide;
-
-// In this order it becomes one load where the processor has words at any address.
+// One load, where the processor has words at any address. A place and its slice come by themselves: a pair of both would be made anew for each word.
 fn word(part: &[u8], at: usize) -> u32
     requires { at + 4 ≤ length part.now }
     ensures { result ≡ slice_index part.now at + 256 * slice_index part.now (at + 1) + 65536 * slice_index part.now (at + 2) + 16777216 * slice_index part.now (at + 3) }
 {
-    wide(part[at])
-        + 256 * wide(part[at + 1])
-        + 65536 * wide(part[at + 2])
-        + 16777216 * wide(part[at + 3])
+    u32::from_le_bytes([part[at], part[at + 1], part[at + 2], part[at + 3]])
 }
 
 // The first and the third byte.

@@ -1,11 +1,5 @@
 -- A line of printable signs is read up to its ending, which is a newline, or a carriage return and a newline. Assumes nothing.
-use mathlib.Core.Path.{◌≡◌, refl, ap, sym}
-use mathlib.Core.List.{List, [], ◌∷◌, ◌++◌}
-use Prim.Native.Nat.{ℕ, suc, ◌<◌, ◌≤◌}
-use native.Mathlib.Omega.{arith}
-use lib.Dec.{leb}
-use lib.ListN.{length}
-use borrow.Author.Tests.{leb-true, ne_eqb, eq-eqb}
+use Rattle.std.proofs.Common.{◌≡◌, refl, ap, sym, List, [], ◌∷◌, ◌++◌, ℕ, suc, ◌<◌, ◌≤◌, arith, leb, length, leb-true, ne_eqb, eq-eqb}
 use Rattle.line.proofs.Laws.{cond_ind}
 use Rattle.syntax.specs.Form.{ending_at, line_length, plain_of}
 use Rattle.syntax.proofs.Lists.{ending_other}

@@ -1,45 +1,48 @@
 -- Laws of lists of bytes in capital hex, of the printable front of a line, and of its end. Assumes nothing.
-use mathlib.Core.Path.{◌≡◌, refl, ap, ◌∙◌}
-use mathlib.Core.Bool.{cond}
-use mathlib.Core.List.{List, [], ◌∷◌}
-use Prim.Native.Nat.{ℕ, zero, suc, ◌+◌, ◌-◌, ◌*◌, ◌<◌, ◌≤◌}
-use native.Mathlib.Numerals.{add-one}
-use native.Mathlib.Omega.{arith}
-use native.Mathlib.Nat.{not-suc-le-zero}
-use lib.ListN.{length, get_or, set, drop, length-drop, drop_of_length-le, get_or-eq_default}
-use lib.Seq.{sets, drop-cons, drop-drop, get_or-drop}
-use lib.Dec.{eqb, ltb}
-use borrow.Author.Tests.{le-leb, lt-leb, eq-eqb, ne_eqb}
+use Rattle.std.proofs.Common.{Option, Some, None, is_some, ◌≡◌, refl, ap, sym, ◌∙◌, Bool, true, false, cond, List, [], ◌∷◌, ℕ, zero, suc, ◌+◌, ◌-◌, ◌*◌, ◌<◌, ◌≤◌, add-one, arith, not-suc-le-zero, length, get_or, set, drop, length-drop, drop_of_length-le, drop-drop, get_or-drop, eqb, leb, ltb, leb-true, eq-eqb, ne_eqb}
+use Rattle.std.proofs.lemmas.Bool.Decides.{nat_tests}
 use Rattle.line.specs.Message.{room}
-use Rattle.line.proofs.Laws.{cond_ind}
-use Rattle.syntax.specs.declared.hex.Pair.{Pair}
-use Rattle.syntax.specs.declared.hex.Pair.TheVariants.{Nothing, Last, More}
-use Rattle.syntax.specs.declared.Step.{Step}
-use Rattle.syntax.specs.Hex.{pair_at, counted, pairs_from, value_at, values_from}
-use Rattle.syntax.specs.Columns.{bytes_at, first_most}
-use Rattle.syntax.specs.Form.{newline, carriage_return, ending_at, line_length, plain_of, dashes, first_end}
+use Rattle.line.proofs.Laws.{false_true, cond_ind}
+use Rattle.std.specs.List.{position}
+use Rattle.std.proofs.lemmas.List.Recursion.{is_position_or_len}
+use Rattle.std.proofs.lemmas.List.Edits.{sets}
+use Rattle.syntax.specs.Hex.{space, hex_of, byte_at, counted, pairs_from, value_at, values_from}
+use Rattle.syntax.specs.Form.{newline, carriage_return, ending_at, line_length, plain_of, odd}
 
 -- no byte stands at k
-pub pairs_none : (s : List ℕ) (k n : ℕ) → 0 < n → pair_at s k ≡ Nothing → pairs_from n s k ≡ 0
+pub pairs_none : (s : List ℕ) (k n : ℕ) → 0 < n → is_some (byte_at s k) ≡ false → pairs_from n s k ≡ 0
 unfolding pairs_from
 pairs_none s k zero h e = absurd (not-suc-le-zero h)
-pairs_none s k (suc n) h e = rw e
+pairs_none s k (suc n) h e = none_counted (byte_at s k) _ _ e
+  where
+    none_counted : (b : Option ℕ) (spaced : Bool) (m : ℕ) → is_some b ≡ false → counted b spaced m ≡ 0
+    none_counted None spaced m e = refl
+    none_counted (Some b) spaced m e = absurd (false_true (sym e))
+
+-- with nothing else than a space behind it, it is the last
+last_counted : (b : Option ℕ) (m : ℕ) → is_some b ≡ true → counted b false m ≡ 1
+last_counted None m e = absurd (false_true e)
+last_counted (Some b) m e = refl
+
+more_counted : (b : Option ℕ) (m : ℕ) → is_some b ≡ true → counted b true m ≡ suc m
+more_counted None m e = absurd (false_true e)
+more_counted (Some b) m e = refl
 
 -- one stands there, and it is the last
-pub pairs_last : (s : List ℕ) (k n : ℕ) → 0 < n → pair_at s k ≡ Last → pairs_from n s k ≡ 1
+pub pairs_last : (s : List ℕ) (k n : ℕ) → 0 < n → is_some (byte_at s k) ≡ true → (get_or s (k + 2) 0 ≡ space → ⊥) → pairs_from n s k ≡ 1
 unfolding pairs_from
-pairs_last s k zero h e = absurd (not-suc-le-zero h)
-pairs_last s k (suc n) h e = rw e
+pairs_last s k zero h e f = absurd (not-suc-le-zero h)
+pairs_last s k (suc n) h e f = rw (ne_eqb (get_or s (k + 2) 0) space f) (last_counted (byte_at s k) _ e)
 
-pairs_more : (s : List ℕ) (k n m : ℕ) → n ≡ suc m → pair_at s k ≡ More → pairs_from n s k ≡ suc (pairs_from m s (k + 3))
+pairs_more : (s : List ℕ) (k n m : ℕ) → n ≡ suc m → is_some (byte_at s k) ≡ true → get_or s (k + 2) 0 ≡ space → pairs_from n s k ≡ suc (pairs_from m s (k + 3))
 unfolding pairs_from
-pairs_more s k n m h e = rw (h, e)
+pairs_more s k n m h e f = rw (h, eq-eqb (get_or s (k + 2) 0) space f) (more_counted (byte_at s k) _ e)
 
 -- one stands there, and others may follow
-pub pairs_next : (s : List ℕ) (k n : ℕ) → n < room → pair_at s (k + 3 * n) ≡ More → pairs_from (room - n) s (k + 3 * n) ≡ suc (pairs_from (room - (n + 1)) s (k + 3 * (n + 1)))
-pairs_next s k n h e =
+pub pairs_next : (s : List ℕ) (k n : ℕ) → n < room → is_some (byte_at s (k + 3 * n)) ≡ true → get_or s (k + 3 * n + 2) 0 ≡ space → pairs_from (room - n) s (k + 3 * n) ≡ suc (pairs_from (room - (n + 1)) s (k + 3 * (n + 1)))
+pairs_next s k n h e f =
     let p : k + 3 * n + 3 ≡ k + 3 * (n + 1) = omega arith in
-    pairs_more s (k + 3 * n) (room - n) (room - (n + 1)) (omega arith) e ∙ ap (λ (j : ℕ). suc (pairs_from (room - (n + 1)) s j)) p
+    pairs_more s (k + 3 * n) (room - n) (room - (n + 1)) (omega arith) e f ∙ ap (λ (j : ℕ). suc (pairs_from (room - (n + 1)) s j)) p
 
 -- none is counted yet
 pub pairs_first : (s : List ℕ) (k : ℕ) → 0 + pairs_from (room - 0) s (k + 3 * 0) ≡ pairs_from room s k
@@ -51,17 +54,6 @@ pairs_first s k =
 pub pairs_end : (s : List ℕ) (k n : ℕ) → n ≡ 0 → pairs_from n s k ≡ 0
 unfolding pairs_from
 pairs_end s k n e = rw e
-
-counted_most : (p : Pair) (m n : ℕ) → m ≤ n → counted p m ≤ suc n
-counted_most Nothing m n h = omega arith
-counted_most Last m n h = omega arith
-counted_most More m n h = omega arith
-
--- of at most n bytes there are at most n
-pub pairs_most : (n : ℕ) (s : List ℕ) (k : ℕ) → pairs_from n s k ≤ n
-unfolding pairs_from
-pairs_most zero s k = omega arith
-pairs_most (suc n) s k = counted_most (pair_at s k) (pairs_from n s (k + 3)) n (pairs_most n s (k + 3))
 
 values_more : (s : List ℕ) (k n m : ℕ) → n ≡ suc m → values_from n s k ≡ value_at s k ∷ values_from m s (k + 3)
 unfolding values_from
@@ -85,53 +77,29 @@ pub list_last : (l l₀ s : List ℕ) (k i n : ℕ) → n ≡ 0 → sets l i (va
 unfolding values_from
 list_last l l₀ s k i n e p = rw e at p
 
-pub plain_low : (s : List ℕ) (i : ℕ) → i < length s → get_or s i 0 < 32 → plain_of (drop i s) ≡ 0
-unfolding plain_of
-plain_low s i h g = rw (drop-cons s i 0 h, lt-leb 32 (get_or s i 0) g)
+one_plain : (c n : ℕ) → cond (leb 32 c) (cond (leb c 126) (suc n) 0) 0 ≡ cond (odd c) 0 (1 + n)
+one_plain c n = grind (arith, nat_tests)
 
-pub plain_high : (s : List ℕ) (i : ℕ) → i < length s → 126 < get_or s i 0 → plain_of (drop i s) ≡ 0
+-- the printable front ends at the first sign that is not printable
+odd_is : (s : List ℕ) → position odd s ≡ cond (ltb (plain_of s) (length s)) (Some (plain_of s)) None
 unfolding plain_of
-plain_high s i h g = rw (drop-cons s i 0 h, le-leb 32 (get_or s i 0) (omega arith), lt-leb (get_or s i 0) 126 g)
+odd_is s = rw (is_position_or_len plain_of odd refl (λ c cs. one_plain c (plain_of cs)) s)
 
-pub plain_next : (s : List ℕ) (i : ℕ) → i < length s → 32 ≤ get_or s i 0 → get_or s i 0 ≤ 126 → plain_of (drop i s) ≡ suc (plain_of (drop (i + 1) s))
-unfolding plain_of
-plain_next s i h g k = rw (add-one, drop-cons s i 0 h, le-leb 32 (get_or s i 0) g, le-leb (get_or s i 0) 126 k)
+pub odd_at : (s : List ℕ) (k : ℕ) → position odd s ≡ Some k → (ltb (plain_of s) (length s) ≡ true) × (plain_of s ≡ k)
+odd_at s k =
+    rw (odd_is s) (cond_ind (λ (o : Option ℕ). o ≡ Some k → (ltb (plain_of s) (length s) ≡ true) × (plain_of s ≡ k)) (ltb (plain_of s) (length s)) (λ t e. (t, cc))
+    (λ _ e. cc))
 
-pub plain_end : (s : List ℕ) (i : ℕ) → length s ≤ i → plain_of (drop i s) ≡ 0
-unfolding plain_of
-plain_end s i g = rw (drop_of_length-le s {i = i} g)
-
--- the first list ends within the columns that it can have
-pub first_most_lem : (step : Step) (s : List ℕ) (n : ℕ) → n ≤ room → first_end step s n ≤ first_most
-unfolding first_end
-first_most_lem step s n h =
-    cond_ind (λ (k : ℕ). k ≤ first_most) (ltb 0 n) (λ _. omega arith)
-    (λ _. cond_ind (λ (k : ℕ). k ≤ first_most) (eqb (get_or s bytes_at 0) 45)
-    (λ _. cond_ind (λ (k : ℕ). k ≤ first_most) (dashes step) (λ _. omega arith) (λ _. omega arith))
-    (λ _. omega arith))
+pub odd_nowhere : (s : List ℕ) → position odd s ≡ None → ltb (plain_of s) (length s) ≡ false
+odd_nowhere s =
+    rw (odd_is s) (cond_ind (λ (o : Option ℕ). o ≡ None → ltb (plain_of s) (length s) ≡ false) (ltb (plain_of s) (length s)) (λ _ e. cc)
+    (λ f _. f))
 
 -- a byte that is not 0 stands inside
 pub stands_inside : (s : List ℕ) (k c : ℕ) → get_or s k 0 ≡ suc c → k < length s
 stands_inside [] k c e = absurd (omega (arith, e))
 stands_inside (b ∷ bs) zero c e = omega arith
 stands_inside (b ∷ bs) (suc k) c e = omega (arith, stands_inside bs k c e)
-
--- the ending of a line: none with the text, one byte, two, or none
-pub ending_none : (s : List ℕ) (k : ℕ) → length s ≤ k → 0 ≡ ending_at s k
-unfolding ending_at
-ending_none s k h = rw (get_or-eq_default s 0 h)
-
-pub ending_one : (s : List ℕ) (k : ℕ) → get_or s k 0 ≡ newline → 1 ≡ ending_at s k
-unfolding ending_at
-ending_one s k e = rw (eq-eqb (get_or s k 0) newline e)
-
-pub ending_two : (s : List ℕ) (k : ℕ) → get_or s k 0 ≡ carriage_return → get_or s (k + 1) 0 ≡ newline → 2 ≡ ending_at s k
-unfolding ending_at
-ending_two s k e f = rw (e, f)
-
-pub ending_lone : (s : List ℕ) (k : ℕ) → get_or s k 0 ≡ carriage_return → (get_or s (k + 1) 0 ≡ newline → ⊥) → 0 ≡ ending_at s k
-unfolding ending_at
-ending_lone s k e f = rw (e, ne_eqb (get_or s (k + 1) 0) newline f)
 
 pub ending_other : (s : List ℕ) (k : ℕ) → (get_or s k 0 ≡ newline → ⊥) → (get_or s k 0 ≡ carriage_return → ⊥) → 0 ≡ ending_at s k
 unfolding ending_at
@@ -162,3 +130,13 @@ line_next s i h e = line_at s i h ∙ rw (eq-eqb (ending_at s i) 0 e)
 pub line_end : (s : List ℕ) (i : ℕ) → length s ≤ i → line_length (drop i s) ≡ 0
 unfolding line_length
 line_end s i g = rw (drop_of_length-le s {i = i} g)
+
+-- what a digit is worth
+pub digit_low : (c d : ℕ) → hex_of c ≡ Some d → d < 16
+unfolding hex_of
+digit_low c d =
+    cond_ind (λ (x : Option ℕ). x ≡ Some d → d < 16) (ltb c 48) (λ _ e. cc)
+    (λ a. cond_ind (λ (x : Option ℕ). x ≡ Some d → d < 16) (leb c 57) (λ b e. let f : c - 48 ≡ d = cc in omega (arith, leb-true c 57 b))
+    (λ _. cond_ind (λ (x : Option ℕ). x ≡ Some d → d < 16) (ltb c 65) (λ _ e. cc)
+    (λ _. cond_ind (λ (x : Option ℕ). x ≡ Some d → d < 16) (leb c 70) (λ b e. let f : c - 65 + 10 ≡ d = cc in omega (arith, leb-true c 70 b))
+    (λ _ e. cc))))

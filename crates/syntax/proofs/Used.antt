@@ -1,22 +1,16 @@
 -- A step's line is used to its end: its bytes spelled, and behind an = sign those to expect, are all that stands there. Assumes
 -- nothing.
-use mathlib.Core.Path.{◌≡◌, refl, ap, ◌∙◌}
-use mathlib.Core.Bool.{Bool, true, false}
-use mathlib.Core.List.{List, [], ◌∷◌, ◌++◌, append-nil}
-use Prim.Native.Nat.{ℕ, zero, suc, ◌+◌, ◌-◌, ◌*◌}
-use native.Mathlib.Omega.{arith}
-use lib.Dec.{eqb, leb, ltb}
-use lib.ListN.{length, get_or, drop, get_or-eq_default}
-use lib.Seq.{drop-cons, drop-length}
-use borrow.Author.Tests.{eqb-true, eqb-false, leb-true, leb-false, ne_eqb, lt-ltb}
+use Rattle.std.proofs.Common.{Option, Some, None, Result, Ok, Err, ◌≡◌, refl, ap, ◌∙◌, Bool, true, false, List, [], ◌∷◌, ◌++◌, append-nil, ℕ, zero, suc, ◌+◌, ◌-◌, ◌*◌, arith, eqb, leb, ltb, length, get_or, drop, drop-cons, eqb-true, leb-true, leb-false, ne_eqb, lt-ltb}
+use Rattle.std.proofs.Math.ListN.{get_or-eq_default}
+use Rattle.std.proofs.Math.Seq.{drop-length}
+use Rattle.std.proofs.lemmas.Bool.{eqb-false}
 use Rattle.line.specs.Message.{room}
 use Rattle.line.proofs.Laws.{false_true, cond_ind}
 use Rattle.syntax.specs.declared.Step.{Step}
-use Rattle.syntax.specs.declared.form.Kind.{Kind}
-use Rattle.syntax.specs.declared.form.Kind.TheVariants as kind
+use Rattle.syntax.specs.declared.Wrong.{Wrong}
 use Rattle.syntax.specs.Hex.{space, pairs_from}
 use Rattle.syntax.specs.Columns.{bytes_at}
-use Rattle.syntax.specs.Form.{plain_of, kind_of, bytes_fit, expected_fits, fitted_of, dashes, first_end, sign_at, expecting_of, lists_of, end_of, step_of, kind_line, line_of, first_text, expected_text, Used}
+use Rattle.syntax.specs.Form.{plain_of, step_for, bytes_fit, expected_fits, fitted_of, dashes, first_end, sign_at, expecting_of, expected_of, lists_of, end_of, step_of, lettered, line_of, first_text, expected_text, Used}
 use Rattle.syntax.proofs.Spelled.{by_test, Back, spelled_back}
 
 -- a sign that is not 0 stands inside
@@ -78,15 +72,26 @@ fitted_used step s n m e =
     (λ _. cond_ind (Used s) (expected_fits step n m) (λ _. e) (λ _. tt))
     (λ _. tt)
 
-expecting_used : (step : Step) (s : List ℕ) (n : ℕ) → drop bytes_at s ≡ first_text n s ++ drop (end_of step s) s → Used s (expecting_of step s n (end_of step s))
-unfolding expecting_of Used
-expecting_used step s n e =
-    cond_ind (Used s) (sign_at s (end_of step s))
-    (λ t. cond_ind (Used s) (eqb (pairs_from room s (end_of step s + 3)) 0) (λ _. tt)
-    (λ z. cond_ind (Used s) (eqb (end_of step s + 2 + 3 * pairs_from room s (end_of step s + 3)) (length s))
-    (λ l. fitted_used step s n (pairs_from room s (end_of step s + 3)) (e ∙ ap (λ (x : List ℕ). first_text n s ++ x) (expected_back step s (pairs_from room s (end_of step s + 3)) t refl z (eqb-true _ _ l))))
+-- what a step needs to be used to its end, of so many bytes to expect
+Expects : Step → List ℕ → Result ℕ Wrong → Type 0
+Expects step s (Ok m) = drop (end_of step s) s ≡ expected_text step m s
+Expects step s (Err w) = Unit {0}
+
+expecting_back : (step : Step) (s : List ℕ) → Expects step s (expecting_of s (end_of step s))
+unfolding expecting_of Expects
+expecting_back step s =
+    cond_ind (Expects step s) (eqb (end_of step s) (length s)) (λ l. nothing_back step s (eqb-true _ _ l))
+    (λ _. cond_ind (Expects step s) (sign_at s (end_of step s))
+    (λ t. cond_ind (Expects step s) (eqb (pairs_from room s (end_of step s + 3)) 0) (λ _. tt)
+    (λ z. cond_ind (Expects step s) (eqb (end_of step s + 2 + 3 * pairs_from room s (end_of step s + 3)) (length s))
+    (λ l. expected_back step s (pairs_from room s (end_of step s + 3)) t refl z (eqb-true _ _ l))
     (λ _. tt)))
-    (λ _. tt)
+    (λ _. tt))
+
+expected_used : (step : Step) (s : List ℕ) (n : ℕ) (r : Result ℕ Wrong) → drop bytes_at s ≡ first_text n s ++ drop (end_of step s) s → Expects step s r → Used s (expected_of step s n r)
+unfolding Expects Used
+expected_used step s n (Ok m) e f = fitted_used step s n m (e ∙ ap (λ (x : List ℕ). first_text n s ++ x) f)
+expected_used step s n (Err w) e f = tt
 
 step_used : (step : Step) (s : List ℕ) → Used s (step_of step s)
 unfolding step_of lists_of Used
@@ -94,16 +99,13 @@ step_used step s =
     let n : ℕ = pairs_from room s bytes_at in
     cond_ind (Used s) (eqb (get_or s (bytes_at - 1) 0) space)
     (λ _. cond_ind (Used s) (eqb (end_of step s) bytes_at) (λ _. tt)
-    (λ f. cond_ind (Used s) (eqb (end_of step s) (length s))
-    (λ l. fitted_used step s n 0 (first_back step s n refl f ∙ ap (λ (x : List ℕ). first_text n s ++ x) (nothing_back step s (eqb-true _ _ l))))
-    (λ _. expecting_used step s n (first_back step s n refl f))))
+    (λ f. expected_used step s n (expecting_of s (end_of step s)) (first_back step s n refl f) (expecting_back step s)))
     (λ _. tt)
 
-kind_used : (k : Kind) (s : List ℕ) → Used s (kind_line k s)
-unfolding kind_line Used
-kind_used kind.Title s = tt
-kind_used (kind.Does step) s = step_used step s
-kind_used kind.Neither s = tt
+lettered_used : (o : Option Step) (s : List ℕ) → Used s (lettered o s)
+unfolding Used
+lettered_used (Some step) s = step_used step s
+lettered_used None s = tt
 
 -- a line that is taken for a step is used to its end
 pub used : (s : List ℕ) → Used s (line_of s)
@@ -111,4 +113,6 @@ unfolding line_of Used
 used s =
     cond_ind (Used s) (eqb (length s) 0) (λ _. tt)
     (λ _. cond_ind (Used s) (ltb (plain_of s) (length s)) (λ _. tt)
-    (λ _. cond_ind (Used s) (eqb (get_or s 1 0) space) (λ _. kind_used (kind_of (get_or s 0 0)) s) (λ _. tt)))
+    (λ _. cond_ind (Used s) (eqb (get_or s 1 0) space)
+    (λ _. cond_ind (Used s) (eqb (get_or s 0 0) 35) (λ _. tt) (λ _. lettered_used (step_for (get_or s 0 0)) s))
+    (λ _. tt)))

@@ -1,15 +1,14 @@
 -- What a line of a sheet is: empty, a title, a step, or what is wrong with it, and at which of its places.
-use Rattle.std.specs.Prelude.{ℕ, suc, ◌+◌, ◌-◌, ◌*◌, Bool, true, false, cond, ◌≡◌, List, [], ◌∷◌, ◌++◌, eqb, leb, ltb, length, get_or, drop}
+use Rattle.std.specs.Prelude.{ℕ, suc, ◌+◌, ◌-◌, ◌*◌, Bool, true, false, ◌||◌, cond, ◌≡◌, List, [], ◌∷◌, ◌++◌, Option, Some, None, Result, Ok, Err, eqb, leb, ltb, length, get_or, drop}
 use Rattle.line.specs.Message.{most, room}
 use Rattle.state.specs.Layout.{addressable}
 use Rattle.syntax.specs.declared.Step.{Step}
 use Rattle.syntax.specs.declared.Step.TheVariants.{PowerUp, Measured, Wire, Command, Slot, Unlock, Repeat, Event, Slice}
-use Rattle.syntax.specs.declared.form.Kind.{Kind}
-use Rattle.syntax.specs.declared.form.Kind.TheVariants as kind
 use Rattle.syntax.specs.declared.Fault.{Fault}
 use Rattle.syntax.specs.declared.Fault.TheVariants as fault
 use Rattle.syntax.specs.declared.Line.{Line}
 use Rattle.syntax.specs.declared.Line.TheVariants as line
+use Rattle.syntax.specs.declared.Wrong.{Wrong}
 use Rattle.syntax.specs.Columns.{bytes_at}
 use Rattle.syntax.specs.Hex.{space, value_at, pairs_from, values_from, spelled}
 
@@ -30,28 +29,41 @@ unfoldable pub line_length : List ℕ → ℕ
 line_length [] = 0
 line_length (c ∷ cs) = cond (eqb (ending_at (c ∷ cs) 0) 0) (suc (line_length cs)) 0
 
-abbrev pub bad : Fault → ℕ → Line
-bad f k = line.Bad f k
+-- what a line is read as
+abbrev pub Read : Type 0
+Read = Result Line Wrong
+
+abbrev pub wrong : Fault → ℕ → Wrong
+wrong f k = record { fault = f; at = k }
+
+abbrev pub no_hex : ℕ → Wrong
+no_hex k = wrong fault.Hex k
+
+abbrev pub bad : Fault → ℕ → Read
+bad f k = Err (wrong f k)
 
 -- how many signs of printable ASCII stand at the front
 unfoldable pub plain_of : List ℕ → ℕ
 plain_of [] = 0
 plain_of (c ∷ cs) = cond (leb 32 c) (cond (leb c 126) (suc (plain_of cs)) 0) 0
 
--- the sign that a line begins with: # for a title, a letter for each step
-unfoldable pub kind_of : ℕ → Kind
-kind_of c =
-    cond (eqb c 35) kind.Title
-    (cond (eqb c 80) (kind.Does PowerUp)
-    (cond (eqb c 77) (kind.Does Measured)
-    (cond (eqb c 87) (kind.Does Wire)
-    (cond (eqb c 62) (kind.Does Command)
-    (cond (eqb c 60) (kind.Does Slot)
-    (cond (eqb c 85) (kind.Does Unlock)
-    (cond (eqb c 82) (kind.Does Repeat)
-    (cond (eqb c 69) (kind.Does Event)
-    (cond (eqb c 83) (kind.Does Slice)
-    kind.Neither)))))))))
+-- a sign that is not printable ASCII
+abbrev pub odd : ℕ → Bool
+odd c = ltb c 32 || ltb 126 c
+
+-- the letter that a step's line begins with
+unfoldable pub step_for : ℕ → Option Step
+step_for c =
+    cond (eqb c 80) (Some PowerUp)
+    (cond (eqb c 77) (Some Measured)
+    (cond (eqb c 87) (Some Wire)
+    (cond (eqb c 62) (Some Command)
+    (cond (eqb c 60) (Some Slot)
+    (cond (eqb c 85) (Some Unlock)
+    (cond (eqb c 82) (Some Repeat)
+    (cond (eqb c 69) (Some Event)
+    (cond (eqb c 83) (Some Slice)
+    None))))))))
 
 -- measured bytes have a place, two bytes, and one of them at least; all lie in the memory
 unfoldable pub placed_of : List ℕ → ℕ → Bool
@@ -96,10 +108,10 @@ expected_fits Event n m = some_up_to m 2
 expected_fits Slice n m = eqb m 2
 
 -- a step that is used up to its end
-unfoldable pub fitted_of : Step → List ℕ → ℕ → ℕ → Line
+unfoldable pub fitted_of : Step → List ℕ → ℕ → ℕ → Read
 fitted_of step s n m =
     cond (bytes_fit step s n)
-    (cond (expected_fits step n m) (line.Does step n m) (bad (fault.Expected step) (bytes_at + 3 * n)))
+    (cond (expected_fits step n m) (Ok (line.Does step n m)) (bad (fault.Expected step) (bytes_at + 3 * n)))
     (bad (fault.Bytes step) bytes_at)
 
 abbrev pub dashes : Step → Bool
@@ -126,41 +138,48 @@ sign_at s k =
     (cond (eqb (get_or s (k + 1) 0) 61) (eqb (get_or s (k + 2) 0) space) false)
     false
 
--- what stands behind the first list, which ends at k: bytes to expect, and then the line's end
-unfoldable pub expecting_of : Step → List ℕ → ℕ → ℕ → Line
-expecting_of step s n k =
-    cond (sign_at s k)
-    (cond (eqb (pairs_from room s (k + 3)) 0) (bad fault.Hex (k + 3))
-    (cond (eqb (k + 2 + 3 * pairs_from room s (k + 3)) (length s)) (fitted_of step s n (pairs_from room s (k + 3)))
-    (bad fault.Hex (k + 2 + 3 * pairs_from room s (k + 3)))))
-    (bad fault.Hex k)
+-- how many bytes to expect stand behind the first list, which ends at k: none at the line's end, or some, up to its end
+unfoldable pub expecting_of : List ℕ → ℕ → Result ℕ Wrong
+expecting_of s k =
+    cond (eqb k (length s)) (Ok 0)
+    (cond (sign_at s k)
+    (cond (eqb (pairs_from room s (k + 3)) 0) (Err (no_hex (k + 3)))
+    (cond (eqb (k + 2 + 3 * pairs_from room s (k + 3)) (length s)) (Ok (pairs_from room s (k + 3)))
+    (Err (no_hex (k + 2 + 3 * pairs_from room s (k + 3))))))
+    (Err (no_hex k)))
+
+-- a step with n bytes, and so many to expect
+abbrev pub expected_of : Step → List ℕ → ℕ → Result ℕ Wrong → Read
+expected_of step s n (Ok m) = fitted_of step s n m
+expected_of step s n (Err w) = Err w
 
 -- the lists of a step's line, whose first has n bytes and ends at k
-unfoldable pub lists_of : Step → List ℕ → ℕ → ℕ → Line
-lists_of step s n k =
-    cond (eqb k bytes_at) (bad fault.Hex bytes_at)
-    (cond (eqb k (length s)) (fitted_of step s n 0) (expecting_of step s n k))
+unfoldable pub lists_of : Step → List ℕ → ℕ → ℕ → Read
+lists_of step s n k = cond (eqb k bytes_at) (bad fault.Hex bytes_at) (expected_of step s n (expecting_of s k))
 
 -- where the first list of a step's line ends
 abbrev pub end_of : Step → List ℕ → ℕ
 end_of step s = first_end step s (pairs_from room s bytes_at)
 
-unfoldable pub step_of : Step → List ℕ → Line
+unfoldable pub step_of : Step → List ℕ → Read
 step_of step s =
     cond (eqb (get_or s (bytes_at - 1) 0) space)
     (lists_of step s (pairs_from room s bytes_at) (end_of step s))
     (bad fault.Name (bytes_at - 1))
 
-unfoldable pub kind_line : Kind → List ℕ → Line
-kind_line kind.Title s = line.Title
-kind_line (kind.Does step) s = step_of step s
-kind_line kind.Neither s = bad fault.Kind 0
+-- a line with this letter
+abbrev pub lettered : Option Step → List ℕ → Read
+lettered (Some step) s = step_of step s
+lettered None s = bad fault.Kind 0
 
-unfoldable pub line_of : List ℕ → Line
+-- a # begins a title
+unfoldable pub line_of : List ℕ → Read
 line_of s =
-    cond (eqb (length s) 0) line.Empty
+    cond (eqb (length s) 0) (Ok line.Empty)
     (cond (ltb (plain_of s) (length s)) (bad fault.Sign (plain_of s))
-    (cond (eqb (get_or s 1 0) space) (kind_line (kind_of (get_or s 0 0)) s) (bad fault.Kind 0)))
+    (cond (eqb (get_or s 1 0) space)
+    (cond (eqb (get_or s 0 0) 35) (Ok line.Title) (lettered (step_for (get_or s 0 0)) s))
+    (bad fault.Kind 0)))
 
 -- the n bytes of a step, and the m bytes to expect
 abbrev pub step_bytes : ℕ → List ℕ → List ℕ
@@ -178,8 +197,8 @@ unfoldable pub expected_text : Step → ℕ → List ℕ → List ℕ
 expected_text step m s = cond (eqb m 0) [] (space ∷ 61 ∷ space ∷ spelled (expected_bytes step m s))
 
 -- behind its name a step's line has these, and nothing else
-unfoldable pub Used : List ℕ → Line → Type 0
-Used s line.Empty = Unit {0}
-Used s line.Title = Unit {0}
-Used s (line.Does step n m) = drop bytes_at s ≡ first_text n s ++ expected_text step m s
-Used s (line.Bad f k) = Unit {0}
+unfoldable pub Used : List ℕ → Read → Type 0
+Used s (Ok line.Empty) = Unit {0}
+Used s (Ok line.Title) = Unit {0}
+Used s (Ok (line.Does step n m)) = drop bytes_at s ≡ first_text n s ++ expected_text step m s
+Used s (Err w) = Unit {0}

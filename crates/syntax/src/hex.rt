@@ -3,101 +3,69 @@ ghost use Rattle.std.specs.Prelude.{◌≡◌, ◌≤◌, min};
 ghost use Rattle.std.proofs.lemmas.List.Edits.{sets};
 ghost use Rattle.line.specs.Message.{room};
 ghost use Rattle.syntax.specs.Columns.{expected_most, last_most};
-ghost use Rattle.syntax.specs.Hex.{hex_of, pair_at, pairs_from, value_at, values_from};
+ghost use Rattle.syntax.specs.Hex.{hex_of, byte_at, pairs_from, value_at, values_from};
 
 use line::ROOM;
 use state::bytes::get;
 
-const NO_DIGIT: u8 = 16;
-
-// Two digits, with a space behind them or not.
-#[derive(Clone, Copy)]
-enum Pair {
-    Nothing,
-    Last,
-    More,
-}
-
-fn digit(c: u8) -> u8
+// The library's to_digit reads small letters too.
+#[tactic(auto, unfolding(crate::specs::Hex::hex_of))]
+fn digit(c: u8) -> Option<u8>
     ensures { result ≡ hex_of c }
 {
-    if c < b'0' {
-        return NO_DIGIT;
+    match c {
+        b'0'..=b'9' => Some(c - b'0'),
+        b'A'..=b'F' => Some(c - b'A' + 10),
+        _ => None,
     }
-    if c <= b'9' {
-        return c - b'0';
-    }
-    if c < b'A' {
-        return NO_DIGIT;
-    }
-    if c <= b'F' {
-        return c - b'A' + 10;
-    }
-    NO_DIGIT
 }
 
-fn pair_at(text: &[u8], at: usize) -> Pair
+// The byte whose two digits stand at a place.
+#[tactic(auto, using(crate::proofs::Lists::digit_low), unfolding(crate::specs::Hex::byte_at))]
+fn byte(text: &[u8], at: usize) -> Option<u8>
     requires { at ≤ last_most }
-    ensures { result ≡ pair_at text.now at }
+    ensures { result ≡ byte_at text.now at }
 {
-    if digit(get(text, at)) < NO_DIGIT {
-        if digit(get(text, at + 1)) < NO_DIGIT {
-            if get(text, at + 2) == b' ' {
-                return Pair::More;
-            }
-            return Pair::Last;
-        }
-        return Pair::Nothing;
-    }
-    Pair::Nothing
+    let high = digit(get(text, at))?;
+    let low = digit(get(text, at + 1))?;
+    Some(high * 16 + low)
 }
 
 // How many bytes stand in a text from a place on.
+#[tactic(auto, using(crate::proofs::Lists::pairs_first, crate::proofs::Lists::pairs_none, crate::proofs::Lists::pairs_last, crate::proofs::Lists::pairs_next, crate::proofs::Lists::pairs_end))]
 pub fn pairs(text: &[u8], at: usize) -> usize
     requires { at ≤ expected_most }
-    ensures { result ≡ pairs_from room text.now at }
+    ensures { (result ≤ room) × (result ≡ pairs_from room text.now at) }
 {
-    let mut n = 0;
-    while n < ROOM {
-        let pair = pair_at(text, at + 3 * n);
-        match pair {
-            Pair::Nothing => return n,
-            Pair::Last => return n + 1,
-            Pair::More => {
-                n += 1;
-            }
+    for n in 0..ROOM {
+        let place = at + 3 * n;
+        if byte(text, place).is_none() {
+            return n;
+        }
+        if get(text, place + 2) != b' ' {
+            return n + 1;
         }
     }
-    n
+    ROOM
 }
 
-// The byte at a place; 0 where none stands there.
+// The byte at a place; 0 where none stands there, as the definition `value_at` has it, by which `bytes` and `expected` promise any line's.
+#[tactic(auto, unfolding(crate::specs::Hex::value_at))]
 pub fn value(text: &[u8], at: usize) -> u8
     requires { at ≤ last_most }
     ensures { result ≡ value_at text.now at }
 {
-    let high = digit(get(text, at));
-    let low = digit(get(text, at + 1));
-    if high < NO_DIGIT {
-        if low < NO_DIGIT {
-            return high * 16 + low;
-        }
-        return 0;
-    }
-    0
+    byte(text, at).unwrap_or(0)
 }
 
-// Puts as many bytes, from a place on, at the front of a list: as many as it has room for, at most.
+// Puts as many bytes, from a place on, at the front of a list: as many as it has room for, at most. The whole list is lent, as `bytes` and
+// `expected` promise what lies behind them.
+#[tactic(auto, using(crate::proofs::Lists::list_first, crate::proofs::Lists::list_next))]
 pub fn list(text: &[u8], at: usize, count: usize, out: &mut [u8; ROOM])
     requires { at ≤ expected_most }
     ensures { out.new ≡ sets out.old 0 (values_from (min count room) text.now at) }
 {
-    let mut i = 0;
-    while i < ROOM {
-        if count <= i {
-            return;
-        }
+    for i in 0..count.min(ROOM) {
         out[i] = value(text, at + 3 * i);
-        i += 1;
     }
 }

@@ -4,6 +4,7 @@
 mod cases;
 mod form;
 mod hex;
+mod said;
 
 pub use cases::turn_of;
 pub use form::{BYTES, NAME, bytes, ending, expected, line_end, line_of};
@@ -46,8 +47,13 @@ pub enum Line {
     Title,
     // How many bytes it has, and how many to expect.
     Does(Step, usize, usize),
-    // What is wrong, and at which place of the line.
-    Bad(Fault, usize),
+}
+
+// What is wrong with a line, and at which of its places.
+#[derive(Clone, Copy)]
+pub struct Wrong {
+    pub fault: Fault,
+    pub at: usize,
 }
 
 #[derive(Clone, Copy)]
@@ -67,6 +73,12 @@ pub enum Turn {
     End,
     // A step, how many bytes it has, and how many to expect.
     Run(Step, usize, usize),
-    // What is wrong, in which line, and at which of its places.
-    Stop(Fault, u32, usize),
+}
+
+// What is wrong with a sheet, in which line, and at which of its places.
+#[derive(Clone, Copy)]
+pub struct Stop {
+    pub fault: Fault,
+    pub line: u32,
+    pub at: usize,
 }

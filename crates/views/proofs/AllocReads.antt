@@ -1,13 +1,5 @@
 -- ALLOC_ODT_ENTRY in bytes: its ODT has the new entries, each of size 0, and every other one reads as before. Assumes nothing.
-use Prim.Native.Nat.{ℕ, ◌+◌, ◌*◌, ◌≤◌, ◌<◌}
-use mathlib.Core.Path.{◌≡◌, refl, ◌∙◌}
-use mathlib.Core.Logic.{◌≢◌}
-use mathlib.Core.List.{List}
-use native.Mathlib.Omega.{arith}
-use native.Mathlib.Nat.{add-zero}
-use lib.Dec.{T, lit<, lit≤}
-use lib.ListN.{length, get_or, set, length-set}
-use lib.Seq.{get_or-set_same, get_or-set_other}
+use Rattle.std.proofs.Common.{◌≡◌, ℕ, ◌+◌, ◌*◌, ◌<◌, ◌≤◌, T, ◌≢◌, List, length, get_or, set, refl, ◌∙◌, add-zero, arith, lit<, lit≤, length-set, get_or-set_other, get_or-set_same}
 use Rattle.state.specs.Layout.{size, lists, all_odts, all_entries, phase_at, counts_at, mode_at, entry_size, entries_at, sample_at}
 use Rattle.state.specs.Pool.{list_count, first_odt, odt_count, odt_total, entries_in, first_entry, entry_count, entry_total, entry_at}
 use Rattle.state.specs.State.{Pointed}

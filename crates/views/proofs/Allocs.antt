@@ -1,15 +1,5 @@
 -- What FREE_DAQ and the three allocations show: the session with its lists freed, or with new lists, ODTs or entries, of which nothing is set. Assumes nothing.
-use Prim.Native.Nat.{ℕ, suc, ◌+◌, ◌-◌, ◌%◌, ◌≤◌, ◌<◌}
-use mathlib.Core.Path.{◌≡◌, refl, sym, ap, ◌∙◌}
-use mathlib.Core.Logic.{◌≢◌}
-use mathlib.Core.Bool.{Bool, true, cond}
-use mathlib.Core.List.{List}
-use native.Mathlib.Omega.{arith}
-use native.Mathlib.Nat.{zero-add, mod-eq_of_lt}
-use borrow.Author.Tests.{lt-ltb, le-ltb, eq-eqb, ne_eqb}
-use lib.Dec.{T, eqb, ltb, lit<, lit≤}
-use lib.ListN.{length, get_or, set, length-set}
-use lib.Seq.{get_or-set_same, get_or-set_other}
+use Rattle.std.proofs.Common.{◌≡◌, ℕ, suc, ◌+◌, ◌-◌, ◌%◌, ◌<◌, ◌≤◌, Bool, true, cond, T, eqb, ltb, ◌≢◌, List, length, get_or, set, sym, refl, ap, ◌∙◌, mod-eq_of_lt, zero-add, arith, lit<, lit≤, length-set, get_or-set_other, get_or-set_same, le-ltb, lt-ltb, eq-eqb, ne_eqb}
 use Rattle.line.proofs.Laws.{cond_ind}
 use Rattle.state.specs.Layout.{size, lists, all_odts, all_entries, generator_at, ctr_at, round_at, last_at, open_at, pointer_at, phase_at, odts_at, counts_at, mode_at, selected_at, running_at, entries_at, sample_at}
 use Rattle.state.specs.Bytes.{cleared}
@@ -25,7 +15,7 @@ use Rattle.words.specs.declared.Pointer.TheVariants.{Unset as NoEntry, At as Ent
 use Rattle.lists.specs.Alloc.{lists_freed, lists_allocated, odts_allocated, entries_allocated}
 use Rattle.fields.proofs.Stores.{cleared_in}
 use Rattle.fields.proofs.Frames.{Only, out_below, out_above, only_set, only_cleared, only_dropped}
-use Rattle.fields.proofs.Readers.{Same, clear, same_part, same_then, apart, flag_reads, generator_reads, wrong_keys_reads, open_reads, seed_reads, mta_reads}
+use Rattle.fields.proofs.Readers.{Same, clear, same_part, same_within, same_then, apart, flag_reads, generator_reads, wrong_keys_reads, open_reads, seed_reads, mta_reads}
 use Rattle.fields.proofs.Fields.{no_round, dropped_empty}
 use Rattle.model.specs.Model.{up_to, put, no_entry, Odt, no_odt, DaqList, no_list, Session}
 use Rattle.model.specs.Step.{with_pointer, at, each_list, with_odts, with_entries, alloc_entries, without_lists, with_new_lists}
@@ -43,12 +33,12 @@ in_alloc : {s t : List ℕ} {p : Pointer} {f : Bool} {n r : ℕ} {g : ℕ → Da
     → pointer_of t ≡ p → freed_of t ≡ f → list_count t ≡ n → round_of t ≡ r → lists_of t ≡ g → session_of t ≡ relisted (session_of s) p f n r g
 unfolding session_of
 in_alloc w v p f n r g = λ i. record {
-  generator = generator_reads (same_part (lit≤ tt) (lit≤ tt) w) i;
-  wrong_keys = wrong_keys_reads (same_part (lit≤ tt) (lit≤ tt) w) i;
-  opened = open_reads (same_part (lit≤ tt) (lit≤ tt) v) i;
-  unlocked = locks_reads (same_part (lit≤ tt) (lit≤ tt) v) i;
-  seed = seed_reads (same_part (lit≤ tt) (lit≤ tt) w) (same_part (lit≤ tt) (lit≤ tt) v) i;
-  mta = mta_reads (same_part (lit≤ tt) (lit≤ tt) v) i;
+  generator = generator_reads (same_within tt w) i;
+  wrong_keys = wrong_keys_reads (same_within tt w) i;
+  opened = open_reads (same_within tt v) i;
+  unlocked = locks_reads (same_within tt v) i;
+  seed = seed_reads (same_within tt w) (same_within tt v) i;
+  mta = mta_reads (same_within tt v) i;
   pointer = p i;
   freed = f i;
   lists = n i;

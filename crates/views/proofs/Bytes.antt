@@ -1,12 +1,7 @@
 -- Bytes stay bytes: stored, cut out, and read from the line. Assumes nothing.
-use Prim.Native.Nat.{ℕ, zero, suc, ◌+◌, ◌/◌, ◌%◌, ◌<◌}
-use mathlib.Core.Path.{sym, subst}
-use mathlib.Core.List.{List, [], ◌∷◌}
-use native.Mathlib.Nat.{mod-lt}
-use borrow.Author.Tests.{eqb-true, eqb-false, ltb-true, ltb-false}
-use lib.Dec.{eqb, ltb, lit<}
-use lib.ListN.{length, get_or, set, take, drop}
-use lib.Seq.{get_or-set_same, get_or-set_other, get_or-drop, set_out}
+use Rattle.std.proofs.Common.{ℕ, zero, suc, ◌+◌, ◌/◌, ◌%◌, ◌<◌, eqb, ltb, List, [], ◌∷◌, length, get_or, take, drop, set, sym, subst, mod-lt, lit<, get_or-drop, get_or-set_other, get_or-set_same, ltb-false, ltb-true, eqb-true}
+use Rattle.std.proofs.lemmas.Bool.{eqb-false}
+use Rattle.std.proofs.Math.Seq.{set_out}
 use Rattle.line.specs.Message.{byte_form, longest}
 use Rattle.line.specs.Stuffing.{SYNC, ESC}
 use Rattle.line.specs.Unstuffing.{Fed, place_by, inside_by}

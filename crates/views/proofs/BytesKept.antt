@@ -1,21 +1,12 @@
 -- Bytes stay bytes through every call: of lent bytes that are below 256 each is below 256 after it. Assumes nothing.
-use Prim.{tt}
-use Prim.Native.Nat.{ℕ, zero, suc, ◌+◌, ◌/◌, ◌%◌, ◌≤◌, ◌<◌}
-use mathlib.Core.Path.{◌≡◌, sym, subst}
-use mathlib.Core.Bool.{Bool, true, false, cond}
-use mathlib.Core.Option.{Option, none, some}
-use mathlib.Core.List.{List, [], ◌∷◌, ◌++◌}
-use native.Mathlib.Nat.{mod-lt}
-use native.Mathlib.Omega.{arith}
-use borrow.Author.Tests.{eq-eqb, ltb-false}
-use lib.Dec.{eqb, ltb, leb, lit<, lit≤}
-use lib.ListN.{length, get_or, set, replicate}
+use Rattle.std.proofs.Common.{◌≡◌, ℕ, zero, suc, ◌+◌, ◌/◌, ◌%◌, ◌<◌, ◌≤◌, Bool, true, false, cond, eqb, ltb, leb, List, [], ◌∷◌, ◌++◌, length, get_or, set, replicate, Some, None, Ok, Err, sym, subst, mod-lt, arith, lit<, lit≤, ltb-false, eq-eqb}
+use Rattle.std.proofs.Math.Option.{Option, none, some}
 use Rattle.line.specs.Message.{byte_form, most, room, frame, head_in, sum}
 use Rattle.line.specs.Stuffing.{SYNC, ESC, stuff_byte, stuff}
 use Rattle.line.specs.Unstuffing.{Fed}
 use Rattle.line.specs.Writer.{at_front, Sent, write_in, write_of}
-use Rattle.line.specs.declared.Outcome.{Outcome}
-use Rattle.line.specs.declared.Outcome.TheVariants as line
+use Rattle.line.specs.Values.{Outcome}
+use Rattle.line.specs.declared.Fault.TheVariants.{BadLength, BadEscape, BadChecksum, CutOff, ShortBuffer}
 use Rattle.line.proofs.Laws.{cond_ind}
 use Rattle.state.specs.Layout.{size, is_first, events, stored_most, mark, mark_at, ctr_at, round_at, last_at, phase_at, answer_at, answer_bytes_at, sample_at}
 use Rattle.state.specs.Pool.{list_count, first_odt, odt_count, entry_count}
@@ -30,7 +21,6 @@ use Rattle.words.specs.declared.Resource.{Resource}
 use Rattle.words.specs.declared.Resource.TheVariants.{Calibration, Lists}
 use Rattle.words.specs.declared.Extension.{Extension}
 use Rattle.words.specs.declared.Extension.TheVariants.{Calibration as CalibrationMemory, Measured}
-use Rattle.words.specs.declared.Seed.TheVariants.{None, For}
 use Rattle.words.specs.declared.Mta.TheVariants.{At}
 use Rattle.words.specs.declared.Pointer.TheVariants.{At as Points}
 use Rattle.words.specs.declared.Reason.{Reason}
@@ -39,8 +29,8 @@ use Rattle.model.specs.declared.Deed.{Deed}
 use Rattle.model.specs.declared.Deed.TheVariants.{Refuse, RefuseSize, WrongKey, Connect, Disconnect, Status, Synch, NoSeed, GiveSeed, Unlock, SetMta, Upload, Checksum, Download, ClearList, SetPointer, ClearEntry, WriteEntry, SetMode, Stop, Start, KeepRunning, Select, StopAll, StartSelected, StopSelected, ProcessorInfo, ResolutionInfo, FreeLists, AllocLists, AllocOdts, AllocEntries}
 use Rattle.model.specs.declared.Sampling.{Sampling}
 use Rattle.model.specs.declared.Sampling.TheVariants.{Idle, Sampled, Missed}
-use Rattle.model.specs.declared.Turn.{Turn}
-use Rattle.model.specs.declared.Turn.TheVariants.{Nobody, Answer, Packet}
+use Rattle.model.specs.Turn.{Turn}
+use Rattle.model.specs.declared.Sender.TheVariants.{Answer, Packet}
 use Rattle.model.specs.Model.{Bytes, Odt, first_of, some_runs}
 use Rattle.model.specs.Heed.{Heeding, good_connect, heeding_in}
 use Rattle.model.specs.Step.{unlock, next_entry}
@@ -91,7 +81,7 @@ bytes_effect Disconnect s n nc nm g i h f w = bytes_closed s w
 bytes_effect Status s n nc nm g i h f w = w
 bytes_effect Synch s n nc nm g i h f w = w
 bytes_effect NoSeed s n nc nm g i h f w = w
-bytes_effect (GiveSeed r) s n nc nm g i h f w = bytes_seed (set_generator s (next_of (generator_of s))) (For r) (bytes_generator s (next_of (generator_of s)) w)
+bytes_effect (GiveSeed r) s n nc nm g i h f w = bytes_seed (set_generator s (next_of (generator_of s))) (Some r) (bytes_generator s (next_of (generator_of s)) w)
 bytes_effect (Unlock r) s n nc nm g i h f w = bytes_seed (set s (lock_at r) 1) None (bytes_set s (lock_at r) 1 w (lit< tt))
 bytes_effect (SetMta e a) s n nc nm g i h f w = bytes_mta s (At e a) w
 bytes_effect (Upload e a m) s n nc nm g i h f w = bytes_mta s _ w
@@ -244,13 +234,13 @@ module _ (cal meas : List ℕ) (wc : Bytes cal) (wm : Bytes meas) where
 
   bytes_meant : (o : Outcome) (m s : List ℕ) → Bytes m → Bytes s → Low (meant o m s cal meas)
   unfolding meant
-  bytes_meant line.Nothing m s v w = (w, wc)
-  bytes_meant (line.Good ctr at n) m s v w = bytes_heeded (block m at n) s (bytes_block m at n v) w
-  bytes_meant line.BadLength m s v w = (w, wc)
-  bytes_meant line.BadEscape m s v w = (w, wc)
-  bytes_meant line.BadChecksum m s v w = (w, wc)
-  bytes_meant line.CutOff m s v w = (w, wc)
-  bytes_meant line.ShortBuffer m s v w = (w, wc)
+  bytes_meant (Ok None) m s v w = (w, wc)
+  bytes_meant (Ok (Some good)) m s v w = bytes_heeded (block m good.at good.len) s (bytes_block m good.at good.len v) w
+  bytes_meant (Err BadLength) m s v w = (w, wc)
+  bytes_meant (Err BadEscape) m s v w = (w, wc)
+  bytes_meant (Err BadChecksum) m s v w = (w, wc)
+  bytes_meant (Err CutOff) m s v w = (w, wc)
+  bytes_meant (Err ShortBuffer) m s v w = (w, wc)
 
 pub receive_bytes : (s cal meas : List ℕ) (b : ℕ) → Bytes s → Bytes cal → Bytes meas → b < 256 → Bytes (receive_of s cal meas b).state × Bytes (receive_of s cal meas b).cal
 unfolding receive_of
@@ -369,10 +359,10 @@ bytes_write p ctr out v h w =
 
 bytes_sent_by : (t : Turn) (s out : List ℕ) → Within s t → Bytes s → Bytes (sent_by t s out).state × (Bytes out → Bytes (sent_by t s out).out)
 unfolding sent_by answer_of
-bytes_sent_by Nobody s out h w = (w, λ v. v)
-bytes_sent_by Answer s out h w =
+bytes_sent_by None s out h w = (w, λ v. v)
+bytes_sent_by (Some Answer) s out h w =
     (bytes_answer_sent s w, λ v. bytes_write (answer_of s) (ctr_of s) out (bytes_block (set s answer_bytes_at (answer_kind s)) answer_bytes_at (answer_length s) (bytes_kind s w)) (w ctr_at) v)
-bytes_sent_by (Packet l o) s out h w =
+bytes_sent_by (Some (Packet l o)) s out h w =
     let its : o < odt_count s l = h.1 in
     let k : ℕ = first_odt s l + o in
     let p : List ℕ = packet_from (session_of s) l o in

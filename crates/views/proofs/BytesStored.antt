@@ -1,15 +1,6 @@
 -- What the writers of the state store is of bytes, if what they are given is. Assumes nothing.
-use Prim.{tt}
-use Prim.Native.Nat.{ℕ, zero, suc, ◌+◌, ◌*◌, ◌-◌, ◌/◌, ◌%◌, ◌≤◌, ◌<◌}
-use mathlib.Core.Path.{◌≡◌, refl}
-use mathlib.Core.Bool.{Bool, true, false, cond}
-use mathlib.Core.List.{List, [], ◌∷◌, ◌++◌}
-use native.Mathlib.Nat.{mod-lt}
-use native.Mathlib.Omega.{arith}
-use borrow.Author.Tests.{ltb-true}
-use lib.Dec.{T, ltb, lit<}
-use lib.ListN.{length, set, take, drop, replicate}
-use lib.Seq.{sets}
+use Rattle.std.proofs.Common.{ℕ, zero, suc, ◌+◌, ◌-◌, ◌*◌, ◌/◌, ◌%◌, ◌<◌, ◌≤◌, Bool, true, false, cond, T, ltb, List, [], ◌∷◌, ◌++◌, length, take, drop, set, replicate, Some, None, mod-lt, arith, lit<, ltb-true}
+use Rattle.std.proofs.Math.Seq.{sets}
 use Rattle.line.specs.Unstuffing.{Fed}
 use Rattle.line.specs.declared.Place.{Place}
 use Rattle.line.specs.declared.Place.TheVariants.{Outside, Inside, Escaped}
@@ -26,8 +17,7 @@ use Rattle.words.specs.declared.Resource.{Resource}
 use Rattle.words.specs.declared.Resource.TheVariants.{Calibration, Lists}
 use Rattle.words.specs.declared.Extension.{Extension}
 use Rattle.words.specs.declared.Extension.TheVariants.{Calibration as CalibrationMemory, Measured}
-use Rattle.words.specs.declared.Seed.{Seed}
-use Rattle.words.specs.declared.Seed.TheVariants.{None, For}
+use Rattle.words.specs.Values.{Seed}
 use Rattle.words.specs.declared.Mta.{Mta}
 use Rattle.words.specs.declared.Mta.TheVariants.{Unset, At}
 use Rattle.words.specs.declared.Pointer.{Pointer}
@@ -36,14 +26,11 @@ use Rattle.model.specs.Model.{Bytes}
 use Rattle.lists.specs.Lists.{runs_of, tag_of, switched, stopped, list_cleared, mode_set, head_of, entry_set, stop_each, start_one, start_selected, stop_one, stop_selected}
 use Rattle.lists.specs.Alloc.{lists_allocated, odts_allocated, room_made, entries_allocated}
 use Rattle.session.specs.Receive.{read_on}
+use Rattle.fields.proofs.Stores.{both_tests}
 use Rattle.fields.proofs.Fields.{more_few}
 use Rattle.views.proofs.Bytes.{bytes_cons, bytes_set, bytes_take, bytes_drop, bytes_block}
 
 -- ---- bytes written out, put together, and stored
-both : (a b : Bool) → T (cond a b false) → (a ≡ true) × T b
-both true b t = (refl, t)
-both false b t = absurd t
-
 abbrev low : List ℕ → Bool
 low [] = true
 low (x ∷ xs) = cond (ltb x 256) (low xs) false
@@ -54,7 +41,7 @@ no_bytes i = lit< tt
 -- `tt` proves it of numbers that are written out
 pub literal : (xs : List ℕ) → T (low xs) → Bytes xs
 literal [] t = no_bytes
-literal (x ∷ xs) t = let p = both (ltb x 256) (low xs) t in bytes_cons x xs (ltb-true x 256 p.0) (literal xs p.1)
+literal (x ∷ xs) t = let p = both_tests (ltb x 256) (low xs) t in bytes_cons x xs (ltb-true x 256 p.0) (literal xs p.1)
 
 pub one_byte : (x : ℕ) → x < 256 → Bytes (x ∷ [])
 one_byte x h = bytes_cons x [] h no_bytes
@@ -95,7 +82,7 @@ bit_low Lists = lit< tt
 pub bytes_seed : (s : List ℕ) (x : Seed) → Bytes s → Bytes (set_seed s x)
 unfolding set_seed
 bytes_seed s None w = bytes_set s seed_at 0 w (lit< tt)
-bytes_seed s (For r) w = bytes_set s seed_at (bit_of r) w (bit_low r)
+bytes_seed s (Some r) w = bytes_set s seed_at (bit_of r) w (bit_low r)
 
 pub bytes_generator : (s : List ℕ) (x : ℕ) → Bytes s → Bytes (set_generator s x)
 unfolding set_generator

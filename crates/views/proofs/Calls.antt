@@ -1,16 +1,7 @@
 -- What every other change of the bytes shows: an answer put to wait, a byte read, an answer or a packet sent, a list sampled, power-up. Assumes nothing.
-use Prim.Native.Nat.{ℕ, zero, suc, ◌+◌, ◌^◌, ◌≤◌, ◌<◌}
-use mathlib.Core.Path.{◌≡◌, refl, sym, ap, ap₂, subst, ◌∙◌}
-use mathlib.Core.Logic.{◌≢◌}
-use mathlib.Core.Bool.{true, cond}
-use mathlib.Core.List.{List, [], ◌∷◌, ◌++◌}
-use native.Mathlib.Nat.{add-zero}
-use native.Mathlib.Numerals.{add-one}
-use native.Mathlib.Omega.{arith}
-use borrow.Author.Tests.{lt-ltb, le-ltb, eqb-true, eqb-false}
-use lib.Dec.{eqb, ltb, lit<, lit≤}
-use lib.ListN.{take, drop, length, get_or, set, replicate, length-set, length-replicate, get_or-replicate}
-use lib.Seq.{length-take-le, take_at, drop_at, get_or-set_same, get_or-set_other}
+use Rattle.std.proofs.Common.{◌≡◌, ℕ, zero, suc, ◌+◌, ◌^◌, ◌<◌, ◌≤◌, true, cond, eqb, ltb, ◌≢◌, List, [], ◌∷◌, ◌++◌, length, get_or, take, drop, set, replicate, sym, refl, ap, ◌∙◌, subst, ap₂, add-zero, add-one, arith, lit<, lit≤, length-set, length-take-le, get_or-set_other, get_or-set_same, take_at, drop_at, le-ltb, lt-ltb, eqb-true}
+use Rattle.std.proofs.lemmas.Bool.{eqb-false}
+use Rattle.std.proofs.lemmas.List.{length-replicate, get_or-replicate}
 use Rattle.line.specs.Message.{longest}
 use Rattle.line.specs.Unstuffing.{Fed}
 use Rattle.line.specs.declared.Place.TheVariants.{Outside}
@@ -30,8 +21,8 @@ use Rattle.session.specs.PowerUp.{powered}
 use Rattle.state.proofs.Xorshift.{start_some, start_same}
 use Rattle.fields.proofs.Fields.{Counted, place_same, generator_same, Answering, answer_same, Bare}
 use Rattle.fields.proofs.Stores.{block_sets, sets_in}
-use Rattle.fields.proofs.Frames.{Only, out_above, only_none, only_then, only_wider, only_set, only_sets, only_put32, only_generator, only_read_on, only_message, only_place, only_answered}
-use Rattle.fields.proofs.Readers.{Same, apart, same_part, flag_reads, generator_reads, wrong_keys_reads, open_reads, seed_reads, mta_reads, list_count_reads, odt_count_reads, entry_count_reads, round_reads, pointer_reads, place_reads, message_reads, answer_reads, entries_own, store_own}
+use Rattle.fields.proofs.Frames.{Only, out_above, only_none, only_then, only_wider, only_within, only_set, only_sets, only_put32, only_generator, only_read_on, only_message, only_place, only_answered}
+use Rattle.fields.proofs.Readers.{Same, apart, same_within, flag_reads, generator_reads, wrong_keys_reads, open_reads, seed_reads, mta_reads, list_count_reads, odt_count_reads, entry_count_reads, round_reads, pointer_reads, place_reads, message_reads, answer_reads, entries_own, store_own}
 use Rattle.fields.proofs.Served.{answer_sent_front, answer_sent_round, answer_sent_session, answer_sent_reader}
 use Rattle.model.specs.Model.{no_odt, blank}
 use Rattle.model.specs.Step.{with_session, with_lists, at, emptied}
@@ -45,22 +36,22 @@ use Rattle.views.proofs.Shows.{flag_zero, Changes, changes, store_empty, bare_se
 in_round : {s t : List ℕ} → Same generator_at ctr_at s t → Same session_at size s t → session_of t ≡ with_round (session_of s) (round_of t)
 unfolding session_of
 in_round {s} {t} w v = λ i. record {
-  generator = generator_reads (same_part (lit≤ tt) (lit≤ tt) w) i;
-  wrong_keys = wrong_keys_reads (same_part (lit≤ tt) (lit≤ tt) w) i;
-  opened = open_reads (same_part (lit≤ tt) (lit≤ tt) v) i;
-  unlocked = locks_reads (same_part (lit≤ tt) (lit≤ tt) v) i;
-  seed = seed_reads (same_part (lit≤ tt) (lit≤ tt) w) (same_part (lit≤ tt) (lit≤ tt) v) i;
-  mta = mta_reads (same_part (lit≤ tt) (lit≤ tt) v) i;
-  pointer = pointer_reads (same_part (lit≤ tt) (lit≤ tt) v) i;
-  freed = freed_reads (same_part (lit≤ tt) (lit≤ tt) v) i;
-  lists = list_count_reads (same_part (lit≤ tt) (lit≤ tt) v) i;
+  generator = generator_reads (same_within tt w) i;
+  wrong_keys = wrong_keys_reads (same_within tt w) i;
+  opened = open_reads (same_within tt v) i;
+  unlocked = locks_reads (same_within tt v) i;
+  seed = seed_reads (same_within tt w) (same_within tt v) i;
+  mta = mta_reads (same_within tt v) i;
+  pointer = pointer_reads (same_within tt v) i;
+  freed = freed_reads (same_within tt v) i;
+  lists = list_count_reads (same_within tt v) i;
   round = round_of t;
-  list = lists_reads (same_part (lit≤ tt) (lit≤ tt) v) i;
+  list = lists_reads (same_within tt v) i;
 }
 
 pub session_reads : {s t : List ℕ} → Same generator_at ctr_at s t → Same round_at last_at s t → Same session_at size s t → session_of t ≡ session_of s
 unfolding session_of
-session_reads {s} w r v = in_round w v ∙ ap (with_round (session_of s)) (round_reads (same_part (lit≤ tt) (lit≤ tt) v) r)
+session_reads {s} w r v = in_round w v ∙ ap (with_round (session_of s)) (round_reads (same_within tt v) r)
 
 -- ---- an answer waits
 pub view_answered : (s bs : List ℕ) → length s ≡ size → Answering bs → view_of (answered s bs) ≡ with_answer (view_of s) bs
@@ -95,9 +86,9 @@ view_answer_sent s h =
     let h₂ : length s₂ ≡ size = length-set s₁ answer_at 0 ∙ h₁ in
     let h₃ : length s₃ ≡ size = length-set s₂ ctr_at (ctr_next s) ∙ h₂ in
     λ i. record {
-      session = session_reads (same_part (lit≤ tt) (lit≤ tt) (answer_sent_front s)) (answer_sent_round s) (answer_sent_session s) i;
-      place = place_reads (same_part (lit≤ tt) (lit≤ tt) (answer_sent_reader s)) i;
-      message = message_reads (same_part (lit≤ tt) (lit≤ tt) (answer_sent_reader s)) i;
+      session = session_reads (same_within tt (answer_sent_front s)) (answer_sent_round s) (answer_sent_session s) i;
+      place = place_reads (same_within tt (answer_sent_reader s)) i;
+      message = message_reads (same_within tt (answer_sent_reader s)) i;
       answer = no_answer (answer_sent s) (get_or-set_other s₃ last_at answer_at 1 0 (omega arith) ∙ get_or-set_other s₂ ctr_at answer_at (ctr_next s) 0 (omega arith) ∙ get_or-set_same s₁ answer_at 0 0 (omega arith)) i;
       ctr = (get_or-set_other s₃ last_at ctr_at 1 0 (omega arith) ∙ get_or-set_same s₂ ctr_at (ctr_next s) 0 (omega arith)) i;
       last_answer = flag_on (answer_sent s) last_at (get_or-set_same s₃ last_at 1 0 (omega arith)) i;
@@ -271,7 +262,7 @@ module _ (s : List ℕ) (l clock : ℕ) (cal meas : List ℕ) (long : length s �
   pub view_captured : view_of (captured s l clock cal meas) ≡ with_session (view_of s) (at l (sampled clock cal meas) (session_of s))
   unfolding session_of
   view_captured =
-      in_session (record { range = only_wider (lit≤ tt) (lit≤ tt) only_lists; ctr = apart tt only_lists; between = apart tt only_lists })
+      in_session (record { range = only_within tt only_lists; ctr = apart tt only_lists; between = apart tt only_lists })
       ∙ ap (with_session (view_of s)) (in_lists only_lists ∙ ap (with_lists (session_of s)) changes_captured)
 
 -- ---- power-up
@@ -299,7 +290,7 @@ module _ (start : ℕ) where
 
   powered_only : Only mark_at wrong_keys_at zeros (powered start)
   unfolding powered
-  powered_only = only_then (only_put32 zeros mark_at mark (lit≤ tt) (lit≤ tt)) (only_wider (lit≤ tt) (lit≤ tt) (only_generator marked (start_of start)))
+  powered_only = only_then (only_put32 zeros mark_at mark (lit≤ tt) (lit≤ tt)) (only_within tt (only_generator marked (start_of start)))
 
   -- what is neither the mark nor the generator
   pub powered_nought : (j : ℕ) → wrong_keys_at ≤ j → j < size → get_or (powered start) j 0 ≡ 0

@@ -1,9 +1,5 @@
 -- A command that is known is named by its own code alone. Assumes nothing.
-use Prim.{tt}
-use Prim.Native.Nat.{ℕ}
-use mathlib.Core.Path.{◌≡◌}
-use borrow.Author.Tests.{eqb-true}
-use lib.Dec.{eqb}
+use Rattle.std.proofs.Common.{◌≡◌, ℕ, eqb, eqb-true}
 use Rattle.line.proofs.Laws.{cond_ind}
 use Rattle.words.specs.Command.{command_of}
 use Rattle.words.specs.declared.Command.{Command}

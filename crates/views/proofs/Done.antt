@@ -1,8 +1,5 @@
 -- A deed that is done, its answer waiting: what the bytes then show. Assumes nothing.
-use Prim.Native.Nat.{ℕ}
-use mathlib.Core.Path.{◌≡◌, ap, ◌∙◌}
-use mathlib.Core.List.{List}
-use lib.ListN.{length}
+use Rattle.std.proofs.Common.{◌≡◌, ℕ, List, length, ap, ◌∙◌}
 use Rattle.state.specs.Layout.{size}
 use Rattle.state.specs.State.{generator_of, wrong_keys_of}
 use Rattle.judge.specs.Doable.{Doable}

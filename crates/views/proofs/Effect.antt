@@ -1,13 +1,7 @@
 -- What a deed makes of the bytes shows what it makes of the slave. Assumes nothing.
-use Prim.Native.Nat.{ℕ, zero, suc, ◌+◌, ◌^◌, ◌≤◌, ◌<◌}
-use mathlib.Core.Path.{◌≡◌, refl, sym, ap, ap₂, subst, ◌∙◌, fun_ext}
-use mathlib.Core.Logic.{◌≢◌}
-use mathlib.Core.Bool.{Bool, true, false, cond}
-use mathlib.Core.List.{List}
-use native.Mathlib.Omega.{arith}
-use borrow.Author.Tests.{ltb-true, ltb-false, lt-ltb, le-ltb, eqb-true, eqb-false}
-use lib.Dec.{eqb, ltb, lit<, lit≤}
-use lib.ListN.{length, set}
+use Rattle.std.proofs.Common.{◌≡◌, ℕ, zero, suc, ◌+◌, ◌^◌, ◌<◌, ◌≤◌, Bool, true, false, cond, eqb, ltb, ◌≢◌, List, length, set, Some, None, sym, refl, ap, ◌∙◌, subst, ap₂, arith, lit<, lit≤, ltb-false, ltb-true, le-ltb, lt-ltb, eqb-true}
+use Rattle.std.proofs.Math.Path.{fun_ext}
+use Rattle.std.proofs.lemmas.Bool.{eqb-false}
 use Rattle.line.proofs.Laws.{cond_ind}
 use Rattle.state.specs.Layout.{size, lists, entry_most, addressable, mode_at, selected_at, sample_at}
 use Rattle.state.specs.Pool.{list_count, first_odt, odt_count, entry_count}
@@ -22,13 +16,12 @@ use Rattle.model.specs.Step.{next_entry, with_session, with_seed, entries_there,
 use Rattle.session.specs.Perform.{entry_written, effect}
 use Rattle.words.specs.declared.Extension.{Extension}
 use Rattle.words.specs.declared.Extension.TheVariants.{Calibration as CalibrationMemory}
-use Rattle.words.specs.declared.Seed.TheVariants.{None, For}
 use Rattle.words.specs.declared.Pointer.{Pointer}
 use Rattle.words.specs.declared.Pointer.TheVariants.{Unset as NoEntry, At as Points}
 use Rattle.model.specs.declared.Deed.{Deed}
 use Rattle.model.specs.declared.Deed.TheVariants.{Refuse, RefuseSize, WrongKey, Connect, Disconnect, Status, Synch, NoSeed, GiveSeed, Unlock, SetMta, Upload, Checksum, Download, ClearList, SetPointer, ClearEntry, WriteEntry, SetMode, Stop, Start, KeepRunning, Select, StopAll, StartSelected, StopSelected, ProcessorInfo, ResolutionInfo, FreeLists, AllocLists, AllocOdts, AllocEntries}
 use Rattle.state.proofs.Inside.{inside_le}
-use Rattle.fields.proofs.Frames.{Only, only_none, only_set, only_wider, only_generator, only_lock}
+use Rattle.fields.proofs.Frames.{Only, only_none, only_set, only_within, only_generator, only_lock}
 use Rattle.fields.proofs.Fields.{Given}
 use Rattle.fields.proofs.Readers.{apart, wrong_keys_reads, open_reads, list_count_reads, first_odt_reads, odt_count_reads, entry_count_reads}
 use Rattle.fields.proofs.Effects.{list_there, odt_there, entry_there, list_few, effected, only_switched, only_list_cleared, only_mode_set, only_entry_set, only_stop_each, only_start_selected, only_stop_selected}
@@ -205,7 +198,7 @@ module _ (s : List ℕ) (l o e : ℕ) (h : length s ≡ size) (can : Entered (se
       let t : List ℕ = entry_set s l k e m x a in
       let w : Only (mode_at 0) (sample_at 0) s t = only_entry_set s l k e m x a (list_few s l can.0) entry in
       let next : Pointer = next_entry (entry_count s k) l o e in
-      let v : Only (mode_at 0) size s t = only_wider (lit≤ tt) (lit≤ tt) w in
+      let v : Only (mode_at 0) size s t = only_within tt w in
       shows_pointer t (w.long ∙ h) next (pointed_stays (apart tt v) next (next_pointed s l o e there its entry))
       ∙ ap₂ with_pointer (shows_lists v (changes_entry_set s l h there o e m a x its entry m4 a4)) (ap (λ (y : Odt). next_entry y.entries l o e) (sym (odt_at s l there o its)))
 
@@ -221,20 +214,20 @@ session_effect Synch s n nc nm h can fit = refl
 session_effect NoSeed s n nc nm h can fit = refl
 session_effect (GiveSeed r) s n nc nm h can fit =
     let x : ℕ = next_of (generator_of s) in
-    let few : Given (For r) (wrong_keys_of (set_generator s x)) = rw (wrong_keys_reads (apart tt (only_generator s x))) fit.2 in
-    shows_seed (set_generator s x) ((only_generator s x).long ∙ h) (For r) few ∙ ap (λ (c : Session). with_seed c (For r)) (shows_generator s h x fit.0 fit.1)
+    let few : Given (Some r) (wrong_keys_of (set_generator s x)) = rw (wrong_keys_reads (apart tt (only_generator s x))) fit.2 in
+    shows_seed (set_generator s x) ((only_generator s x).long ∙ h) (Some r) few ∙ ap (λ (c : Session). with_seed c (Some r)) (shows_generator s h x fit.0 fit.1)
 session_effect (Unlock r) s n nc nm h can fit =
     shows_seed (set s (lock_at r) 1) ((only_lock s r 1).long ∙ h) None tt ∙ ap (λ (c : Session). with_seed c None) (shows_lock s h r)
 session_effect (SetMta e a) s n nc nm h can fit = shows_mta s h _ fit
 session_effect (Upload e a m) s n nc nm h can fit = shows_mta s h _ (low a m (pick e nc nm) can.1)
 session_effect (Checksum e a m) s n nc nm h can fit = shows_mta s h _ (low a m (pick e nc nm) can.1)
 session_effect (Download from a m) s n nc nm h can fit = shows_mta s h _ (low a m nc can.1.1)
-session_effect (ClearList l) s n nc nm h can fit = shows_lists (only_wider (lit≤ tt) (lit≤ tt) (only_list_cleared s l (list_few s l can))) (changes_cleared s l h can)
+session_effect (ClearList l) s n nc nm h can fit = shows_lists (only_within tt (only_list_cleared s l (list_few s l can))) (changes_cleared s l h can)
 session_effect (SetPointer l o e) s n nc nm h can fit = shows_pointed s l o e h can
 session_effect (ClearEntry l o e) s n nc nm h can fit = shows_entry s l o e h can 0 CalibrationMemory 0 (lit≤ tt) (lit< tt)
 session_effect (WriteEntry l o e m x a) s n nc nm h can fit = shows_entry s l o e h can m x a fit.0 fit.1
 session_effect (SetMode l event) s n nc nm h can fit =
-    shows_lists (only_wider (lit≤ tt) (lit≤ tt) (only_mode_set s l event (list_few s l can.0))) (changes_mode s l h can.0 event can.1)
+    shows_lists (only_within tt (only_mode_set s l event (list_few s l can.0))) (changes_mode s l h can.0 event can.1)
 session_effect (Stop l) s n nc nm h can fit = shows_lists (only_switched s l 0 (list_few s l can)) (changes_switched s l h can 0)
 session_effect (Start l) s n nc nm h can fit = shows_lists (only_switched s l 1 (list_few s l can)) (changes_switched s l h can 1)
 session_effect (KeepRunning l) s n nc nm h can fit = refl

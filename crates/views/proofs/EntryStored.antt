@@ -1,14 +1,5 @@
 -- An entry is stored: it reads as it was meant, and no other of its ODT differently. Assumes nothing.
-use Prim.Native.Nat.{ℕ, ◌+◌, ◌*◌, ◌/◌, ◌%◌, ◌≤◌, ◌<◌}
-use mathlib.Core.Path.{◌≡◌, refl}
-use mathlib.Core.Logic.{◌≢◌}
-use mathlib.Core.Bool.{cond}
-use mathlib.Core.List.{List}
-use native.Mathlib.Nat.{mod-eq_of_lt, mod-lt, div-add-mod'}
-use native.Mathlib.Omega.{arith}
-use borrow.Author.Tests.{le-ltb}
-use lib.Dec.{eqb, lit<}
-use lib.ListN.{get_or}
+use Rattle.std.proofs.Common.{◌≡◌, ℕ, ◌+◌, ◌*◌, ◌/◌, ◌%◌, ◌<◌, ◌≤◌, cond, eqb, ◌≢◌, List, get_or, refl, mod-lt, mod-eq_of_lt, div-add-mod', arith, lit<, le-ltb}
 use Rattle.state.specs.Layout.{all_odts, entry_most, addressable, entry_size, entries_at}
 use Rattle.state.specs.Pool.{first_entry, entry_count, entry_at}
 use Rattle.state.specs.Lists.{size_of, extension_of, address_of}

@@ -1,14 +1,9 @@
 -- An event samples the lists that run on it and have no unsent packet, misses those that have one, and tells how many; so of the model. Assumes nothing.
-use Prim.Native.Nat.{ℕ, zero, suc, ◌+◌, ◌<◌}
-use mathlib.Core.Path.{◌≡◌, refl, sym, ap, ap₂, subst, ◌∙◌}
-use mathlib.Core.Bool.{Bool, true, false, cond, not, ◌&&◌, ◌||◌}
-use mathlib.Core.List.{List}
-use borrow.Author.Tests.{lt-ltb, lt-leb}
-use lib.Dec.{eqb, ltb}
-use lib.ListN.{length}
+use Rattle.std.proofs.Common.{◌≡◌, ℕ, zero, suc, ◌+◌, ◌<◌, Bool, true, false, cond, not, ◌&&◌, eqb, ltb, List, length, sym, refl, ap, ◌∙◌, subst, ap₂, lt-ltb}
+use Rattle.std.proofs.lemmas.Bool.{lt-leb}
 use Rattle.line.proofs.Laws.{cond_ind}
 use Rattle.state.specs.Layout.{events}
-use Rattle.words.specs.declared.Evented.TheVariants.{Done}
+use Rattle.words.specs.Values.{event_done}
 use Rattle.model.specs.declared.Sampling.{Sampling}
 use Rattle.model.specs.declared.Sampling.TheVariants.{Idle, Sampled, Missed}
 use Rattle.model.specs.Model.{Odt, DaqList, Session, Slave, some_packet, unsent, runs_in}
@@ -18,7 +13,7 @@ use Rattle.views.specs.Commands.{TheGenerator, TheWrongKeys, WhetherOpen, TheLoc
 use Rattle.views.specs.Words.{any, total}
 use Rattle.views.specs.Samples.{CapturedList}
 use Rattle.views.specs.Events.{on_event, still_unsent, takes_sample, misses_sample, how_many_of, EventLeaves}
-use Rattle.views.proofs.FaultWords.{running_is}
+use Rattle.views.proofs.FaultWords.{or_is, running_is}
 use Rattle.views.proofs.Listed.{Listed, runs_listed}
 use Rattle.views.proofs.SampleLaws.{samples_from}
 
@@ -26,10 +21,6 @@ use Rattle.views.proofs.SampleLaws.{samples_from}
 unsent_is : (x : DaqList) → unsent x ≡ still_unsent x
 unfolding some_packet
 unsent_is x = go x.odts where
-  or_is : (a b : Bool) → cond a true b ≡ (a || b)
-  or_is true b = refl
-  or_is false b = refl
-
   go : (n : ℕ) → some_packet x n ≡ any n (λ o. ltb 0 (length (x.odt o).store))
   go zero = refl
   go (suc n) = ap (λ (a : Bool). cond a true (ltb 0 (length (x.odt n).store))) (go n) ∙ or_is (any n (λ o. ltb 0 (length (x.odt o).store))) (ltb 0 (length (x.odt n).store))
@@ -79,8 +70,8 @@ module _ (c : Session) (listed : Listed c) (number : ℕ) where
     go true false = refl
     go false left = refl
 
-  counted_is : counted_in c number ≡ Done (how_many_of c (takes_sample c number)) (how_many_of c (misses_sample c number))
-  counted_is = ap₂ Done (total_is _ _ sampled_is c.lists) (total_is _ _ missed_is c.lists)
+  counted_is : counted_in c number ≡ event_done (how_many_of c (takes_sample c number)) (how_many_of c (misses_sample c number))
+  counted_is = ap₂ event_done (total_is _ _ sampled_is c.lists) (total_is _ _ missed_is c.lists)
 
   -- ---- what is left
   module _ (clock : ℕ) (cal meas : List ℕ) where

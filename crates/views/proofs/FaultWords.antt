@@ -1,13 +1,7 @@
 -- The words of the table of checks, which shares none with the model, mean what the model's do. Assumes nothing.
-use Prim.{tt}
-use Prim.Native.Nat.{ℕ, zero, suc, ◌+◌, ◌*◌, ◌%◌, ◌/◌, ◌^◌, ◌≤◌, ◌<◌}
-use mathlib.Core.Path.{◌≡◌, refl, sym, ap, ap₂, ◌∙◌}
-use mathlib.Core.Bool.{Bool, true, false, cond, not, ◌&&◌, ◌||◌}
-use native.Mathlib.Omega.{arith}
-use native.Mathlib.Nat.{mod-lt, div-add-mod'}
-use borrow.Author.Tests.{ltb-true, ltb-false, lt-ltb, le-leb, lt-leb, eq-eqb, ne_eqb}
-use lib.Dec.{eqb, ltb, leb, lit<}
-use lib.Pow.{low}
+use Rattle.std.proofs.Common.{◌≡◌, ℕ, zero, suc, ◌+◌, ◌*◌, ◌/◌, ◌%◌, ◌^◌, ◌<◌, ◌≤◌, Bool, true, false, cond, not, ◌&&◌, ◌||◌, eqb, ltb, leb, sym, refl, ap, ◌∙◌, ap₂, mod-lt, div-add-mod', arith, lit<, ltb-false, ltb-true, lt-ltb, eq-eqb, ne_eqb, le-leb}
+use Rattle.std.proofs.lemmas.Bool.{lt-leb}
+use Rattle.std.proofs.Math.Pow.{low}
 use Rattle.state.specs.Generator.{addend, rotated_left8, key_of, next_of}
 use Rattle.state.specs.Layout.{odt_most}
 use Rattle.state.specs.Memory.{inside_of}
@@ -31,6 +25,15 @@ is_none n =
     either (ltb 0 n)
     (λ t. ne_eqb n 0 (λ e. omega (arith, ltb-true 0 n t, e)) ∙ sym (ap not t))
     (λ t. let low : n ≤ 0 = ltb-false 0 n t in eq-eqb n 0 (omega arith) ∙ sym (ap not t))
+
+-- two tests: either, and neither
+pub or_is : (a b : Bool) → cond a true b ≡ (a || b)
+or_is true b = refl
+or_is false b = refl
+
+neither : (a b : Bool) → cond (not a) (not b) false ≡ not (a || b)
+neither true b = refl
+neither false b = refl
 
 -- ---- of the first n
 pub any_same : (n : ℕ) {f g : ℕ → Bool} → ((i : ℕ) → f i ≡ g i) → any n f ≡ any n g
@@ -101,21 +104,17 @@ module _ (x : DaqList) where
   unfolding each_fits
   each_fits_lem zero = refl
   each_fits_lem (suc n) = ap₂ (λ (a b : Bool). cond a b false) (each_fits_lem n) (one_fits n) ∙ neither (any n (too_long x)) (too_long x n)
-    where
-      neither : (a b : Bool) → cond (not a) (not b) false ≡ not (a || b)
-      neither true b = refl
-      neither false b = refl
 
   pub fit_is : fits x ≡ not (unfit x)
   unfolding fits
   fit_is =
       ap₂ (λ (a b : Bool). cond (eqb x.mode 0) false (cond a false b)) some_bytes (each_fits_lem x.odts)
-      ∙ neither (eqb x.mode 0) (not (any x.odts (λ o. any (x.odt o).entries (λ e. ltb 0 ((x.odt o).entry e).size)))) (any x.odts (too_long x))
+      ∙ none_of (eqb x.mode 0) (not (any x.odts (λ o. any (x.odt o).entries (λ e. ltb 0 ((x.odt o).entry e).size)))) (any x.odts (too_long x))
     where
-      neither : (a b d : Bool) → cond a false (cond b false (not d)) ≡ not (a || (b || d))
-      neither true b d = refl
-      neither false true d = refl
-      neither false false d = refl
+      none_of : (a b d : Bool) → cond a false (cond b false (not d)) ≡ not (a || (b || d))
+      none_of true b d = refl
+      none_of false true d = refl
+      none_of false false d = refl
 
 -- ---- what runs
 pub running_is : (c : Session) (l : ℕ) → runs_in c l ≡ running c l
@@ -129,10 +128,7 @@ running_is c l = both c.opened (c.list l).started (ltb 0 (c.list l).odts) where
 pub started_is : (c : Session) (n : ℕ) → some_started c n ≡ any n (λ l. (c.list l).started)
 unfolding some_started
 started_is c zero = refl
-started_is c (suc n) = ap (λ (a : Bool). cond a true (c.list n).started) (started_is c n) ∙ or_is (any n (λ l. (c.list l).started)) (c.list n).started where
-  or_is : (a b : Bool) → cond a true b ≡ (a || b)
-  or_is true b = refl
-  or_is false b = refl
+started_is c (suc n) = ap (λ (a : Bool). cond a true (c.list n).started) (started_is c n) ∙ or_is (any n (λ l. (c.list l).started)) (c.list n).started
 
 pub ready_is : (c : Session) (n : ℕ) → all_startable c n ≡ not (any n (λ l. (c.list l).selected && (not (running c l) && unfit (c.list l))))
 unfolding all_startable
@@ -148,10 +144,6 @@ ready_is c (suc n) =
         go true true u = refl
         go true false u = refl
         go false r u = refl
-
-    neither : (a b : Bool) → cond (not a) (not b) false ≡ not (a || b)
-    neither true b = refl
-    neither false b = refl
 
 -- ---- blocks
 pub outside_is : (a n lent : ℕ) → outside a n lent ≡ not (inside_of a n lent)

@@ -1,14 +1,7 @@
 -- A command is refused with the code of its first fault, and done exactly if it has none; so of the model. Assumes nothing.
-use Prim.{tt}
-use Prim.Native.Nat.{ℕ, ◌+◌, ◌≤◌}
-use mathlib.Core.Path.{◌≡◌, refl, sym, ap, subst, ◌∙◌}
-use mathlib.Core.Bool.{Bool, true, false, cond, not, ◌&&◌, ◌||◌}
-use mathlib.Core.Option.{Option, none, some}
-use mathlib.Core.List.{List, [], ◌∷◌}
-use borrow.Author.Tests.{eqb-true, eqb-false, ltb-true, ltb-false, leb-true, eq-eqb, ne_eqb, le-ltb, le-leb, lt-leb}
-use native.Mathlib.Omega.{arith}
-use lib.Dec.{eqb, ltb, leb}
-use lib.ListN.{length}
+use Rattle.std.proofs.Common.{◌≡◌, ℕ, ◌+◌, ◌≤◌, Bool, true, false, cond, not, ◌&&◌, ◌||◌, eqb, ltb, leb, List, [], ◌∷◌, length, Some, None, sym, refl, ap, ◌∙◌, subst, arith, ltb-false, ltb-true, le-ltb, eq-eqb, ne_eqb, eqb-true, le-leb, leb-true}
+use Rattle.std.proofs.Math.Option.{Option, none, some, some-injective, none-ne-some, some-ne-none}
+use Rattle.std.proofs.lemmas.Bool.{eqb-false, lt-leb}
 use Rattle.state.specs.Bytes.{u16_at, u32_at}
 use Rattle.state.specs.Generator.{key_of}
 use Rattle.state.specs.Memory.{pick, inside_of}
@@ -19,8 +12,7 @@ use Rattle.words.specs.declared.Resource.{Resource}
 use Rattle.words.specs.declared.Resource.TheVariants.{Calibration, Lists}
 use Rattle.words.specs.declared.Extension.{Extension}
 use Rattle.words.specs.declared.Extension.TheVariants.{Calibration as CalibrationMemory, Measured}
-use Rattle.words.specs.declared.Seed.{Seed}
-use Rattle.words.specs.declared.Seed.TheVariants.{None, For}
+use Rattle.words.specs.Values.{Seed}
 use Rattle.words.specs.declared.Mta.{Mta}
 use Rattle.words.specs.declared.Mta.TheVariants.{Unset, At}
 use Rattle.words.specs.declared.Pointer.{Pointer}
@@ -126,7 +118,7 @@ module _ (p : List ℕ) (c : Session) (nc nm : ℕ) where
   of_unlock_lem : (seed : Seed) (generator : ℕ) → Meets 0xF7 (first_of_these (of_unlock p seed generator)) (unlock_by seed generator (byte p 1) (length p) (u32_at p 2))
   unfolding unlock_by reply_in
   of_unlock_lem None generator = refuses Sequence refl
-  of_unlock_lem (For r) generator =
+  of_unlock_lem (Some r) generator =
       provided OutOfRange refl (eqb (byte p 1) 4) refl
       (unless DataMissing refl (ltb (length p) 6) refl
       (judged (eqb (u32_at p 2) (key_of r generator)) (ap (λ (x : Bool). not x) (ap (λ (k : ℕ). eqb k (key_for r generator)) (sym (four_is p 2)) ∙ ap (λ (k : ℕ). eqb (u32_at p 2) k) (sym (key_is r generator))))))
@@ -394,23 +386,14 @@ module _ (p : List ℕ) (c : Session) (nc nm : ℕ) where
       unknown)))))))))))))))))))))))
 
 -- ---- the answer
-some_same : {x y : ℕ} → some x ≡ some y → x ≡ y
-some_same e = cc
-
-none_some : {x : ℕ} → none ≡ some x → ⊥
-none_some e = subst Here e tt where
-  Here : Option ℕ → Type 0
-  Here none = Unit {0}
-  Here (some x) = ⊥
-
 answered : (n : ℕ) (f : Option ℕ) (d : Deed) (c : Session) (cal meas : List ℕ) → Meets n f d
     → ((code : ℕ) → f ≡ some code → reply_in d c cal meas ≡ refusal n code) × (f ≡ none → byte (reply_in d c cal meas) 0 ≡ 0xFF)
 unfolding reply_in
-answered n _ _ c cal meas (refuses r plain) = (λ code e. subst (λ (k : ℕ). 0xFE ∷ code_of r ∷ [] ≡ refusal n k) (some_same e) (rw plain refl), λ e. absurd (none_some (sym e)))
-answered n _ _ c cal meas (oversize f3) = (λ code e. subst (λ (k : ℕ). 0xFE ∷ 0x22 ∷ 0x00 ∷ 0x00 ∷ 0x00 ∷ 0x10 ∷ 0x00 ∷ 0x00 ∷ [] ≡ refusal n k) (some_same e) (rw f3 refl), λ e. absurd (none_some (sym e)))
-answered n _ _ c cal meas wrong_key_lem = (λ code e. subst (λ (k : ℕ). 0xFE ∷ 0x25 ∷ [] ≡ refusal n k) (some_same e) refl, λ e. absurd (none_some (sym e)))
-answered n _ _ c cal meas synchs = (λ code e. subst (λ (k : ℕ). 0xFE ∷ 0x00 ∷ [] ≡ refusal n k) (some_same e) refl, λ e. absurd (none_some (sym e)))
-answered n _ _ c cal meas (done d ff) = (λ code e. absurd (none_some e), λ _. ff c cal meas)
+answered n _ _ c cal meas (refuses r plain) = (λ code e. subst (λ (k : ℕ). 0xFE ∷ code_of r ∷ [] ≡ refusal n k) (some-injective _ _ e) (rw plain refl), λ e. absurd (some-ne-none _ e))
+answered n _ _ c cal meas (oversize f3) = (λ code e. subst (λ (k : ℕ). 0xFE ∷ 0x22 ∷ 0x00 ∷ 0x00 ∷ 0x00 ∷ 0x10 ∷ 0x00 ∷ 0x00 ∷ [] ≡ refusal n k) (some-injective _ _ e) (rw f3 refl), λ e. absurd (some-ne-none _ e))
+answered n _ _ c cal meas wrong_key_lem = (λ code e. subst (λ (k : ℕ). 0xFE ∷ 0x25 ∷ [] ≡ refusal n k) (some-injective _ _ e) refl, λ e. absurd (some-ne-none _ e))
+answered n _ _ c cal meas synchs = (λ code e. subst (λ (k : ℕ). 0xFE ∷ 0x00 ∷ [] ≡ refusal n k) (some-injective _ _ e) refl, λ e. absurd (some-ne-none _ e))
+answered n _ _ c cal meas (done d ff) = (λ code e. absurd (none-ne-some _ e), λ _. ff c cal meas)
 
 pub answers_first : (p : List ℕ) (c : Session) (cal meas : List ℕ) → Listed c → AnswersFirst p c (length cal) (length meas) (command_in p c cal meas).answer
 answers_first p c cal meas listed =

@@ -1,12 +1,5 @@
 -- What a deed's numbers fit in: what is judged of a packet and a state of bytes fits. Assumes nothing.
-use Prim.{tt}
-use Prim.Native.Nat.{ℕ, ◌+◌, ◌*◌, ◌^◌, ◌≤◌, ◌<◌}
-use mathlib.Core.Path.{◌≡◌}
-use mathlib.Core.Logic.{◌≢◌}
-use mathlib.Core.Bool.{true, false}
-use mathlib.Core.List.{List}
-use native.Mathlib.Omega.{arith}
-use lib.Dec.{eqb}
+use Rattle.std.proofs.Common.{◌≡◌, ℕ, ◌+◌, ◌*◌, ◌^◌, ◌<◌, ◌≤◌, true, false, eqb, ◌≢◌, List, arith}
 use Rattle.model.specs.Judge.{seen_in, judge_in, extension_from, judge}
 use Rattle.model.specs.View.{session_of}
 use Rattle.line.proofs.Laws.{cond_ind}

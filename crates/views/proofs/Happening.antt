@@ -1,19 +1,14 @@
 -- What an event in bytes shows is the event whole: the lists are taken one after the other, and each comes out as if it were taken by itself.
 -- Assumes nothing.
-use Prim.Native.Nat.{ℕ, zero, suc, ◌+◌, ◌≤◌, ◌<◌}
-use mathlib.Core.Path.{◌≡◌, refl, sym, ap, ap₂, ◌∙◌, fun_ext}
-use mathlib.Core.Bool.{Bool, true, cond}
-use mathlib.Core.List.{List}
-use native.Mathlib.Omega.{arith}
-use borrow.Author.Tests.{lt-ltb, le-ltb, ltb-true, ltb-false, ne_eqb, lt-leb}
-use lib.Dec.{eqb, ltb, leb}
-use lib.ListN.{length}
+use Rattle.std.proofs.Common.{◌≡◌, ℕ, zero, suc, ◌+◌, ◌<◌, ◌≤◌, Bool, true, cond, eqb, ltb, leb, List, length, sym, refl, ap, ◌∙◌, ap₂, arith, ltb-false, ltb-true, le-ltb, lt-ltb, ne_eqb}
+use Rattle.std.proofs.Math.Path.{fun_ext}
+use Rattle.std.proofs.lemmas.Bool.{lt-leb}
 use Rattle.line.proofs.Laws.{cond_ind}
 use Rattle.state.specs.Layout.{size, events, sample_at}
 use Rattle.state.specs.Pool.{list_count}
 use Rattle.state.specs.State.{consistent}
 use Rattle.state.proofs.Consistent.{consistent_size}
-use Rattle.words.specs.declared.Evented.TheVariants.{Done}
+use Rattle.words.specs.Values.{event_done}
 use Rattle.lists.specs.Event.{sampling_of, sampled_state, tally, Happened, event_of}
 use Rattle.fields.proofs.Frames.{Only}
 use Rattle.fields.proofs.Readers.{apart, list_count_reads}
@@ -142,7 +137,7 @@ view_event s cal meas event clock c =
     rw c
     (cond_ind (λ (o : Happened). event_shown o ≡ event_in event clock (view_of s) cal meas) (leb events event) (λ b. rw b)
     (λ b. rw b (λ i. record {
-      evented = Done (count_sampled s event clock cal meas h (list_count s) (omega arith) i) (count_missed s event clock cal meas h (list_count s) (omega arith) i);
+      evented = event_done (count_sampled s event clock cal meas h (list_count s) (omega arith) i) (count_missed s event clock cal meas h (list_count s) (omega arith) i);
       slave = view_tally s event clock cal meas h i;
     })))
 

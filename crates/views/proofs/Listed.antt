@@ -1,11 +1,5 @@
 -- What a session has of the pool: nothing beyond its lists, where bytes show it; which lists were started. Assumes nothing.
-use Prim.Native.Nat.{ℕ, zero, suc, ◌+◌, ◌≤◌, ◌<◌}
-use mathlib.Core.Path.{◌≡◌, refl, sym, ap, ap₂, subst, ◌∙◌}
-use mathlib.Core.Bool.{Bool, true, false, cond}
-use mathlib.Core.List.{List}
-use native.Mathlib.Omega.{arith}
-use borrow.Author.Tests.{ltb-true, ltb-false}
-use lib.Dec.{ltb}
+use Rattle.std.proofs.Common.{◌≡◌, ℕ, zero, suc, ◌+◌, ◌<◌, ◌≤◌, Bool, true, false, cond, ltb, List, sym, refl, ap, ◌∙◌, subst, ap₂, arith, ltb-false, ltb-true}
 use Rattle.line.proofs.Laws.{false_true, cond_ind}
 use Rattle.model.specs.Model.{DaqList, no_list, Session, odts_before, runs, runs_in, some_started}
 use Rattle.model.specs.View.{session_of}
@@ -42,15 +36,16 @@ before_next f l zero h = absurd (omega arith)
 before_next f l (suc n) h = this_or_other l n (λ e. rw e (omega arith)) (λ e. let p : odts_before f l + (f l).odts ≤ odts_before f n = before_next f l n (omega arith) in omega arith)
 
 -- ---- of the first n lists none was started: one by one
+pub neither : (a b : Bool) → cond a true b ≡ false → (a ≡ false) × (b ≡ false)
+neither true b f = absurd (false_true (sym f))
+neither false b f = (refl, f)
+
 pub not_started : (c : Session) (n : ℕ) → some_started c n ≡ false → (l : ℕ) → l < n → (c.list l).started ≡ false
 unfolding some_started
 not_started c zero e l h = absurd (omega arith)
 not_started c (suc n) e l h =
     let none = neither (some_started c n) (c.list n).started e in
-    this_or_other l n (λ same. ap (λ (i : ℕ). (c.list i).started) same ∙ none.1) (λ other. not_started c n none.0 l (omega arith)) where
-      neither : (a b : Bool) → cond a true b ≡ false → (a ≡ false) × (b ≡ false)
-      neither true b f = absurd (false_true (sym f))
-      neither false b f = (refl, f)
+    this_or_other l n (λ same. ap (λ (i : ℕ). (c.list i).started) same ∙ none.1) (λ other. not_started c n none.0 l (omega arith))
 
 pub none_started : (c : Session) (n : ℕ) → ((l : ℕ) → l < n → (c.list l).started ≡ false) → some_started c n ≡ false
 unfolding some_started

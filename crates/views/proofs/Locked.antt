@@ -1,11 +1,5 @@
 -- While lists are locked no command changes the lists' settings, unless it ends or renews the session. Assumes nothing.
-use Prim.Native.Nat.{ℕ, ◌+◌}
-use mathlib.Core.Path.{◌≡◌, refl, sym, ◌∙◌}
-use mathlib.Core.Bool.{Bool, true, false, cond}
-use mathlib.Core.List.{List}
-use borrow.Author.Tests.{eqb-true, eq-eqb}
-use lib.Dec.{eqb, ltb}
-use lib.ListN.{length}
+use Rattle.std.proofs.Common.{◌≡◌, ℕ, ◌+◌, Bool, true, false, cond, eqb, ltb, List, length, Some, None, sym, refl, ◌∙◌, eq-eqb, eqb-true}
 use Rattle.line.proofs.Laws.{cond_ind}
 use Rattle.line.proofs.Stuffed.{false_true}
 use Rattle.state.specs.Bytes.{u16_at, u32_at}
@@ -16,8 +10,7 @@ use Rattle.words.specs.declared.Command.{Command}
 use Rattle.words.specs.declared.Command.TheVariants as command
 use Rattle.words.specs.declared.Resource.{Resource}
 use Rattle.words.specs.declared.Resource.TheVariants.{Calibration, Lists}
-use Rattle.words.specs.declared.Seed.{Seed}
-use Rattle.words.specs.declared.Seed.TheVariants.{None, For}
+use Rattle.words.specs.Values.{Seed}
 use Rattle.words.specs.declared.Mta.{Mta}
 use Rattle.words.specs.declared.Reason.TheVariants.{TooShort, Sequence, OutOfRange, DataMissing}
 use Rattle.model.specs.Seen.{numbers_of}
@@ -151,7 +144,7 @@ module _ (p : List ℕ) (c : Session) (cal meas : List ℕ) where
       (cond_ind Shielded (ltb (length p) 2) (λ _. shield_kept wrong_answer (ends_unlock code) (Refuse TooShort) refl as_was) (λ _. go c.seed)) where
         go : (x : Seed) → Shielded (unlock_by x c.generator (byte p 1) (length p) (u32_at p 2))
         go None = shield_kept wrong_answer (ends_unlock code) (Refuse Sequence) refl as_was
-        go (For r) =
+        go (Some r) =
             cond_ind Shielded (eqb (byte p 1) 4)
             (λ _. cond_ind Shielded (ltb (length p) 6) (λ _. shield_kept wrong_answer (ends_unlock code) (Refuse DataMissing) refl as_was)
             (λ _. cond_ind Shielded (eqb (u32_at p 2) (key_of r c.generator))

@@ -1,16 +1,7 @@
 -- F6 to ED: what a command that is answered FF makes of the MTA and the memory, and what it answers. Assumes nothing.
-use Prim.Native.Nat.{ℕ, zero, suc, ◌+◌, ◌*◌, ◌-◌, ◌/◌, ◌%◌, ◌^◌, ◌≤◌, ◌<◌}
-use mathlib.Core.Path.{◌≡◌, refl, sym, ap, subst, ◌∙◌}
-use mathlib.Core.Logic.{◌≢◌}
-use mathlib.Core.Bool.{true}
-use mathlib.Core.List.{List, [], ◌∷◌}
-use native.Mathlib.Nat.{le_refl, mod-lt}
-use native.Mathlib.Numerals.{add-one}
-use native.Mathlib.Omega.{arith}
-use borrow.Author.Tests.{eqb-false, ltb-true, ltb-false}
-use lib.Dec.{eqb, ltb, lit≤, lit<}
-use lib.ListN.{length, drop}
-use lib.Seq.{length-sets, get_or-take, get_or-drop, drop-cons}
+use Rattle.std.proofs.Common.{◌≡◌, ℕ, zero, suc, ◌+◌, ◌-◌, ◌*◌, ◌/◌, ◌%◌, ◌^◌, ◌<◌, ◌≤◌, true, eqb, ltb, ◌≢◌, List, [], ◌∷◌, length, drop, sym, refl, ap, ◌∙◌, subst, le_refl, mod-lt, add-one, arith, lit<, lit≤, get_or-drop, drop-cons, get_or-take, ltb-false, ltb-true}
+use Rattle.std.proofs.lemmas.Bool.{eqb-false}
+use Rattle.std.proofs.Math.Seq.{length-sets}
 use Rattle.line.specs.Message.{sum}
 use Rattle.state.specs.Layout.{upload_most, download_from, download_most, short_download_from, short_download_most, addressable}
 use Rattle.state.specs.Bytes.{u32_at, put32, block, bytes32}

@@ -1,10 +1,5 @@
 -- Room made among the entries: those behind move up, and the new ones are zeros. Assumes nothing.
-use Prim.Native.Nat.{ℕ, ◌+◌, ◌*◌, ◌-◌, ◌≤◌, ◌<◌}
-use mathlib.Core.Path.{◌≡◌, ◌∙◌}
-use mathlib.Core.List.{List}
-use native.Mathlib.Omega.{arith}
-use lib.ListN.{length, get_or, drop}
-use lib.Seq.{get_or-take, get_or-drop}
+use Rattle.std.proofs.Common.{◌≡◌, ℕ, ◌+◌, ◌-◌, ◌*◌, ◌<◌, ◌≤◌, List, length, get_or, drop, ◌∙◌, arith, get_or-drop, get_or-take}
 use Rattle.state.specs.Layout.{size, all_entries, entry_size, entries_at}
 use Rattle.state.specs.Bytes.{block, copied}
 use Rattle.state.proofs.Sets.{block_length, copied_length}

@@ -1,8 +1,5 @@
 -- Commands done by the model obey every law of document 01's list; and so does any way of commands that leads nowhere else. Assumes nothing.
-use Prim.Native.Nat.{ℕ}
-use mathlib.Core.Path.{◌≡◌, sym, ap, subst, ◌∙◌}
-use mathlib.Core.List.{List}
-use lib.ListN.{length}
+use Rattle.std.proofs.Common.{◌≡◌, ℕ, List, length, sym, ap, ◌∙◌, subst}
 use Rattle.model.specs.Model.{byte, Session}
 use Rattle.model.specs.Judge.{judge_in}
 use Rattle.model.specs.Answers.{Done, command_in}

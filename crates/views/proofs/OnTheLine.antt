@@ -1,20 +1,14 @@
 -- What a received byte is on the line, told from the bytes since SYNC, is what the line's reader does with it. Assumes nothing.
-use Prim.Native.Nat.{ℕ, ◌+◌, ◌%◌, ◌≤◌, ◌<◌}
-use mathlib.Core.Path.{◌≡◌, refl, sym, ap, ap₂, subst, ◌∙◌}
-use mathlib.Core.Bool.{Bool, true, false, cond, not, ◌&&◌, ◌||◌}
-use mathlib.Core.List.{List}
-use native.Mathlib.Omega.{arith}
-use borrow.Author.Tests.{eqb-true, eqb-false, lt-ltb, le-ltb}
-use lib.Dec.{eqb, ltb, leb}
-use lib.ListN.{length, take, drop, set}
-use lib.Seq.{get_or-set_same, take-set-le, drop-set-add}
+use Rattle.std.proofs.Common.{◌≡◌, ℕ, ◌+◌, ◌%◌, ◌<◌, ◌≤◌, Bool, true, false, cond, not, ◌&&◌, ◌||◌, eqb, ltb, leb, List, length, take, drop, set, None, Ok, Err, sym, refl, ap, ◌∙◌, subst, ap₂, arith, get_or-set_same, le-ltb, lt-ltb, eqb-true}
+use Rattle.std.proofs.lemmas.Bool.{eqb-false}
+use Rattle.std.proofs.lemmas.List.{take-set-le, drop-set-add}
 use Rattle.line.specs.Message.{byte_form, checksum_at, size_in, sum}
 use Rattle.line.specs.Unstuffing.{Fed, on, over, cut_of, take_by, inside_by}
 use Rattle.line.specs.Reader.{judged_at, begun_of, judged_of, put_of, messages, take_of}
 use Rattle.line.specs.declared.Place.{Place}
 use Rattle.line.specs.declared.Place.TheVariants.{Outside, Inside, Escaped}
-use Rattle.line.specs.declared.Outcome.{Outcome}
-use Rattle.line.specs.declared.Outcome.TheVariants.{Nothing, Good, BadLength, BadEscape, BadChecksum, CutOff}
+use Rattle.line.specs.Values.{Outcome, good_message}
+use Rattle.line.specs.declared.Fault.TheVariants.{BadLength, BadEscape, BadChecksum, CutOff}
 use Rattle.line.proofs.Laws.{cond_ind}
 use Rattle.line.proofs.Begun.{Begun, begun_known, begun_right, begun_ended}
 use Rattle.line.proofs.Numbers.{number_set}
@@ -32,12 +26,12 @@ fed p o m = record { taken = record { place = p; outcome = o }; message = m }
 
 -- what a byte comes to, and what the line makes of it
 pub data Agrees : Comes → Fed → Type 0 where
-  quiet : {p : Place} {m : List ℕ} → Agrees Quiet (fed p Nothing m)
-  whole : {p : Place} {m packet : List ℕ} (ctr at n : ℕ) → block m at n ≡ packet → Agrees (Whole packet) (fed p (Good ctr at n) m)
-  bad_length : {p : Place} {m : List ℕ} → Agrees (Lost 3) (fed p BadLength m)
-  bad_escape : {p : Place} {m : List ℕ} → Agrees (Lost 4) (fed p BadEscape m)
-  bad_checksum : {p : Place} {m : List ℕ} → Agrees (Lost 5) (fed p BadChecksum m)
-  cut_off : {p : Place} {m : List ℕ} → Agrees (Lost 7) (fed p CutOff m)
+  quiet : {p : Place} {m : List ℕ} → Agrees Quiet (fed p (Ok None) m)
+  whole : {p : Place} {m packet : List ℕ} (ctr at n : ℕ) → block m at n ≡ packet → Agrees (Whole packet) (fed p (good_message ctr at n) m)
+  bad_length : {p : Place} {m : List ℕ} → Agrees (Lost 3) (fed p (Err BadLength) m)
+  bad_escape : {p : Place} {m : List ℕ} → Agrees (Lost 4) (fed p (Err BadEscape) m)
+  bad_checksum : {p : Place} {m : List ℕ} → Agrees (Lost 5) (fed p (Err BadChecksum) m)
+  cut_off : {p : Place} {m : List ℕ} → Agrees (Lost 7) (fed p (Err CutOff) m)
 
 -- what holds of both of two choices by one test holds of the choices
 both : (t : Bool) {c d : Comes} {f g : Fed} → (t ≡ true → Agrees c f) → (t ≡ false → Agrees d g) → Agrees (cond t c d) (cond t f g)
@@ -66,7 +60,7 @@ module _ (m : List ℕ) (x : ℕ) (fits : 67 ≤ length m) where
   -- LEN
   len_agrees : Agrees (len_is x) (put_of 0 m x)
   len_agrees = rw (put_len 0 m x (omega arith) fits) (go (eqb x 0) (ltb 64 x)) where
-    go : (a b : Bool) → Agrees (cond (a || b) (Lost 3) Quiet) (cond (cond a false (cond b false (ltb 1 (size_in byte_form x)))) (on (Inside 1) (set m 0 x)) (over BadLength m))
+    go : (a b : Bool) → Agrees (cond (a || b) (Lost 3) Quiet) (cond (cond a false (cond b false (ltb 1 (size_in byte_form x)))) (on (Inside 1) (set m 0 x)) (over (Err BadLength) m))
     go true b = bad_length
     go false true = bad_length
     go false false = rw (lt-ltb 1 (size_in byte_form x) (omega arith)) quiet
@@ -92,7 +86,7 @@ module _ (m : List ℕ) (x : ℕ) (fits : 67 ≤ length m) where
             let sums : sum (take k l) ≡ sum_from m 0 k = ap sum (take-set-le k m k x (omega arith)) ∙ sum_from_lem m 0 k (omega arith) in
             ap (λ (j : ℕ). eqb (byte l j) (sum (take j l) % 256)) at ∙ ap₂ (λ (a b : ℕ). eqb a (b % 256)) (get_or-set_same m k x 0 there) sums
 
-        go : (t : Bool) → Agrees (cond t (Whole (take n (drop 2 m))) (Lost 5)) (over (cond t (Good (byte l 1) 2 n) BadChecksum) l)
+        go : (t : Bool) → Agrees (cond t (Whole (take n (drop 2 m))) (Lost 5)) (over (cond t (good_message (byte l 1) 2 n) (Err BadChecksum)) l)
         go true = whole (byte l 1) 2 n packet
         go false = bad_checksum
 
@@ -125,7 +119,7 @@ agrees p m b fits = rw (take_long p m b fits) (go p) where
   begun k q c h true e = h e
   begun k q c h false e = outside
 
-  cut : (t : Bool) → Agrees (cond t Quiet (Lost 7)) (fed (Inside 0) (cond t Nothing CutOff) m)
+  cut : (t : Bool) → Agrees (cond t Quiet (Lost 7)) (fed (Inside 0) (cond t (Ok None) (Err CutOff)) m)
   cut true = quiet
   cut false = cut_off
 

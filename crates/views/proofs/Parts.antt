@@ -1,12 +1,7 @@
 -- A change of some bytes leaves all that is read from others. Assumes nothing.
-use Prim.Native.Nat.{ℕ, suc, ◌+◌, ◌-◌, ◌≤◌, ◌<◌, min}
-use mathlib.Core.Path.{◌≡◌, refl, ap, ap₂, ◌∙◌, fun_ext}
-use mathlib.Core.Logic.{◌≢◌}
-use mathlib.Core.Bool.{Bool, true, false, cond}
-use mathlib.Core.List.{List}
-use native.Mathlib.Omega.{arith}
-use borrow.Author.Tests.{ltb-false, eqb-true, eqb-false, eq-eqb, ne_eqb}
-use lib.Dec.{T, eqb, ltb, leb, le→leb, lit<, lit≤}
+use Rattle.std.proofs.Common.{◌≡◌, ℕ, suc, ◌+◌, ◌-◌, ◌<◌, ◌≤◌, min, Bool, true, false, cond, T, eqb, ltb, leb, ◌≢◌, List, refl, ap, ◌∙◌, ap₂, arith, lit<, lit≤, le→leb, ltb-false, eq-eqb, ne_eqb, eqb-true}
+use Rattle.std.proofs.Math.Path.{fun_ext}
+use Rattle.std.proofs.lemmas.Bool.{eqb-false}
 use Rattle.line.proofs.Laws.{cond_ind}
 use Rattle.state.specs.Layout.{size, lists, all_odts, all_entries, generator_at, wrong_keys_at, ctr_at, last_at, calibration_at, seed_at, mta_at, pointer_at, phase_at, mode_at, selected_at, running_at, entries_at, sample_at}
 use Rattle.state.specs.Pool.{freed_of, list_count, odts_in, first_odt, odt_count, entries_in, first_entry, entry_count}
@@ -17,11 +12,11 @@ use Rattle.state.proofs.Allocated.{lists_most, first_most_lem, odt_most_lem, odt
 use Rattle.fields.proofs.Stores.{out}
 use Rattle.fields.proofs.Frames.{Only}
 use Rattle.fields.proofs.Effects.{Effected}
-use Rattle.fields.proofs.Readers.{Same, apart, same_part, same_then, flag_reads, generator_reads, wrong_keys_reads, open_reads, lock_reads, seed_reads, mta_reads, phase_reads, list_count_reads, first_odt_reads, odt_count_reads, entry_count_reads, round_reads, pointer_reads, place_reads, message_reads, answer_reads, entries_own, store_own}
+use Rattle.fields.proofs.Readers.{Same, apart, same_part, same_within, same_then, flag_reads, generator_reads, wrong_keys_reads, open_reads, lock_reads, seed_reads, mta_reads, phase_reads, list_count_reads, first_odt_reads, odt_count_reads, entry_count_reads, round_reads, pointer_reads, place_reads, message_reads, answer_reads, entries_own, store_own}
 use Rattle.model.specs.Model.{up_to, put, Odt, no_odt, DaqList, no_list}
 use Rattle.model.specs.Step.{with_session, with_generator, with_seed, with_mta, with_pointer, with_lists}
 use Rattle.model.specs.View.{odt_of, daq_of, lists_of, session_of, view_of}
-use Rattle.model.proofs.Bounded.{up_to_same}
+use Rattle.model.proofs.Bounded.{either, up_to_same}
 
 -- ---- bytes outside those that were written; `omega` proves the premise
 abbrev pub Misses : ℕ → ℕ → ℕ → ℕ → Type 0
@@ -43,10 +38,7 @@ both w v m = same_then (spared w m.0) (spared v m.1)
 -- ---- one place of a function changed
 -- either it is that one, or another
 pub this_or_other : {P : Type 0} (j l : ℕ) → (j ≡ l → P) → (j ≢ l → P) → P
-this_or_other {P} j l f g = go (eqb j l) refl where
-  go : (t : Bool) → eqb j l ≡ t → P
-  go true e = f (eqb-true j l e)
-  go false e = g (eqb-false j l e)
+this_or_other j l f g = either (eqb j l) (λ e. f (eqb-true j l e)) (λ e. g (eqb-false j l e))
 
 pub put_by : {A : Type 0} (P : A → Type 0) (i : ℕ) (x : A) (f : ℕ → A) (j : ℕ) → (j ≡ i → P x) → (j ≢ i → P (f j)) → P (put i x f j)
 unfolding put
@@ -156,7 +148,7 @@ module _ {s t : List ℕ} where
   pub lists_reads : Same phase_at size s t → lists_of t ≡ lists_of s
   unfolding lists_of
   lists_reads w =
-      let a : Stays s t = same_part (lit≤ tt) (lit≤ tt) w in
+      let a : Stays s t = same_within tt w in
       rw (list_count_reads a)
       (up_to_same (list_count s) no_list (λ l p. let few : l < lists = omega (arith, lists_most s) in
       list_own l few (record { there = a; head = same_part (omega arith) (omega arith) w; entered = same_part (omega arith) (omega (arith, in_pool s l)) w; stores = same_part (omega arith) (omega (arith, in_pool s l)) w })))
@@ -173,11 +165,11 @@ module _ {s t : List ℕ} where
   unfolding view_of
   in_session w = λ i. record {
     session = session_of t;
-    place = place_reads (same_part (lit≤ tt) (lit≤ tt) w.between) i;
-    message = message_reads (same_part (lit≤ tt) (lit≤ tt) w.between) i;
-    answer = answer_reads (same_part (lit≤ tt) (lit≤ tt) w.between) i;
+    place = place_reads (same_within tt w.between) i;
+    message = message_reads (same_within tt w.between) i;
+    answer = answer_reads (same_within tt w.between) i;
     ctr = w.ctr.byte ctr_at (lit≤ tt) (lit< tt) i;
-    last_answer = flag_reads last_at (same_part (lit≤ tt) (lit≤ tt) w.between) i;
+    last_answer = flag_reads last_at (same_within tt w.between) i;
   }
 
   -- a change of one field's bytes leaves the rest of the session

@@ -1,17 +1,12 @@
 -- What a received byte in bytes shows is the received byte whole. Assumes nothing.
-use Prim.Native.Nat.{ℕ, ◌^◌, ◌<◌}
-use mathlib.Core.Path.{◌≡◌, refl, sym, ap, subst, ◌∙◌}
-use mathlib.Core.Bool.{Bool, true}
-use mathlib.Core.List.{List}
-use native.Mathlib.Omega.{arith}
-use lib.ListN.{length, get_or}
+use Rattle.std.proofs.Common.{◌≡◌, ℕ, ◌^◌, ◌<◌, Bool, true, List, length, get_or, Some, None, Ok, Err, sym, refl, ap, ◌∙◌, subst, arith}
 use Rattle.line.specs.Message.{longest}
 use Rattle.line.specs.Unstuffing.{Fed, place_by}
 use Rattle.line.specs.Reader.{messages}
 use Rattle.line.specs.declared.Place.{Place}
 use Rattle.line.specs.declared.Place.TheVariants.{Outside, Inside, Escaped}
-use Rattle.line.specs.declared.Outcome.{Outcome}
-use Rattle.line.specs.declared.Outcome.TheVariants as line
+use Rattle.line.specs.Values.{Outcome}
+use Rattle.line.specs.declared.Fault.TheVariants.{BadLength, BadEscape, BadChecksum, CutOff, ShortBuffer}
 use Rattle.line.proofs.Laws.{cond_ind}
 use Rattle.line.proofs.After.{take_length, take_place}
 use Rattle.line.proofs.Begun.{inside_begun, escaped_begun}
@@ -21,7 +16,7 @@ use Rattle.state.specs.Bytes.{block}
 use Rattle.state.specs.State.{consistent, generator_of, wrong_keys_of, place_of, message_of, waits}
 use Rattle.state.proofs.Sets.{block_length}
 use Rattle.state.proofs.Consistent.{consistent_size}
-use Rattle.words.specs.declared.Received.TheVariants.{Answered}
+use Rattle.words.specs.declared.Heard.TheVariants.{Answered}
 use Rattle.judge.specs.Doable.{Doable}
 use Rattle.session.specs.Receive.{heeded_by, heeded, meant, fed_of, read_on, received_by, receive_of}
 use Rattle.look.proofs.Looked.{judged_doable}
@@ -83,7 +78,7 @@ module _ (p s cal meas : List ℕ) (h : length s ≡ size) (w : Bytes p) (low : 
   view_done : (x : Heeding) → Done x → byte_shown (heeded_by x p s cal meas) ≡ heeded_as x p (view_of s) cal meas
   unfolding view_of
   view_done Dropped y = refl
-  view_done (Obeyed d) y = ap (λ (v : Slave). record { received = Answered; slave = v; memory = written d p cal }) (view_after d s cal meas (length p) h y.0 y.1)
+  view_done (Obeyed d) y = ap (λ (v : Slave). record { received = Ok Answered; slave = v; memory = written d p cal }) (view_after d s cal meas (length p) h y.0 y.1)
   view_done Ignored y = refl
 
   pub view_heeded : byte_shown (heeded p s cal meas) ≡ heeded_in p (view_of s) cal meas
@@ -94,13 +89,13 @@ module _ (p s cal meas : List ℕ) (h : length s ≡ size) (w : Bytes p) (low : 
 module _ (s cal meas : List ℕ) (h : length s ≡ size) (w : Bytes (message_of s)) (low : generator_of s < 2 ^ 32) where
   view_meant : (o : Outcome) → byte_shown (meant o (message_of s) s cal meas) ≡ read_as o (view_of s) cal meas
   unfolding meant read_as view_of
-  view_meant line.Nothing = refl
-  view_meant (line.Good ctr at n) = view_heeded (block (message_of s) at n) s cal meas h (bytes_block (message_of s) at n w) low
-  view_meant line.BadLength = refl
-  view_meant line.BadEscape = refl
-  view_meant line.BadChecksum = refl
-  view_meant line.CutOff = refl
-  view_meant line.ShortBuffer = refl
+  view_meant (Ok None) = refl
+  view_meant (Ok (Some good)) = view_heeded (block (message_of s) good.at good.len) s cal meas h (bytes_block (message_of s) good.at good.len w) low
+  view_meant (Err BadLength) = refl
+  view_meant (Err BadEscape) = refl
+  view_meant (Err BadChecksum) = refl
+  view_meant (Err CutOff) = refl
+  view_meant (Err ShortBuffer) = refl
 
 -- ---- the byte
 -- s and b are bytes: of a generator or an address of more than four bytes not all would be stored

@@ -1,23 +1,20 @@
 -- The round over L lists finds a list that has a packet, or one before it. Assumes nothing.
-use Prim.Native.Nat.{ℕ, zero, suc, ◌+◌, ◌*◌, ◌-◌, ◌/◌, ◌%◌, ◌≤◌, ◌<◌}
-use mathlib.Core.Path.{◌≡◌, refl, sym, ap, ◌∙◌}
-use mathlib.Core.Logic.{◌≢◌}
-use native.Mathlib.Omega.{arith}
-use native.Mathlib.Nat.{mod-lt, mod-eq_of_lt, mod-add-mod, mod_self, mul-add-mod_self_left, div-add-mod, lt_of_not-le}
-use native.Mathlib.Decide.{dec_le}
-use borrow.Author.Tests.{ltb-true, ltb-false}
-use lib.Dec.{ltb}
+use Rattle.std.proofs.Common.{◌≡◌, ℕ, zero, suc, ◌+◌, ◌-◌, ◌*◌, ◌/◌, ◌%◌, ◌<◌, ◌≤◌, ltb, ◌≢◌, Some, None, sym, refl, ap, ◌∙◌, mod-lt, mod-eq_of_lt, lt_of_not-le, arith, ltb-false, ltb-true}
+use Rattle.std.proofs.Math.Nat.{mod-add-mod, mod_self, mul-add-mod_self_left, div-add-mod}
+use Rattle.std.proofs.Math.Decide.{dec_le}
+use Rattle.std.proofs.lemmas.Option.{none-some}
 use Rattle.line.proofs.Laws.{cond_ind}
 use Rattle.model.specs.Calls.{or_else, round_from, list_after}
-use Rattle.model.specs.declared.Turn.{Turn}
-use Rattle.model.specs.declared.Turn.TheVariants.{Nobody, Answer, Packet}
+use Rattle.model.specs.Turn.{Turn}
+use Rattle.model.specs.declared.Sender.{Sender}
+use Rattle.model.specs.declared.Sender.TheVariants.{Answer, Packet}
 
 -- a turn that is some list's, at most d lists on from list l
 pub record Found (L : ℕ) (next : ℕ → Turn) (l d : ℕ) (t : Turn) : Type 0 where
   pub steps : ℕ
   pub near : steps ≤ d
   pub whose : t ≡ next ((l + steps) % L)
-  pub some : t ≢ Nobody
+  pub some : t ≢ None
 
 -- one list on
 later : {L : ℕ} {next : ℕ → Turn} {l d : ℕ} {t : Turn} → Found L next (l + 1) d t → Found L next l (suc d) t
@@ -25,49 +22,35 @@ later {L} {next} {l} f = record { steps = suc f.steps; near = omega (arith, f.ne
   on : (i : ℕ) → l + 1 + i ≡ l + suc i
   on i = omega arith
 
-here : {L : ℕ} {next : ℕ → Turn} {l d : ℕ} {t : Turn} → t ≡ next (l % L) → t ≢ Nobody → Found L next l d t
+here : {L : ℕ} {next : ℕ → Turn} {l d : ℕ} {t : Turn} → t ≡ next (l % L) → t ≢ None → Found L next l d t
 here {L} {next} {l} e n = record { steps = 0; near = omega arith; whose = e ∙ ap (λ m. next (m % L)) zero_on; some = n } where
   zero_on : l ≡ l + 0
   zero_on = omega arith
 
-answer_some : Answer ≢ Nobody
-answer_some e = no (ap is_answer e) where
-  is_answer : Turn → ℕ
-  is_answer Nobody = 0
-  is_answer Answer = 1
-  is_answer (Packet l o) = 0
+somebody : (x : Sender) → Some x ≢ None
+somebody x e = none-some x (sym e)
 
-  no : ◌≡◌ {A = ℕ} 1 0 → ⊥
-  no p = omega arith
+pub packet_some : (l o : ℕ) → Some (Packet l o) ≢ None
+packet_some l o = somebody (Packet l o)
 
-pub packet_some : (l o : ℕ) → Packet l o ≢ Nobody
-packet_some l o e = no (ap is_packet e) where
-  is_packet : Turn → ℕ
-  is_packet Nobody = 0
-  is_packet Answer = 0
-  is_packet (Packet l o) = 1
-
-  no : ◌≡◌ {A = ℕ} 1 0 → ⊥
-  no p = omega arith
-
-pub round_finds : (L : ℕ) (next : ℕ → Turn) (l d n : ℕ) → d < n → next ((l + d) % L) ≢ Nobody → Found L next l d (round_from L next l n)
+pub round_finds : (L : ℕ) (next : ℕ → Turn) (l d n : ℕ) → d < n → next ((l + d) % L) ≢ None → Found L next l d (round_from L next l n)
 unfolding round_from
 round_finds L next l d zero h k = absurd (omega arith)
 round_finds L next l zero (suc n) h k = go (next (l % L)) refl where
   go : (t : Turn) → next (l % L) ≡ t → Found L next l zero (or_else t (round_from L next (l + 1) n))
-  go Nobody e = absurd (k (ap (λ m. next (m % L)) (zero_on l) ∙ e)) where
+  go None e = absurd (k (ap (λ m. next (m % L)) (zero_on l) ∙ e)) where
     zero_on : (m : ℕ) → m + zero ≡ m
     zero_on m = omega arith
-  go Answer e = here (sym e) answer_some
-  go (Packet j o) e = here (sym e) (packet_some j o)
+  go (Some Answer) e = here (sym e) (somebody Answer)
+  go (Some (Packet j o)) e = here (sym e) (somebody (Packet j o))
 round_finds L next l (suc d) (suc n) h k = go (next (l % L)) refl (round_finds L next (l + 1) d n (omega arith) (λ e. k (ap (λ m. next (m % L)) one_on ∙ e))) where
   one_on : l + suc d ≡ l + 1 + d
   one_on = omega arith
 
   go : (t : Turn) → next (l % L) ≡ t → Found L next (l + 1) d (round_from L next (l + 1) n) → Found L next l (suc d) (or_else t (round_from L next (l + 1) n))
-  go Nobody e f = later f
-  go Answer e f = here (sym e) answer_some
-  go (Packet j o) e f = here (sym e) (packet_some j o)
+  go None e f = later f
+  go (Some Answer) e f = here (sym e) (somebody Answer)
+  go (Some (Packet j o)) e f = here (sym e) (somebody (Packet j o))
 
 -- from any list, how many lists on list l is
 pub record Far (L from l : ℕ) : Type 0 where

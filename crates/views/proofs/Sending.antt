@@ -1,15 +1,7 @@
 -- What a slot and power-up in bytes show is the slot and power-up whole. Assumes nothing.
-use Prim.Native.Nat.{ℕ, zero, suc, ◌+◌, ◌^◌, ◌≤◌, ◌<◌}
-use mathlib.Core.Path.{◌≡◌, refl, ap, ◌∙◌}
-use mathlib.Core.Bool.{true}
-use mathlib.Core.List.{List}
-use native.Mathlib.Omega.{arith}
-use borrow.Author.Tests.{eq-eqb, ltb-true, ltb-false}
-use lib.Dec.{ltb}
-use lib.ListN.{length}
+use Rattle.std.proofs.Common.{◌≡◌, ℕ, zero, suc, ◌+◌, ◌^◌, ◌<◌, ◌≤◌, true, ltb, List, length, Some, None, Ok, refl, ap, ◌∙◌, arith, ltb-false, ltb-true, eq-eqb}
 use Rattle.line.specs.Message.{byte_form, most, room, frame}
 use Rattle.line.specs.Writer.{at_front, write_of}
-use Rattle.line.specs.declared.Written.TheVariants.{Frame}
 use Rattle.line.proofs.Laws.{cond_ind}
 use Rattle.line.proofs.Numbers.{byte_serial}
 use Rattle.line.proofs.Writing.{write_good}
@@ -19,13 +11,12 @@ use Rattle.state.proofs.Allocated.{odt_most_lem}
 use Rattle.state.specs.State.{consistent, ctr_of, answer_of}
 use Rattle.state.specs.Lists.{stored_length}
 use Rattle.state.proofs.Consistent.{consistent_size}
-use Rattle.words.specs.declared.PoweredUp.TheVariants.{Done}
 use Rattle.lists.specs.Slot.{Slot, turn_of, packet_of, sent_by, slot_of}
 use Rattle.lists.proofs.Round.{turn_holds}
 use Rattle.lists.proofs.Sending.{Within, turn_within}
 use Rattle.session.specs.PowerUp.{power_up_of}
-use Rattle.model.specs.declared.Turn.{Turn}
-use Rattle.model.specs.declared.Turn.TheVariants.{Nobody, Answer, Packet}
+use Rattle.model.specs.Turn.{Turn}
+use Rattle.model.specs.declared.Sender.TheVariants.{Answer, Packet}
 use Rattle.model.specs.Model.{DaqList, Slave, runs_in, has_packet}
 use Rattle.model.specs.Calls.{first_packet, packet_in, turn_in, powered_up}
 use Rattle.model.specs.View.{view_of}
@@ -38,9 +29,9 @@ use Rattle.views.proofs.Calls.{view_answer_sent, view_packet_sent, view_powered}
 -- it is an answer's turn only if one waits
 module _ (v : Slave) where
   abbrev Waits : Turn → Type 0
-  Waits Nobody = Unit
-  Waits Answer = 1 ≤ length v.answer
-  Waits (Packet l o) = Unit
+  Waits None = Unit
+  Waits (Some Answer) = 1 ≤ length v.answer
+  Waits (Some (Packet l o)) = Unit
 
   first_waits : (l : ℕ) (x : DaqList) (o n : ℕ) → Waits (first_packet l x o n)
   unfolding first_packet
@@ -55,7 +46,7 @@ module _ (v : Slave) where
   turn_waits = turn_holds Waits v tt (λ l _. packet_waits l) (λ w. ltb-true 0 (length v.answer) w)
 
 pub written : (p : List ℕ) (ctr : ℕ) (out : List ℕ) → 1 ≤ length p → length p ≤ most → room ≤ length out
-    → write_of p ctr out ≡ record { written = Frame (length (frame ctr p)); out = at_front (frame ctr p) out }
+    → write_of p ctr out ≡ record { written = Ok (length (frame ctr p)); out = at_front (frame ctr p) out }
 unfolding write_of
 written = write_good byte_form byte_serial
 
@@ -63,10 +54,10 @@ written = write_good byte_form byte_serial
 module _ (s out : List ℕ) (h : length s ≡ size) (fits : room ≤ length out) where
   view_sent : (t : Turn) → Waits (view_of s) t → Within s t → slot_shown (sent_by t s out) ≡ sent_in t (view_of s) out
   unfolding sent_by sent_in view_of
-  view_sent Nobody y w = refl
-  view_sent Answer y w =
+  view_sent None y w = refl
+  view_sent (Some Answer) y w =
       rw (written (answer_of s) (ctr_of s) out y (omega (arith, answer_long s h, answer_most s)) fits) (ap (packet_goes (answer_of s) (ctr_of s) out) (view_answer_sent s h))
-  view_sent (Packet l o) y w =
+  view_sent (Some (Packet l o)) y w =
       let there : l < list_count s = w.0 in
       let its : o < odt_count s l = w.1 in
       let k : ℕ = first_odt s l + o in
@@ -83,6 +74,6 @@ view_slot s out c =
 
 -- ---- power-up
 -- a start of more than four bytes would not be stored whole
-pub view_power_up : (s : List ℕ) (start : ℕ) → length s ≡ size → start < 2 ^ 32 → ((power_up_of s start).powered_up ≡ Done) × (view_of (power_up_of s start).state ≡ powered_up start)
+pub view_power_up : (s : List ℕ) (start : ℕ) → length s ≡ size → start < 2 ^ 32 → ((power_up_of s start).powered_up ≡ Ok tt) × (view_of (power_up_of s start).state ≡ powered_up start)
 unfolding power_up_of
 view_power_up s start h low = (rw (eq-eqb (length s) size h), rw (eq-eqb (length s) size h) (view_powered start low))

@@ -1,13 +1,6 @@
 -- FF to F7, DA and D9: what a command that is answered FF makes of the session and its locks, and what it answers. Assumes nothing.
-use Prim.Native.Nat.{ℕ, zero, suc, ◌+◌, ◌≤◌, ◌<◌}
-use mathlib.Core.Path.{◌≡◌, refl, sym, ap, subst, ◌∙◌}
-use mathlib.Core.Logic.{◌≢◌}
-use mathlib.Core.Bool.{Bool, true, false, cond}
-use mathlib.Core.List.{List, [], ◌∷◌}
-use native.Mathlib.Omega.{arith}
-use borrow.Author.Tests.{leb-false, eqb-true, eqb-false, le-ltb, ne_eqb}
-use lib.Dec.{eqb, ltb, lit<}
-use lib.ListN.{length}
+use Rattle.std.proofs.Common.{◌≡◌, ℕ, zero, suc, ◌+◌, ◌<◌, ◌≤◌, Bool, true, false, cond, eqb, ltb, ◌≢◌, List, [], ◌∷◌, length, Some, None, sym, refl, ap, ◌∙◌, subst, arith, lit<, le-ltb, ne_eqb, eqb-true, leb-false}
+use Rattle.std.proofs.lemmas.Bool.{eqb-false}
 use Rattle.line.proofs.Stuffed.{false_true}
 use Rattle.state.specs.Bytes.{u32_at, bytes32}
 use Rattle.state.specs.Generator.{next_of, start_of, key_of, stays_shut}
@@ -17,8 +10,7 @@ use Rattle.words.specs.Command.{command_of}
 use Rattle.words.specs.declared.Command.TheVariants as command
 use Rattle.words.specs.declared.Resource.{Resource}
 use Rattle.words.specs.declared.Resource.TheVariants.{Calibration, Lists}
-use Rattle.words.specs.declared.Seed.{Seed}
-use Rattle.words.specs.declared.Seed.TheVariants.{None, For}
+use Rattle.words.specs.Values.{Seed}
 use Rattle.words.specs.declared.Reason.TheVariants.{Locked, OutOfRange, Sequence, DataMissing}
 use Rattle.model.specs.Judge.{connect_deed, seed_deed, get_seed_deed, unlock_by, judge_the, judge_by, judge, judge_in}
 use Rattle.model.specs.declared.Deed.{Deed}
@@ -173,7 +165,7 @@ module _ (p : List ℕ) (c : Session) (cal meas : List ℕ) where
       record {
         seed = refl;
         generator = next_is c.generator;
-        rest = but_seed c x (For r);
+        rest = but_seed c x (Some r);
         memory = refl;
         answer = refl;
         bytes = bytes_cons 0xFF (0x04 ∷ bytes32 x) (lit< tt) (bytes_cons 0x04 (bytes32 x) (lit< tt) (bytes_four x));
@@ -198,7 +190,7 @@ module _ (p : List ℕ) (c : Session) (cal meas : List ℕ) where
       provided p c cal meas P (eqb (byte p 2) 0x04) OutOfRange (λ n _. seed_for few Lists (c.unlocked Lists) refl (eqb-true (byte p 2) 0x04 n)))))))
 
   -- ---- F7 UNLOCK
-  opened : (r : Resource) → c.seed ≡ For r → u32_at p 2 ≡ key_of r c.generator → Leads UNLOCK p c cal meas (Unlock r)
+  opened : (r : Resource) → c.seed ≡ Some r → u32_at p 2 ≡ key_of r c.generator → Leads UNLOCK p c cal meas (Unlock r)
   unfolding step_in writes reply_in
   opened r e key = record {
     resource = r;
@@ -215,7 +207,7 @@ module _ (p : List ℕ) (c : Session) (cal meas : List ℕ) where
   unlock_at : (x : Seed) → c.seed ≡ x → Taken p c cal meas (unlock_by x c.generator (byte p 1) (length p) (u32_at p 2)) → Leads UNLOCK p c cal meas (unlock_by x c.generator (byte p 1) (length p) (u32_at p 2))
   unfolding unlock_by reply_in
   unlock_at None e = λ t. absurd (fe_ff t)
-  unlock_at (For r) e =
+  unlock_at (Some r) e =
       let P : Deed → Type 0 = Leads UNLOCK p c cal meas in
       provided p c cal meas P (eqb (byte p 1) 4) OutOfRange (λ _.
       unless p c cal meas P (ltb (length p) 6) DataMissing (λ _.

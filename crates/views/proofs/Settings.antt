@@ -1,14 +1,9 @@
 -- A change outside the bytes of the lists' settings leaves them. Assumes nothing.
-use Prim.Native.Nat.{ℕ, ◌+◌, ◌<◌}
-use mathlib.Core.Path.{◌≡◌, ap, ◌∙◌}
-use mathlib.Core.List.{List}
-use native.Mathlib.Omega.{arith}
-use borrow.Author.Tests.{ltb-true}
-use lib.Dec.{ltb, lit≤}
+use Rattle.std.proofs.Common.{◌≡◌, ℕ, ◌+◌, ◌<◌, ltb, List, ap, ◌∙◌, arith, ltb-true}
 use Rattle.state.specs.Layout.{lists, all_odts, session_at, selected_at, running_at, sample_at}
 use Rattle.state.specs.Pool.{list_count, first_odt, odt_count}
 use Rattle.state.proofs.Allocated.{lists_most, odt_most_lem, entry_most_lem}
-use Rattle.fields.proofs.Readers.{Same, same_part, flag_reads, pointer_reads, list_count_reads, odt_count_reads, entry_count_reads, entries_own}
+use Rattle.fields.proofs.Readers.{Same, same_part, same_within, flag_reads, pointer_reads, list_count_reads, odt_count_reads, entry_count_reads, entries_own}
 use Rattle.model.specs.Model.{up_to, Entry, Odt, DaqList}
 use Rattle.model.specs.View.{odt_of, daq_of, lists_of, session_of}
 use Rattle.views.specs.Locked.{SettingsKept}
@@ -17,7 +12,7 @@ use Rattle.views.proofs.Parts.{Stays, mode_own, odts_as, freed_reads}
 
 module _ {s t : List ℕ} (w : Same session_at (sample_at 0) s t) where
   stays : Stays s t
-  stays = same_part (lit≤ tt) (lit≤ tt) w
+  stays = same_within tt w
 
   -- of a list that there is, and of one that there is not
   of_list : {A : Type 0} (f : DaqList → A) (l : ℕ) → (l < lists → f (daq_of t l) ≡ f (daq_of s l)) → f (lists_of t l) ≡ f (lists_of s l)
@@ -39,7 +34,7 @@ module _ {s t : List ℕ} (w : Same session_at (sample_at 0) s t) where
   pub settings_read : SettingsKept (session_of s) (session_of t)
   unfolding session_of
   settings_read = record {
-    pointer = pointer_reads (same_part (lit≤ tt) (lit≤ tt) w);
+    pointer = pointer_reads (same_within tt w);
     freed = freed_reads stays;
     lists = list_count_reads stays;
     modes = λ l. of_list (λ x. x.mode) l (λ h. mode_own l (same_part (omega arith) (omega arith) w));

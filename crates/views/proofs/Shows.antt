@@ -1,15 +1,6 @@
 -- What each writer of the state shows: the slave with that one part changed. Assumes nothing.
-use Prim.Native.Nat.{ℕ, suc, ◌+◌, ◌*◌, ◌%◌, ◌^◌, ◌≤◌, ◌<◌}
-use mathlib.Core.Path.{◌≡◌, refl, sym, ap, ◌∙◌, fun_ext}
-use mathlib.Core.Logic.{◌≢◌}
-use mathlib.Core.Bool.{true, false}
-use mathlib.Core.List.{List, []}
-use native.Mathlib.Nat.{mod-eq_of_lt}
-use native.Mathlib.Omega.{arith}
-use borrow.Author.Tests.{le-ltb}
-use lib.Dec.{eqb}
-use lib.ListN.{length, get_or, set, length-set}
-use lib.Seq.{get_or-set_same, get_or-set_other}
+use Rattle.std.proofs.Common.{◌≡◌, ℕ, suc, ◌+◌, ◌*◌, ◌%◌, ◌^◌, ◌<◌, ◌≤◌, true, false, eqb, ◌≢◌, List, [], length, get_or, set, sym, refl, ap, ◌∙◌, mod-eq_of_lt, arith, length-set, get_or-set_other, get_or-set_same, le-ltb}
+use Rattle.std.proofs.Math.Path.{fun_ext}
 use Rattle.state.specs.Layout.{size, lists, all_odts, events, list_size, entry_size, entry_most, addressable, mode_at, selected_at, running_at, entries_at, sample_at}
 use Rattle.state.specs.Pool.{list_count, first_odt, odt_count, entry_count, entry_at}
 use Rattle.state.specs.Bytes.{cleared}
@@ -21,7 +12,7 @@ use Rattle.state.specs.Generator.{one_wrong_more}
 use Rattle.words.specs.declared.Resource.{Resource}
 use Rattle.words.specs.declared.Resource.TheVariants.{Calibration, Lists}
 use Rattle.words.specs.declared.Extension.{Extension}
-use Rattle.words.specs.declared.Seed.{Seed}
+use Rattle.words.specs.Values.{Seed}
 use Rattle.words.specs.declared.Mta.{Mta}
 use Rattle.words.specs.declared.Pointer.{Pointer}
 use Rattle.state.proofs.Xorshift.{start_same}

@@ -1,10 +1,6 @@
 -- What a deed leaves of the lists, the locks and the count of wrong keys shows what it makes of them, whatever numbers the state holds: a generator or an address of more than
 -- its bytes would read as another, but no list and no lock looks at these. Assumes nothing.
-use Prim.{tt}
-use Prim.Native.Nat.{ℕ, ◌≤◌, ◌<◌}
-use mathlib.Core.Path.{◌≡◌, refl, ap, ◌∙◌}
-use mathlib.Core.List.{List}
-use lib.ListN.{length}
+use Rattle.std.proofs.Common.{◌≡◌, ℕ, ◌<◌, ◌≤◌, List, length, Some, refl, ap, ◌∙◌}
 use Rattle.state.specs.Layout.{size, entry_most, addressable}
 use Rattle.state.specs.Generator.{next_of}
 use Rattle.state.specs.State.{generator_of, seed_of, mta_of, set_generator, set_seed, set_mta}
@@ -16,8 +12,7 @@ use Rattle.model.specs.declared.Deed.{Deed}
 use Rattle.model.specs.declared.Deed.TheVariants.{Refuse, RefuseSize, WrongKey, Connect, Disconnect, Status, Synch, NoSeed, GiveSeed, Unlock, SetMta, Upload, Checksum, Download, ClearList, SetPointer, ClearEntry, WriteEntry, SetMode, Stop, Start, KeepRunning, Select, StopAll, StartSelected, StopSelected, ProcessorInfo, ResolutionInfo, FreeLists, AllocLists, AllocOdts, AllocEntries}
 use Rattle.words.specs.declared.Resource.{Resource}
 use Rattle.words.specs.declared.Extension.{Extension}
-use Rattle.words.specs.declared.Seed.{Seed}
-use Rattle.words.specs.declared.Seed.TheVariants.{For}
+use Rattle.words.specs.Values.{Seed}
 use Rattle.words.specs.declared.Mta.{Mta}
 use Rattle.words.specs.declared.Mta.TheVariants.{At}
 use Rattle.session.specs.Perform.{effect}
@@ -59,8 +54,8 @@ given : (r : Resource) (s : List ℕ) → Steps (step_in (GiveSeed r) (session_o
 unfolding effect step_in
 given r s =
     let t : List ℕ = set_generator s (next_of (generator_of s)) in
-    beside (generator_of t) (seed_of (set_seed t (For r))) (session_of s).mta
-    (in_seed (only_seed t (For r)) ∙ ap (λ (c : Session). with_seed c (seed_of (set_seed t (For r)))) (in_generator (only_generator s (next_of (generator_of s)))))
+    beside (generator_of t) (seed_of (set_seed t (Some r))) (session_of s).mta
+    (in_seed (only_seed t (Some r)) ∙ ap (λ (c : Session). with_seed c (seed_of (set_seed t (Some r)))) (in_generator (only_generator s (next_of (generator_of s)))))
 
 moved : (x : Extension) (a : ℕ) (s : List ℕ) → Steps (step_in (SetMta x a) (session_of s)) (session_of (effect (SetMta x a) s))
 unfolding effect step_in

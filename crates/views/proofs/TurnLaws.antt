@@ -1,21 +1,14 @@
 -- Whose turn it is goes by document 01's rule: the answer and the lists by turns, the lists round and round, a list's ODTs in their order; and what a
 -- slot leaves goes by whose turn it was. Assumes nothing.
-use Prim.Native.Nat.{ℕ, zero, suc, ◌+◌, ◌%◌, ◌≤◌, ◌<◌}
-use mathlib.Core.Path.{◌≡◌, refl, sym, ap, subst, ◌∙◌}
-use mathlib.Core.Bool.{true, false}
-use mathlib.Core.List.{List, []}
-use native.Mathlib.Omega.{arith}
-use native.Mathlib.Nat.{mod-lt}
-use borrow.Author.Tests.{ltb-true, le-ltb}
-use lib.ListN.{length}
+use Rattle.std.proofs.Common.{◌≡◌, ℕ, zero, suc, ◌+◌, ◌%◌, ◌<◌, ◌≤◌, true, false, List, [], length, Some, None, sym, refl, ap, ◌∙◌, subst, mod-lt, arith, ltb-true, le-ltb}
 use Rattle.line.specs.Message.{room}
 use Rattle.line.proofs.Laws.{cond_ind, false_true}
 use Rattle.model.specs.Model.{Odt, DaqList, Session, Slave, runs_in, has_answer, has_packet}
 use Rattle.model.specs.Step.{emptied}
 use Rattle.model.specs.Calls.{first_packet, packet_in, or_else, round_from, round_in, turn_in, answer_gone, without_packet, packet_gone}
 use Rattle.model.specs.Whole.{sent_in, slot_in}
-use Rattle.model.specs.declared.Turn.{Turn}
-use Rattle.model.specs.declared.Turn.TheVariants.{Nobody, Answer, Packet}
+use Rattle.model.specs.Turn.{Turn}
+use Rattle.model.specs.declared.Sender.TheVariants.{Answer, Packet}
 use Rattle.views.specs.Commands.{TheGenerator, TheWrongKeys, WhetherOpen, TheLocks, TheSeed, TheMta, ThePointer, WhetherFreed, HowManyLists, TheRound, TheLists, AllButBoth}
 use Rattle.views.specs.Turns.{NoPacket, NextPacket, NextList, NoList, Goes, answer_first, list_next, answer_else, nobody, AnswerLeft, PacketLeft, Leaves}
 use Rattle.views.proofs.Parts.{this_or_other, put_here, put_there}
@@ -25,8 +18,8 @@ use Rattle.views.proofs.Waits.{Empty, no_packet}
 -- ---- one list
 -- what it has: nothing, or the packet of its first ODT that has one
 pub data Has (c : Session) (l : ℕ) : Turn → Type 0 where
-  none : NoPacket c l → Has c l Nobody
-  some : (o : ℕ) → NextPacket c l o → Has c l (Packet l o)
+  none : NoPacket c l → Has c l None
+  some : (o : ℕ) → NextPacket c l o → Has c l (Some (Packet l o))
 
 module _ (c : Session) (l : ℕ) where
   abbrev x : DaqList
@@ -62,8 +55,8 @@ module _ (c : Session) (l : ℕ) where
 
 -- ---- the round: the first of the n lists from l on that has a packet, or none of them has
 data Found (c : Session) (l n : ℕ) : Turn → Type 0 where
-  nowhere : ((i : ℕ) → i < n → NoPacket c ((l + i) % c.lists)) → Found c l n Nobody
-  there : (i o : ℕ) → i < n → ((j : ℕ) → j < i → NoPacket c ((l + j) % c.lists)) → NextPacket c ((l + i) % c.lists) o → Found c l n (Packet ((l + i) % c.lists) o)
+  nowhere : ((i : ℕ) → i < n → NoPacket c ((l + i) % c.lists)) → Found c l n None
+  there : (i o : ℕ) → i < n → ((j : ℕ) → j < i → NoPacket c ((l + j) % c.lists)) → NextPacket c ((l + i) % c.lists) o → Found c l n (Some (Packet ((l + i) % c.lists) o))
 
 module _ (c : Session) where
   abbrev No : ℕ → Type 0
@@ -80,7 +73,7 @@ module _ (c : Session) where
   later_found : (l n : ℕ) (t : Turn) → No l → Found c (l + 1) n t → Found c l (suc n) t
   later_found l n _ here (nowhere f) = nowhere (all_from l n here f)
   later_found l n _ here (there i o h f p) =
-      subst (λ (m : ℕ). Found c l (suc n) (Packet (m % c.lists) o)) (sym (step l i))
+      subst (λ (m : ℕ). Found c l (suc n) (Some (Packet (m % c.lists) o))) (sym (step l i))
       (there (suc i) o (omega arith) (all_from l i here f) (subst (λ (m : ℕ). NextPacket c (m % c.lists) o) (step l i) p))
 
   round_found : (l n : ℕ) → Found c l n (round_from c.lists (packet_in c) l n)
@@ -98,7 +91,7 @@ module _ (c : Session) where
     go : (t : Turn) → Has c (l % c.lists) t → Found c (l + 1) n (round_from c.lists (packet_in c) (l + 1) n) → Found c l (suc n) (or_else t (round_from c.lists (packet_in c) (l + 1) n))
     go _ (none f) r = later_found l n (round_from c.lists (packet_in c) (l + 1) n) f r
     go _ (some o p) r =
-        subst (λ (m : ℕ). Found c l (suc n) (Packet (m % c.lists) o)) (sym here) (there 0 o (omega arith) below (subst (λ (m : ℕ). NextPacket c (m % c.lists) o) here p))
+        subst (λ (m : ℕ). Found c l (suc n) (Some (Packet (m % c.lists) o))) (sym here) (there 0 o (omega arith) below (subst (λ (m : ℕ). NextPacket c (m % c.lists) o) here p))
 
 -- ---- from the list with which it begins
 module _ (v : Slave) where
@@ -113,7 +106,7 @@ module _ (v : Slave) where
   next_list i o h f p = record { on = i; few = h; round = refl; on_the_way = f; packet = p }
 
   -- an answer waits, and the last frame was one: a list's packet, or else the answer
-  or_answer : has_answer v ≡ true → v.last_answer ≡ true → (t : Turn) → Found c c.round c.lists t → Goes v (or_else t Answer)
+  or_answer : has_answer v ≡ true → v.last_answer ≡ true → (t : Turn) → Found c c.round c.lists t → Goes v (or_else t (Some Answer))
   or_answer w f _ (nowhere n) = answer_else w f (no_list_lem n)
   or_answer w f _ (there i o h n p) = list_next (λ _. f) ((c.round + i) % c.lists) o (next_list i o h n p)
 

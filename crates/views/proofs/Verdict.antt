@@ -1,12 +1,7 @@
 -- What judging a command has found out, by the deed that it leads to: one case a deed, with the facts of packet and session that it was judged by. What
 -- is said of every verdict goes by these cases, and not through the checks again. Assumes nothing.
-use Prim.Native.Nat.{ℕ, ◌+◌, ◌≤◌, ◌<◌}
-use mathlib.Core.Path.{◌≡◌, refl, ap, ◌∙◌}
-use mathlib.Core.Logic.{◌≢◌}
-use mathlib.Core.Bool.{Bool, true, false}
-use native.Mathlib.Omega.{arith}
-use borrow.Author.Tests.{eqb-true, eqb-false, ltb-false, leb-false, not-false}
-use lib.Dec.{eqb, ltb, leb}
+use Rattle.std.proofs.Common.{◌≡◌, ℕ, ◌+◌, ◌<◌, ◌≤◌, Bool, true, false, eqb, ltb, leb, ◌≢◌, Some, None, refl, ap, ◌∙◌, arith, ltb-false, eqb-true, leb-false}
+use Rattle.std.proofs.lemmas.Bool.{eqb-false, not-false}
 use Rattle.line.proofs.Laws.{cond_ind}
 use Rattle.state.specs.Layout.{lists, all_odts, all_entries, events, entry_most, upload_most, download_from, download_most, short_download_from, short_download_most, addressable}
 use Rattle.state.specs.Generator.{key_of, stays_shut}
@@ -21,8 +16,7 @@ use Rattle.words.specs.declared.Resource.{Resource}
 use Rattle.words.specs.declared.Resource.TheVariants.{Calibration, Lists}
 use Rattle.words.specs.declared.Extension.{Extension}
 use Rattle.words.specs.declared.Extension.TheVariants.{Calibration as CalibrationMemory, Measured}
-use Rattle.words.specs.declared.Seed.{Seed}
-use Rattle.words.specs.declared.Seed.TheVariants.{None, For}
+use Rattle.words.specs.Values.{Seed}
 use Rattle.words.specs.declared.Mta.{Mta}
 use Rattle.words.specs.declared.Mta.TheVariants.{Unset, At}
 use Rattle.words.specs.declared.Pointer.{Pointer}
@@ -33,7 +27,7 @@ use Rattle.model.specs.Seen.{Packet, Seen}
 
 -- UNLOCK with four key bytes, for the seed that is out
 pub record Keyed (p : Packet) (v : Seen) (r : Resource) : Type 0 where
-  pub seed : v.seed ≡ For r
+  pub seed : v.seed ≡ Some r
   pub four : p.b1 ≡ 4
   pub long : 6 ≤ p.n
 
@@ -114,7 +108,7 @@ module _ (p : Packet) (v : Seen) (nc nm : ℕ) where
   unlock_found : (s : Seed) → v.seed ≡ s → Led Unlock (unlock_by s v.generator p.b1 p.n p.d2)
   unfolding unlock_by
   unlock_found None e = refused Unlock _
-  unlock_found (For r) e =
+  unlock_found (Some r) e =
       cond_ind (Led Unlock) (eqb p.b1 4) (λ four.
       cond_ind (Led Unlock) (ltb p.n 6) (λ _. refused Unlock _) (λ long.
       cond_ind (Led Unlock) (eqb p.d2 (key_of r v.generator))

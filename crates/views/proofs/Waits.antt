@@ -1,14 +1,6 @@
 -- What waits of a list, by whether it runs and what its ODTs have in store; what a sent packet, a sample and an allocation make of it. Assumes nothing.
-use Prim.Native.Nat.{ℕ, zero, suc, ◌+◌, ◌≤◌, ◌<◌}
-use mathlib.Core.Path.{◌≡◌, refl, sym, ap, ap₂, subst, ◌∙◌}
-use mathlib.Core.Logic.{◌≢◌}
-use mathlib.Core.Bool.{Bool, true, false, cond}
-use mathlib.Core.List.{List, [], ◌∷◌, ◌++◌, append-nil}
-use native.Mathlib.Nat.{add-zero}
-use native.Mathlib.Omega.{arith}
-use borrow.Author.Tests.{lt-ltb}
-use lib.Dec.{eqb, ltb}
-use lib.ListN.{length}
+use Rattle.std.proofs.Common.{◌≡◌, ℕ, zero, suc, ◌+◌, ◌<◌, ◌≤◌, Bool, true, false, cond, eqb, ltb, ◌≢◌, List, [], ◌∷◌, ◌++◌, length, sym, refl, ap, ◌∙◌, subst, ap₂, append-nil, add-zero, arith, ltb-false, lt-ltb}
+use Rattle.std.proofs.lemmas.List.{nil_from_length}
 use Rattle.line.proofs.Laws.{cond_ind, false_true}
 use Rattle.model.specs.declared.Sampling.{Sampling}
 use Rattle.model.specs.declared.Sampling.TheVariants.{Idle, Sampled, Missed}
@@ -18,7 +10,7 @@ use Rattle.model.specs.Calls.{without_packet, sampling_in, contents_in, sampled,
 use Rattle.model.specs.Whole.{sampled_as, is_sampled, sampled_in}
 use Rattle.model.proofs.Fits.{runs_same}
 use Rattle.views.proofs.Parts.{this_or_other, put_by, put_here, put_there}
-use Rattle.views.proofs.Listed.{Listed, before_same, unstarted_rests, all_unstarted}
+use Rattle.views.proofs.Listed.{Listed, before_same, neither, unstarted_rests, all_unstarted}
 
 -- ---- by the stores
 module _ (first : ℕ) (x z : DaqList) where
@@ -165,18 +157,13 @@ sampled_free c l event =
     (λ _ f. absurd (false_true (ap is_sampled f)))
 
 pub no_packet : (bs : List ℕ) → ltb 0 (length bs) ≡ false → bs ≡ []
-no_packet [] e = refl
-no_packet (b ∷ bs) e = absurd (false_true (sym e ∙ lt-ltb 0 (length (b ∷ bs)) (omega arith)))
-
-both_none : (b c : Bool) → cond b true c ≡ false → (b ≡ false) × (c ≡ false)
-both_none true c f = absurd (false_true (sym f))
-both_none false c f = (refl, f)
+no_packet bs e = let none : length bs ≤ 0 = ltb-false 0 (length bs) e in nil_from_length bs (omega arith)
 
 none_stored : (x : DaqList) (n : ℕ) → some_packet x n ≡ false → Empty x 0 n
 unfolding some_packet
 none_stored x zero e i h = absurd (omega arith)
 none_stored x (suc n) e i h =
-    let none = both_none (some_packet x n) (has_packet (x.odt n)) e in
+    let none = neither (some_packet x n) (has_packet (x.odt n)) e in
     this_or_other i n
     (λ same. let m : 0 + i ≡ n = omega arith in subst (λ (o : ℕ). (x.odt o).store ≡ []) (sym m) (no_packet (x.odt n).store none.1))
     (λ other. none_stored x n none.0 i (omega arith))

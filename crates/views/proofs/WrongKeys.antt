@@ -1,20 +1,13 @@
 -- F8 and F7 where keys were wrong: GET_SEED that stays shut, or is too short for that; UNLOCK with a wrong key. Assumes nothing.
-use Prim.Native.Nat.{ℕ, ◌+◌, ◌≤◌, ◌<◌}
-use mathlib.Core.Path.{◌≡◌, refl, sym, subst, ◌∙◌}
-use mathlib.Core.Bool.{false}
-use mathlib.Core.List.{List}
-use native.Mathlib.Omega.{arith}
-use borrow.Author.Tests.{eqb-false, lt-leb, le-leb}
-use lib.Dec.{eqb, ltb}
-use lib.ListN.{length}
+use Rattle.std.proofs.Common.{◌≡◌, ℕ, ◌+◌, ◌<◌, ◌≤◌, false, eqb, ltb, List, length, Some, None, sym, refl, ◌∙◌, subst, arith, le-leb}
+use Rattle.std.proofs.lemmas.Bool.{eqb-false, lt-leb}
 use Rattle.line.proofs.Laws.{cond_ind}
 use Rattle.state.specs.Bytes.{u32_at}
 use Rattle.state.specs.Generator.{key_of, one_wrong_more}
 use Rattle.words.specs.Command.{command_of}
 use Rattle.words.specs.declared.Command.TheVariants as command
 use Rattle.words.specs.declared.Resource.{Resource}
-use Rattle.words.specs.declared.Seed.{Seed}
-use Rattle.words.specs.declared.Seed.TheVariants.{None, For}
+use Rattle.words.specs.Values.{Seed}
 use Rattle.model.specs.Judge.{unlock_by, judge_the, judge_by, judge_in}
 use Rattle.model.specs.declared.Deed.{Deed}
 use Rattle.model.specs.declared.Deed.TheVariants.{WrongKey}
@@ -38,7 +31,7 @@ module _ (p : List ℕ) (c : Session) (cal meas : List ℕ) where
   pub record Wrongly (d : Deed) : Type 0 where
     pub deed : d ≡ WrongKey
     pub resource : Resource
-    pub seeded : c.seed ≡ For resource
+    pub seeded : c.seed ≡ Some resource
     pub wrong : eqb (u32_at p 2) (key_of resource c.generator) ≡ false
 
   abbrev Told : Deed → Type 0
@@ -47,7 +40,7 @@ module _ (p : List ℕ) (c : Session) (cal meas : List ℕ) where
   by_seed : (x : Seed) → c.seed ≡ x → Told (unlock_by x c.generator (byte p 1) (length p) (u32_at p 2))
   unfolding unlock_by reply_in
   by_seed None e = λ _ t. absurd (omega arith)
-  by_seed (For r) e =
+  by_seed (Some r) e =
       cond_ind Told (eqb (byte p 1) 4) (λ _.
       cond_ind Told (ltb (length p) 6) (λ _ _ t. absurd (omega arith)) (λ _.
       cond_ind Told (eqb (u32_at p 2) (key_of r c.generator)) (λ _ f. absurd (omega arith)) (λ k _ _. record { deed = refl; resource = r; seeded = e; wrong = k })))
@@ -59,7 +52,7 @@ module _ (p : List ℕ) (c : Session) (cal meas : List ℕ) where
       by_code Told p c 0xF7 command.Unlock refl code (length cal) (length meas)
       (cond_ind Told (ltb (length p) 2) (λ _ _ t. absurd (omega arith)) (λ _. by_seed c.seed refl))
 
-  counted : (r : Resource) → c.seed ≡ For r → eqb (u32_at p 2) (key_of r c.generator) ≡ false → Leads WRONG_KEY p c cal meas WrongKey
+  counted : (r : Resource) → c.seed ≡ Some r → eqb (u32_at p 2) (key_of r c.generator) ≡ false → Leads WRONG_KEY p c cal meas WrongKey
   unfolding step_in writes reply_in
   counted r e key = record {
     resource = r;

@@ -1,11 +1,10 @@
 -- What stands once a command is done, in document 01's words and order: of the session c, the memories cal and meas and the packet p before it, and
 -- of the session, the calibration memory and the answer after it. The packet's numbers are said by their bytes.
-use Rattle.std.specs.Prelude.{ℕ, zero, suc, ◌+◌, ◌*◌, ◌%◌, ◌^◌, ◌≤◌, ◌<◌, ◌≡◌, ◌≢◌, Bool, true, false, List, [], ◌∷◌, length}
+use Rattle.std.specs.Prelude.{ℕ, zero, suc, ◌+◌, ◌*◌, ◌%◌, ◌^◌, ◌≤◌, ◌<◌, ◌≡◌, ◌≢◌, Bool, true, false, List, [], ◌∷◌, length, Some, None}
 use Rattle.words.specs.declared.Resource.{Resource}
 use Rattle.words.specs.declared.Resource.TheVariants.{Calibration, Lists}
 use Rattle.words.specs.declared.Extension.{Extension}
 use Rattle.words.specs.declared.Extension.TheVariants.{Calibration as CalibrationMemory, Measured}
-use Rattle.words.specs.declared.Seed.TheVariants.{None, For}
 use Rattle.words.specs.declared.Mta.TheVariants.{Unset, At}
 use Rattle.words.specs.declared.Pointer.TheVariants.{Unset as NoEntry, At as Points}
 use Rattle.model.specs.Model.{byte, Bytes, no_entry, no_odt, DaqList, no_list, Session, first_of, odts_taken, entries_taken, runs_in}
@@ -125,7 +124,7 @@ SYNCH p c cal meas o = Tells c cal o (0xFE ∷ 0x00 ∷ [])
 
 -- ---- F8 GET_SEED, while fewer than three keys were wrong: the generator moves on, and the answer carries it
 pub record Seeds (r : Resource) (c : Session) (cal : List ℕ) (o : Done) : Type 0 where
-  pub seed : o.session.seed ≡ For r
+  pub seed : o.session.seed ≡ Some r
   pub generator : o.session.generator ≡ next_seed c.generator
   pub rest : AllButBoth TheGenerator TheSeed c o.session
   pub memory : o.memory ≡ cal
@@ -143,7 +142,7 @@ pub record GET_SEED (p : List ℕ) (c : Session) (cal meas : List ℕ) (o : Done
 -- ---- F7 UNLOCK: the key in bytes 2 to 5 is that of the seed that was out
 pub record UNLOCK (p : List ℕ) (c : Session) (cal meas : List ℕ) (o : Done) : Type 0 where
   pub resource : Resource
-  pub seeded : c.seed ≡ For resource
+  pub seeded : c.seed ≡ Some resource
   pub right : four p 2 ≡ key_for resource c.generator
   pub opens : o.session.unlocked resource ≡ true
   pub alone : (r : Resource) → r ≢ resource → o.session.unlocked r ≡ c.unlocked r
@@ -155,7 +154,7 @@ pub record UNLOCK (p : List ℕ) (c : Session) (cal meas : List ℕ) (o : Done) 
 -- answered FE 25: the key is wrong. The session ends, and one wrong key more is counted, at most three
 pub record WRONG_KEY (p : List ℕ) (c : Session) (cal meas : List ℕ) (o : Done) : Type 0 where
   pub resource : Resource
-  pub seeded : c.seed ≡ For resource
+  pub seeded : c.seed ≡ Some resource
   pub wrong : four p 2 ≢ key_for resource c.generator
   pub counted : c.wrong_keys < 3 → o.session.wrong_keys ≡ c.wrong_keys + 1
   pub most : 3 ≤ c.wrong_keys → o.session.wrong_keys ≡ 3

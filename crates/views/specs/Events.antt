@@ -1,8 +1,7 @@
 -- What an event is to each list, and what it leaves, in document 01's words: each running list of that event takes a sample at once, unless it still has
 -- unsent packets: then the old stays and this one is missed. The call tells how many lists sampled and how many missed.
 use Rattle.std.specs.Prelude.{ℕ, ◌+◌, ◌≡◌, Bool, true, false, cond, not, ◌&&◌, List, eqb, ltb, length}
-use Rattle.words.specs.declared.Evented.{Evented}
-use Rattle.words.specs.declared.Evented.TheVariants.{Done}
+use Rattle.words.specs.Values.{Evented, event_done}
 use Rattle.model.specs.Model.{DaqList, Session}
 use Rattle.views.specs.Words.{any, total, running}
 use Rattle.views.specs.Commands.{TheLists, AllBut}
@@ -29,7 +28,7 @@ how_many_of c test = total c.lists (λ l. cond (test l) 1 0)
 
 -- an event that is 0 or 1, in session c, tells e and leaves d
 pub record EventLeaves (number clock : ℕ) (cal meas : List ℕ) (c d : Session) (e : Evented) : Type 0 where
-  pub told : e ≡ Done (how_many_of c (takes_sample c number)) (how_many_of c (misses_sample c number))
+  pub told : e ≡ event_done (how_many_of c (takes_sample c number)) (how_many_of c (misses_sample c number))
   pub taken : (l : ℕ) → takes_sample c number l ≡ true → CapturedList clock cal meas (c.list l) (d.list l)
   pub old : (l : ℕ) → takes_sample c number l ≡ false → d.list l ≡ c.list l
   pub settings : SettingsKept c d

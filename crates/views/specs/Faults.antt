@@ -1,12 +1,11 @@
 -- The table of checks: of each command its code, its fewest bytes, the lock that it needs, and what else it is refused for, each check with its code and
 -- in the paper's order. It is told from the packet p, the session c before it, and how many bytes of calibration (nc) and of measured values (nm) are lent.
-use Rattle.std.specs.Prelude.{ℕ, ◌+◌, ◌≡◌, Bool, true, false, cond, not, ◌&&◌, ◌||◌, List, [], ◌∷◌, eqb, ltb, leb, length}
+use Rattle.std.specs.Prelude.{ℕ, ◌+◌, ◌≡◌, Bool, true, false, cond, not, ◌&&◌, ◌||◌, List, [], ◌∷◌, eqb, ltb, leb, length, Some, None}
 use Rattle.std.proofs.Math.Option.{Option, none, some}
 use Rattle.words.specs.declared.Resource.{Resource}
 use Rattle.words.specs.declared.Resource.TheVariants.{Calibration, Lists}
 use Rattle.words.specs.declared.Extension.TheVariants.{Calibration as CalibrationMemory, Measured}
-use Rattle.words.specs.declared.Seed.{Seed}
-use Rattle.words.specs.declared.Seed.TheVariants.{None, For}
+use Rattle.words.specs.Values.{Seed}
 use Rattle.words.specs.declared.Mta.{Mta}
 use Rattle.words.specs.declared.Mta.TheVariants.{Unset, At}
 use Rattle.words.specs.declared.Pointer.{Pointer}
@@ -33,12 +32,12 @@ mta_outside (At Measured a) n nc nm = outside a n nm
 
 abbrev pub no_seed_out : Seed → Bool
 no_seed_out None = true
-no_seed_out (For r) = false
+no_seed_out (Some r) = false
 
 -- the key is not that to the seed that is out, whose value is the generator's
 abbrev pub key_wrong : Seed → ℕ → ℕ → Bool
 key_wrong None generator key = false
-key_wrong (For r) generator key = not (eqb key (key_for r generator))
+key_wrong (Some r) generator key = not (eqb key (key_for r generator))
 
 abbrev pub no_such_list : Session → ℕ → Bool
 no_such_list c l = leb c.lists l

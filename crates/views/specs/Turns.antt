@@ -1,9 +1,9 @@
 -- Whose turn a slot is, in document 01's words: an answer's if one waits and the last frame sent was not an answer; else that of the next list with a
 -- packet, round from the one after the last one served, or from list 0 after FREE_DAQ; else an answer's. And what it leaves once that frame is sent.
-use Rattle.std.specs.Prelude.{ℕ, ◌+◌, ◌%◌, ◌≤◌, ◌<◌, ◌≡◌, ◌≢◌, true, false, [], length}
+use Rattle.std.specs.Prelude.{ℕ, ◌+◌, ◌%◌, ◌≤◌, ◌<◌, ◌≡◌, ◌≢◌, true, false, [], length, Some, None}
 use Rattle.model.specs.Model.{Session, Slave, runs_in, has_answer}
-use Rattle.model.specs.declared.Turn.{Turn}
-use Rattle.model.specs.declared.Turn.TheVariants.{Nobody, Answer, Packet}
+use Rattle.model.specs.Turn.{Turn}
+use Rattle.model.specs.declared.Sender.TheVariants.{Answer, Packet}
 use Rattle.views.specs.Commands.{TheRound, TheLists, AllButBoth}
 
 -- list l has no packet: if it runs, none of its ODTs has something in store
@@ -30,10 +30,10 @@ NoList v = (l : ℕ) → l < v.session.lists → NoPacket v.session l
 
 -- whose turn it is, and why
 pub data Goes (v : Slave) : Turn → Type 0 where
-  answer_first : has_answer v ≡ true → v.last_answer ≡ false → Goes v Answer
-  list_next : (has_answer v ≡ true → v.last_answer ≡ true) → (l o : ℕ) → NextList v l o → Goes v (Packet l o)
-  answer_else : has_answer v ≡ true → v.last_answer ≡ true → NoList v → Goes v Answer
-  nobody : has_answer v ≡ false → NoList v → Goes v Nobody
+  answer_first : has_answer v ≡ true → v.last_answer ≡ false → Goes v (Some Answer)
+  list_next : (has_answer v ≡ true → v.last_answer ≡ true) → (l o : ℕ) → NextList v l o → Goes v (Some (Packet l o))
+  answer_else : has_answer v ≡ true → v.last_answer ≡ true → NoList v → Goes v (Some Answer)
+  nobody : has_answer v ≡ false → NoList v → Goes v None
 
 -- ---- what a slot leaves, w, of v
 -- a frame was sent: the reader is where it was, the CTR has grown by one, 255 to 0
@@ -69,6 +69,6 @@ pub record PacketLeft (v w : Slave) (l o : ℕ) : Type 0 where
 
 -- by whose turn it was
 abbrev pub Leaves : Turn → Slave → Slave → Type 0
-Leaves Nobody v w = w ≡ v
-Leaves Answer v w = AnswerLeft v w
-Leaves (Packet l o) v w = PacketLeft v w l o
+Leaves None v w = w ≡ v
+Leaves (Some Answer) v w = AnswerLeft v w
+Leaves (Some (Packet l o)) v w = PacketLeft v w l o

@@ -1,8 +1,5 @@
 -- Every code but the twenty-four known ones is unknown. Assumes nothing.
-use mathlib.Core.Path.{◌≡◌}
-use mathlib.Core.List.{List, [], ◌∷◌}
-use Prim.Native.Nat.{ℕ}
-use borrow.Author.Tests.{ne_eqb}
+use Rattle.std.proofs.Common.{◌≡◌, List, [], ◌∷◌, ℕ, ne_eqb}
 use Rattle.words.specs.Command.{command_of}
 use Rattle.words.specs.declared.Command.TheVariants.{Unknown}
 
@@ -43,11 +40,3 @@ every_other code h = simp (
   ne_eqb _ _ h.0.0.0.0.0.0.0.0.0.0.0.0.0.0.0.0.0.0.0.0.0.0.1,
   ne_eqb _ _ h.0.0.0.0.0.0.0.0.0.0.0.0.0.0.0.0.0.0.0.0.0.0.0.1,
 )
-
--- the codes that the dispatch names one by one, its last one first: 0xDF too, which is unknown as every other
-abbrev pub named : List ℕ
-named =
-    0xD3 ∷ 0xD4 ∷ 0xD5 ∷ 0xD6 ∷ 0xD9 ∷ 0xDA ∷ 0xDD ∷ 0xDE ∷ 0xDF ∷ 0xE0 ∷ 0xE1 ∷ 0xE2 ∷ 0xE3 ∷ 0xED ∷ 0xF0 ∷ 0xF3 ∷ 0xF4 ∷ 0xF5 ∷ 0xF6 ∷ 0xF7 ∷ 0xF8 ∷ 0xFC ∷ 0xFD ∷ 0xFE ∷ 0xFF ∷ []
-
-pub unknown : (code : ℕ) → NoneOf named code → command_of code ≡ Unknown
-unknown code h = every_other code ((((((((h.0.0.0.0.0.0.0.0.0, h.0.0.0.0.0.0.0.1), h.0.0.0.0.0.0.1), h.0.0.0.0.0.1), h.0.0.0.0.1), h.0.0.0.1), h.0.0.1), h.0.1), h.1)

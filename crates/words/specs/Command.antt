@@ -1,10 +1,12 @@
--- The commands: their codes, fewest bytes and locks; and the reasons of a refusal.
-use Rattle.std.specs.Prelude.{ℕ, cond, eqb}
+-- The commands: their codes, fewest bytes and locks; the extensions and resources, and the reasons of a refusal.
+use Rattle.std.specs.Prelude.{ℕ, cond, eqb, Some, None, Result, Ok, Err}
 use Rattle.words.specs.declared.Command.{Command}
 use Rattle.words.specs.declared.Command.TheVariants.{Unknown, Connect, Disconnect, GetStatus, Synch, GetSeed, Unlock, SetMta, Upload, ShortUpload, BuildChecksum, Download, ShortDownload, ClearDaqList, SetDaqPtr, WriteDaq, SetDaqListMode, StartStopDaqList, StartStopSynch, GetDaqProcessorInfo, GetDaqResolutionInfo, FreeDaq, AllocDaq, AllocOdt, AllocOdtEntry}
-use Rattle.words.specs.declared.Needs.{Needs}
-use Rattle.words.specs.declared.Needs.TheVariants.{Nothing, Unlocked}
+use Rattle.words.specs.Values.{Needs}
+use Rattle.words.specs.declared.Resource.{Resource}
 use Rattle.words.specs.declared.Resource.TheVariants.{Calibration, Lists}
+use Rattle.words.specs.declared.Extension.{Extension}
+use Rattle.words.specs.declared.Extension.TheVariants.{Calibration as CalibrationMemory, Measured}
 use Rattle.words.specs.declared.Reason.{Reason}
 use Rattle.words.specs.declared.Reason.TheVariants.{Unknown as UnknownCode, TooShort, Locked, Sequence, OutOfRange, DataMissing, ListRuns, ReadOnly, NotInside, CannotStart, PoolFull, WrongKey}
 
@@ -67,31 +69,31 @@ fewest AllocOdtEntry = 6
 
 -- F0 and ED need calibration, E3 to D3 need lists
 abbrev pub needs_of : Command → Needs
-needs_of Unknown = Nothing
-needs_of Connect = Nothing
-needs_of Disconnect = Nothing
-needs_of GetStatus = Nothing
-needs_of Synch = Nothing
-needs_of GetSeed = Nothing
-needs_of Unlock = Nothing
-needs_of SetMta = Nothing
-needs_of Upload = Nothing
-needs_of ShortUpload = Nothing
-needs_of BuildChecksum = Nothing
-needs_of Download = Unlocked Calibration
-needs_of ShortDownload = Unlocked Calibration
-needs_of ClearDaqList = Unlocked Lists
-needs_of SetDaqPtr = Unlocked Lists
-needs_of WriteDaq = Unlocked Lists
-needs_of SetDaqListMode = Unlocked Lists
-needs_of StartStopDaqList = Unlocked Lists
-needs_of StartStopSynch = Unlocked Lists
-needs_of GetDaqProcessorInfo = Unlocked Lists
-needs_of GetDaqResolutionInfo = Unlocked Lists
-needs_of FreeDaq = Unlocked Lists
-needs_of AllocDaq = Unlocked Lists
-needs_of AllocOdt = Unlocked Lists
-needs_of AllocOdtEntry = Unlocked Lists
+needs_of Unknown = None
+needs_of Connect = None
+needs_of Disconnect = None
+needs_of GetStatus = None
+needs_of Synch = None
+needs_of GetSeed = None
+needs_of Unlock = None
+needs_of SetMta = None
+needs_of Upload = None
+needs_of ShortUpload = None
+needs_of BuildChecksum = None
+needs_of Download = Some Calibration
+needs_of ShortDownload = Some Calibration
+needs_of ClearDaqList = Some Lists
+needs_of SetDaqPtr = Some Lists
+needs_of WriteDaq = Some Lists
+needs_of SetDaqListMode = Some Lists
+needs_of StartStopDaqList = Some Lists
+needs_of StartStopSynch = Some Lists
+needs_of GetDaqProcessorInfo = Some Lists
+needs_of GetDaqResolutionInfo = Some Lists
+needs_of FreeDaq = Some Lists
+needs_of AllocDaq = Some Lists
+needs_of AllocOdt = Some Lists
+needs_of AllocOdtEntry = Some Lists
 
 -- the code of each reason; 0x21 and 0x25 have two each
 abbrev pub code_of : Reason → ℕ
@@ -107,3 +109,11 @@ code_of NotInside = 0x24
 code_of CannotStart = 0x2A
 code_of PoolFull = 0x30
 code_of WrongKey = 0x25
+
+-- 0 is calibration, 1 is measured values, and no other number is an extension
+abbrev pub extension_of : ℕ → Result Extension Reason
+extension_of n = cond (eqb n 0) (Ok CalibrationMemory) (cond (eqb n 1) (Ok Measured) (Err OutOfRange))
+
+-- 1 is calibration, 4 is the lists, and no other number is a resource
+abbrev pub resource_of : ℕ → Result Resource Reason
+resource_of n = cond (eqb n 0x01) (Ok Calibration) (cond (eqb n 0x04) (Ok Lists) (Err OutOfRange))

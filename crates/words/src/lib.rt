@@ -3,14 +3,18 @@
 #![tactic(auto)]
 
 pub mod commands;
+pub mod extensions;
 pub mod numbers;
 pub mod reasons;
+pub mod resources;
 
-// What a lock guards.
+pub use numbers::Numbered;
+
+// What a lock guards, by its bit in a mask.
 #[derive(Clone, Copy)]
 pub enum Resource {
-    Calibration,
-    Lists,
+    Calibration = 0x01,
+    Lists = 0x04,
 }
 
 // Extension 0 and extension 1.
@@ -20,7 +24,7 @@ pub enum Extension {
     Measured,
 }
 
-// The transfer address.
+// The transfer address. Document 01 asks for this form, and for that of the list pointer: Option would take it away.
 #[derive(Clone, Copy)]
 pub enum Mta {
     Unset,
@@ -32,13 +36,6 @@ pub enum Mta {
 pub enum Pointer {
     Unset,
     At { list: u8, odt: u8, entry: u8 },
-}
-
-// The resource of the seed that is out; its value is the generator's state.
-#[derive(Clone, Copy)]
-pub enum Seed {
-    None,
-    For(Resource),
 }
 
 #[derive(Clone, Copy)]
@@ -70,13 +67,6 @@ pub enum Command {
     AllocOdtEntry,
 }
 
-// The lock that must be open for a command.
-#[derive(Clone, Copy)]
-pub enum Needs {
-    Nothing,
-    Unlocked(Resource),
-}
-
 // Why a command is refused.
 #[derive(Clone, Copy)]
 pub enum Reason {
@@ -96,7 +86,7 @@ pub enum Reason {
 
 // What a received byte comes to.
 #[derive(Clone, Copy)]
-pub enum Received {
+pub enum Heard {
     Nothing,
     Answered,
     Silent,
@@ -105,28 +95,29 @@ pub enum Received {
     BadChecksum,
     Unread,
     CutOff,
-    NoState,
 }
 
-// What an event comes to.
+// Of the lists that an event is for: how many sampled, and how many missed it.
 #[derive(Clone, Copy)]
-pub enum Evented {
-    Done { sampled: u8, missed: u8 },
+pub struct Counted {
+    pub sampled: u8,
+    pub missed: u8,
+}
+
+// Why a call is refused: the state that it was lent is none,
+#[derive(Clone, Copy)]
+pub struct NoState;
+
+// or there is no such event,
+#[derive(Clone, Copy)]
+pub enum EventRefusal {
     BadEvent,
     NoState,
 }
 
-// What a slot comes to.
+// or no room for a frame.
 #[derive(Clone, Copy)]
-pub enum Slotted {
-    Idle,
-    Sent { size: usize },
+pub enum SlotRefusal {
     NoRoom,
-    NoState,
-}
-
-#[derive(Clone, Copy)]
-pub enum PoweredUp {
-    Done,
     NoState,
 }

@@ -1,62 +1,66 @@
 // The paper's number of each answer.
-ghost use Rattle.std.specs.Prelude.{◌≡◌};
+ghost use Rattle.std.specs.Prelude.{◌≡◌, ℕ};
 ghost use Rattle.words.specs.Number.{received_number, evented_number, slotted_number, powered_up_number};
 
-use crate::{Evented, PoweredUp, Received, Slotted};
+use crate::{Counted, EventRefusal, Heard, NoState, SlotRefusal};
 
-impl Received {
-    pub fn number(self) -> u32
-        ensures { result ≡ received_number self }
-    {
+// What the paper has a number for.
+pub trait Numbered {
+    ghost numbers: { Self → ℕ };
+
+    fn number(self) -> u8
+        ensures { result ≡ numbers self };
+}
+
+impl Numbered for Result<Heard, NoState> {
+    ghost numbers = { received_number };
+
+    fn number(self) -> u8 {
         match self {
-            Received::Nothing => 0,
-            Received::Answered => 1,
-            Received::Silent => 2,
-            Received::BadLength => 3,
-            Received::BadEscape => 4,
-            Received::BadChecksum => 5,
-            Received::Unread => 6,
-            Received::CutOff => 7,
-            Received::NoState => 10,
+            Ok(Heard::Nothing) => 0,
+            Ok(Heard::Answered) => 1,
+            Ok(Heard::Silent) => 2,
+            Ok(Heard::BadLength) => 3,
+            Ok(Heard::BadEscape) => 4,
+            Ok(Heard::BadChecksum) => 5,
+            Ok(Heard::Unread) => 6,
+            Ok(Heard::CutOff) => 7,
+            Err(NoState) => 10,
         }
     }
 }
 
-impl Evented {
-    pub fn number(self) -> u32
-        ensures { result ≡ evented_number self }
-    {
+impl Numbered for Result<Counted, EventRefusal> {
+    ghost numbers = { evented_number };
+
+    fn number(self) -> u8 {
         match self {
-            Evented::Done {
-                sampled: _,
-                missed: _,
-            } => 0,
-            Evented::BadEvent => 8,
-            Evented::NoState => 10,
+            Ok(_) => 0,
+            Err(EventRefusal::BadEvent) => 8,
+            Err(EventRefusal::NoState) => 10,
         }
     }
 }
 
-impl Slotted {
-    pub fn number(self) -> u32
-        ensures { result ≡ slotted_number self }
-    {
+impl Numbered for Result<Option<usize>, SlotRefusal> {
+    ghost numbers = { slotted_number };
+
+    fn number(self) -> u8 {
         match self {
-            Slotted::Idle => 0,
-            Slotted::Sent { size: _ } => 0,
-            Slotted::NoRoom => 9,
-            Slotted::NoState => 10,
+            Ok(_) => 0,
+            Err(SlotRefusal::NoRoom) => 9,
+            Err(SlotRefusal::NoState) => 10,
         }
     }
 }
 
-impl PoweredUp {
-    pub fn number(self) -> u32
-        ensures { result ≡ powered_up_number self }
-    {
+impl Numbered for Result<(), NoState> {
+    ghost numbers = { powered_up_number };
+
+    fn number(self) -> u8 {
         match self {
-            PoweredUp::Done => 0,
-            PoweredUp::NoState => 10,
+            Ok(()) => 0,
+            Err(NoState) => 10,
         }
     }
 }

@@ -4,21 +4,23 @@ ghost use Rattle.words.specs.Command.{code_of};
 
 use crate::Reason;
 
-pub fn code(reason: Reason) -> u8
-    ensures { result ≡ code_of reason }
-{
-    match reason {
-        Reason::Unknown => 0x20,
-        Reason::TooShort => 0x21,
-        Reason::Locked => 0x25,
-        Reason::Sequence => 0x29,
-        Reason::OutOfRange => 0x22,
-        Reason::DataMissing => 0x21,
-        Reason::ListRuns => 0x11,
-        Reason::ReadOnly => 0x23,
-        Reason::NotInside => 0x24,
-        Reason::CannotStart => 0x2A,
-        Reason::PoolFull => 0x30,
-        Reason::WrongKey => 0x25,
+impl From<Reason> for u8 {
+    ghost from_gives = { λ reason n. n ≡ code_of reason };
+
+    fn from(reason: Reason) -> u8 {
+        match reason {
+            Reason::Unknown => 0x20,
+            Reason::TooShort => 0x21,
+            Reason::Locked => 0x25,
+            Reason::Sequence => 0x29,
+            Reason::OutOfRange => 0x22,
+            Reason::DataMissing => 0x21,
+            Reason::ListRuns => 0x11,
+            Reason::ReadOnly => 0x23,
+            Reason::NotInside => 0x24,
+            Reason::CannotStart => 0x2A,
+            Reason::PoolFull => 0x30,
+            Reason::WrongKey => 0x25,
+        }
     }
 }

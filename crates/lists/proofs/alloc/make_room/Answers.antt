@@ -3,9 +3,6 @@ use Rattle.state.specs.Layout.{entries_at}
 use Rattle.lists.specs.Alloc.{room_made}
 use Rattle.lists.proofs.alloc.make_room.Goals as goal
 
-pub shift-requires : goal.shift-requires
-shift-requires c = (omega (arith, c.entries_at-at.ensures, c.bytes_behind.ensures, c.requires.0, c.requires.1, c.requires.2), c.requires.0)
-
 pub returns : goal.returns
 unfolding room_made
 returns c = let e : entries_at c.args.i + 2 * c.args.n ≡ entries_at (c.args.i + c.args.n) = omega arith in c.clear.ensures ∙ rw (c.shift.ensures, c.bytes_behind.ensures, c.entries_at-at.ensures, e)

@@ -1,9 +1,9 @@
-use Rattle.std.proofs.Common.{◌≡◌, ◌+◌, ◌-◌, ◌≤◌, length}
+use Rattle.std.proofs.Common.{◌≡◌, ◌+◌, ◌-◌, ◌≤◌}
 use Rattle.state.specs.Bytes.{copied}
 use Rattle.lists.proofs.alloc.shift.Given as goal
 
 abbrev pub invariant-loop-j : goal.invariant-loop-j
-invariant-loop-j l = (l.j ≤ l.n) × (l.s ≡ copied l.initial.s (l.at + l.d + l.j) l.initial.s (l.at + l.j) (l.n - l.j)) × (length l.s ≡ length l.initial.s)
+invariant-loop-j l = (l.j ≤ l.n) × (l.s ≡ copied l.initial.s (l.at + l.d + l.j) l.initial.s (l.at + l.j) (l.n - l.j))
 
 abbrev pub decreases-loop-j : goal.decreases-loop-j
 decreases-loop-j l = l.j

@@ -1,9 +1,6 @@
-use Rattle.std.proofs.Common.{◌≡◌, ◌-◌, ◌≤◌, length}
+use Rattle.std.proofs.Common.{◌≡◌}
 use Rattle.lists.specs.Lists.{stop_selected}
 use Rattle.lists.proofs.changes.stop_each_selected.Given as goal
 
 abbrev pub invariant-loop-l : goal.invariant-loop-l
-invariant-loop-l l = (l.l ≤ l.n) × (l.s ≡ stop_selected l.initial.s l.l) × (length l.s ≡ length l.initial.s)
-
-abbrev pub decreases-loop-l : goal.decreases-loop-l
-decreases-loop-l l = l.n - l.l
+invariant-loop-l l = (l.s ≡ stop_selected l.initial.s l.l)

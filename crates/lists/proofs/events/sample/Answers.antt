@@ -1,15 +1,11 @@
-use Rattle.std.proofs.Common.{◌∙◌, arith}
-use Rattle.lists.proofs.Tallied.{if_sampled, if_not}
+use Rattle.std.proofs.Common.{inl, inr, refl}
+use Rattle.lists.specs.Event.{sampled_state}
 use Rattle.lists.proofs.events.sample.Goals as goal
 
-pub capture-requires : goal.capture-requires
-capture-requires c = (c.requires.0, c.requires.1, c.requires.2, c.requires.3, c.requires.4)
+pub returns-in-Sampled : goal.returns-in-Sampled
+unfolding sampled_state
+returns-in-Sampled c = rw c.in-Sampled.is c.capture.ensures
 
-pub returns-then-sampled_by-gt0 : goal.returns-then-sampled_by-gt0
-returns-then-sampled_by-gt0 c = (c.capture.ensures.0 ∙ if_sampled c.args.s.now c.args.l c.args.clock c.args.cal.now c.args.meas.now c.args.c (omega (arith, c.if-sampled_by-gt0.true, c.sampled_by.ensures.0)), c.capture.ensures.1, c.capture.ensures.2)
-
-pub entry_after-requires : goal.entry_after-requires
-entry_after-requires c = (c.requires.0, c.requires.4.inside, c.requires.4.entered, c.requires.4.few)
-
-pub returns : goal.returns
-returns c = (if_not c.args.s.now c.args.l c.args.clock c.args.cal.now c.args.meas.now c.args.c (omega (arith, c.if-sampled_by-gt0.false, c.sampled_by.ensures.0)), c.entry_after.ensures.0, c.entry_after.ensures.1)
+pub returns-in-Idle : goal.returns-in-Idle
+unfolding sampled_state
+returns-in-Idle c = elim c.in-Idle.is [ inl e ↦ rw e (refl, c.entry_after.ensures.0, c.entry_after.ensures.1) | inr e ↦ rw e (refl, c.entry_after.ensures.0, c.entry_after.ensures.1) ]

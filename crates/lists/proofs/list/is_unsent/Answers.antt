@@ -1,23 +1,20 @@
-use Rattle.std.proofs.Common.{◌≡◌, suc, sym, refl, ◌∙◌, add-one, arith, le-ltb, lt-ltb}
-use Rattle.state.specs.Pool.{odt_count}
+use Rattle.std.proofs.Common.{◌+◌, refl, ◌∙◌, ltb, arith, rules, tests}
+use Rattle.std.proofs.lemmas.Iterator.{YieldsList-from_range}
+use Rattle.std.proofs.lemmas.Iterator.Search.{any_from_yields_List}
+use Rattle.state.specs.Lists.{stored_length}
 use Rattle.model.specs.Model.{some_packet}
 use Rattle.model.specs.View.{session_of}
 use Rattle.model.proofs.Shown.{odts_at_lem, some_next}
-use Rattle.lists.proofs.Counting.{some_stays}
+use Rattle.lists.proofs.Counting.{any_from}
 use Rattle.lists.proofs.list.is_unsent.Goals as goal
 
-pub loop-o-init : goal.loop-o-init
-unfolding some_packet
-loop-o-init c = (omega arith, refl)
-
-pub stored_length-requires : goal.stored_length-requires
-stored_length-requires c = (c.requires.0, omega (arith, c.requires.4))
-
-pub returns-then-stored_length-gt0 : goal.returns-then-stored_length-gt0
-returns-then-stored_length-gt0 c = sym (rw (odts_at_lem c.args.s.now c.args.l c.requires.1) (some_stays ((session_of c.args.s.now).list c.args.l) (suc c.loop-o.o) (odt_count c.args.s.now c.args.l) (omega (arith, c.requires.3)) (some_next c.args.s.now c.args.l c.requires.1 c.loop-o.o (omega (arith, c.requires.3)) c.requires.0 ∙ simp (c.loop-o.invariant.1, ← c.requires.2, ← c.stored_length.ensures.0, lt-ltb _ _ c.if-stored_length-gt0.true))))
-
-pub loop-o-preserved : goal.loop-o-preserved
-loop-o-preserved c = (omega arith, rw (add-one c.loop-o.o) (some_next c.args.s.now c.args.l c.requires.1 c.loop-o.o (omega (arith, c.requires.3)) c.requires.0 ∙ simp (c.loop-o.invariant.1, ← c.requires.2, ← c.stored_length.ensures.0, le-ltb _ _ c.if-stored_length-gt0.false)))
-
 pub returns : goal.returns
-returns c = let e : c.loop-o.o ≡ odt_count c.args.s.now c.args.l = omega (arith, c.requires.3) in sym (rw (odts_at_lem c.args.s.now c.args.l c.requires.1) (rw e at c.loop-o.invariant.1))
+unfolding some_packet
+returns c =
+    let s = c.args.s.now in
+    let l = c.args.l in
+    let k = c.args.k in
+    let n = c.args.n in
+    any_from_yields_List (λ i. ltb 0 (stored_length s i)) _ _ _ c.any.ensures.ran (YieldsList-from_range k (k + n) n refl (omega arith)) (λ x b q k. search (rules, tests))
+    ∙ any_from (some_packet ((session_of s).list l)) (λ i. ltb 0 (stored_length s i)) k n refl (λ j h. some_next s l c.requires.0 j (omega (arith, c.requires.2)) c.told-s ∙ rw c.requires.1 refl)
+    ∙ rw (odts_at_lem s l c.requires.0, c.requires.2) refl

@@ -1,11 +1,8 @@
-use Rattle.std.proofs.Common.{◌≡◌, ◌+◌, ◌-◌, ◌*◌, ◌≤◌}
-use Rattle.state.specs.Layout.{entry_most, entries_at}
+use Rattle.std.proofs.Common.{◌≡◌, ◌*◌, ◌≤◌}
+use Rattle.state.specs.Layout.{entry_most}
 use Rattle.model.specs.Model.{sizes_of}
 use Rattle.model.specs.View.{odt_of}
 use Rattle.lists.proofs.list.odt_bytes.Given as goal
 
 abbrev pub invariant-loop-e : goal.invariant-loop-e
-invariant-loop-e l = (l.e ≤ l.n) × (l.at ≡ entries_at (l.first + l.e)) × (l.sum ≡ sizes_of (odt_of l.s l.k) l.e) × (l.sum ≤ entry_most * l.e)
-
-abbrev pub decreases-loop-e : goal.decreases-loop-e
-decreases-loop-e l = l.n - l.e
+invariant-loop-e l = (l.sum ≡ sizes_of (odt_of l.s l.k) l.e) × (l.sum ≤ entry_most * l.e)

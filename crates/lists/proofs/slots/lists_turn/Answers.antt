@@ -5,11 +5,5 @@ use Rattle.lists.specs.Slot.{numbered_in}
 use Rattle.lists.proofs.Round.{closed_round}
 use Rattle.lists.proofs.slots.lists_turn.Goals as goal
 
-pub round-requires : goal.round-requires
-round-requires c = (c.requires, sym c.on.ensures ∙ c.if-on.true)
-
-pub returns-then-on : goal.returns-then-on
-returns-then-on c = c.round.ensures
-
 pub returns : goal.returns
 returns c = ap (numbered_in c.args.s.now) (sym (closed_round (session_of c.args.s.now) (open_at_lem c.args.s.now ∙ sym c.on.ensures ∙ c.if-on.false)))

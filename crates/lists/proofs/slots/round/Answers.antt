@@ -1,41 +1,43 @@
-use Rattle.std.proofs.Common.{◌≡◌, ◌+◌, ◌-◌, sym, ap, ◌∙◌, mod-eq_of_lt, arith}
+use Rattle.std.proofs.Common.{◌≡◌, ◌<◌, ◌+◌, ◌-◌, sym, ap, ◌∙◌, arith, None}
+use Rattle.std.specs.Option.{is_some}
 use Rattle.state.specs.Pool.{first_odt}
 use Rattle.model.specs.Calls.{packet_in, or_else, round_from, round_in}
 use Rattle.model.specs.View.{session_of}
-use Rattle.model.specs.declared.Turn.TheVariants.{Nobody}
 use Rattle.state.proofs.Allocated.{first_most_lem, round_there, round_most}
 use Rattle.lists.specs.Slot.{numbered_in}
 use Rattle.lists.proofs.Round.{round_step, round_at_lem, round_after_lem, after_there, after_first}
-use Rattle.lists.proofs.Sending.{numbered_or, numbered_none}
+use Rattle.lists.proofs.Sending.{somebody, nobody}
 use Rattle.lists.proofs.slots.round.Goals as goal
 
 pub first_odt-k-requires : goal.first_odt-k-requires
-first_odt-k-requires c = (c.requires.0, rw c.round-l.ensures (round_most c.args.s.now))
+first_odt-k-requires c = rw c.round-l.ensures (round_most c.args.s.now)
 
-pub loop-left-init : goal.loop-left-init
-loop-left-init c = (rw (c.list_count-count.ensures.0, c.round-l.ensures) (sym (round_at_lem c.args.s.now)), c.first_odt-k.ensures.0, c.first_odt-k.ensures.1, omega arith, λ h. rw (c.list_count-count.ensures.0, c.round-l.ensures) (round_there c.args.s.now (omega (arith, c.list_count-count.ensures.0))))
+pub loop-init : goal.loop-init
+loop-init c =
+    let all : c.list_count-count.result - 0 ≡ c.list_count-count.result = omega arith in
+    (rw (all, c.list_count-count.ensures.0, c.round-l.ensures) (sym (round_at_lem c.args.s.now)), c.first_odt-k.ensures.0, c.first_odt-k.ensures.1, λ h. rw (c.list_count-count.ensures.0, c.round-l.ensures) (round_there c.args.s.now (omega (arith, c.list_count-count.ensures.0))))
 
-pub odts_in-n-requires : goal.odts_in-n-requires
-odts_in-n-requires c = (c.requires.0, omega (arith, c.loop-left.invariant.4 c.loop-left-test.true, c.list_count-count.ensures.1), c.loop-left.invariant.1, c.loop-left.invariant.2)
+pub loop-preserved : goal.loop-preserved
+loop-preserved c =
+    let s = c.args.s.now in
+    let count = c.list_count-count.result in
+    let next = packet_in (session_of s) in
+    let rest = count - (c.loop.counter + 1) in
+    let there : c.loop.l < count = c.loop.invariant.3 (omega arith) in
+    let none : next c.loop.l ≡ None = nobody s (next c.loop.l) (ap is_some (sym c.packet_in-turn.ensures) ∙ sym c.is_some.ensures ∙ c.if-is_some.false) in
+    let one : round_from count next c.loop.l (count - c.loop.counter) ≡ round_from count next (c.loop.l + 1) rest = round_step count next c.loop.l (count - c.loop.counter) rest there (omega arith) ∙ rw none in
+    let k : c.first_after-k.result ≡ first_odt s c.list_after-l.result = c.first_after-k.ensures ∙ rw (c.loop.invariant.1, c.odts_in-n.ensures.0, c.list_after-l.ensures) (after_first s count c.loop.l) in
+    (rw c.list_after-l.ensures (sym (round_after_lem count next c.loop.l rest there)) ∙ sym one ∙ c.loop.invariant.0, k, rw k (first_most_lem s c.list_after-l.result), λ h. rw c.list_after-l.ensures (after_there count c.loop.l there))
 
-pub packet_in-turn-requires : goal.packet_in-turn-requires
-packet_in-turn-requires c = (c.requires.0, c.requires.1, rw (← c.list_count-count.ensures.0) (c.loop-left.invariant.4 c.loop-left-test.true), c.loop-left.invariant.1, c.odts_in-n.ensures.0, c.odts_in-n.ensures.1)
-
-pub list_after-l-requires : goal.list_after-l-requires
-list_after-l-requires c = c.loop-left.invariant.4 c.loop-left-test.true
-
-pub overflow_add-k : goal.overflow_add-k
-overflow_add-k c = omega (arith, c.odts_in-n.ensures.1)
-
-pub loop-left-preserved : goal.loop-left-preserved
-loop-left-preserved c = let nobody : packet_in (session_of c.args.s.now) c.loop-left.l ≡ Nobody = numbered_none c.args.s.now (packet_in (session_of c.args.s.now) c.loop-left.l) (sym c.packet_in-turn.ensures ∙ c.in-Nobody.is) in let one : round_from c.list_count-count.result (packet_in (session_of c.args.s.now)) c.loop-left.l c.loop-left.left ≡ round_from c.list_count-count.result (packet_in (session_of c.args.s.now)) (c.loop-left.l + 1) (c.loop-left.left - 1) = round_step c.list_count-count.result (packet_in (session_of c.args.s.now)) c.loop-left.l c.loop-left.left c.loop-left-test.true ∙ rw (mod-eq_of_lt (c.loop-left.invariant.4 c.loop-left-test.true), nobody) in let k : c.first_after-k.result ≡ first_odt c.args.s.now c.list_after-l.result = c.first_after-k.ensures ∙ rw (c.loop-left.invariant.1, c.odts_in-n.ensures.0, c.list_after-l.ensures) (after_first c.args.s.now c.list_count-count.result c.loop-left.l) in (rw c.list_after-l.ensures (sym (round_after_lem c.list_count-count.result (packet_in (session_of c.args.s.now)) c.loop-left.l (c.loop-left.left - 1) (c.loop-left.invariant.4 c.loop-left-test.true))) ∙ sym one ∙ c.loop-left.invariant.0, k, rw k (first_most_lem c.args.s.now c.list_after-l.result), omega (arith, c.loop-left.invariant.3), λ h. rw c.list_after-l.ensures (after_there c.list_count-count.result c.loop-left.l (c.loop-left.invariant.4 c.loop-left-test.true)))
-
-pub returns-in-Answer : goal.returns-in-Answer
-returns-in-Answer c = let e : round_in (session_of c.args.s.now) ≡ or_else (packet_in (session_of c.args.s.now) c.loop-left.l) (round_from c.list_count-count.result (packet_in (session_of c.args.s.now)) (c.loop-left.l + 1) (c.loop-left.left - 1)) = sym c.loop-left.invariant.0 ∙ round_step c.list_count-count.result (packet_in (session_of c.args.s.now)) c.loop-left.l c.loop-left.left c.loop-left-test.true ∙ rw (mod-eq_of_lt (c.loop-left.invariant.4 c.loop-left-test.true)) in sym (ap (numbered_in c.args.s.now) e ∙ numbered_or c.args.s.now (packet_in (session_of c.args.s.now) c.loop-left.l) (round_from c.list_count-count.result (packet_in (session_of c.args.s.now)) (c.loop-left.l + 1) (c.loop-left.left - 1)) ∙ rw (← c.packet_in-turn.ensures, c.in-Answer.is))
-
-pub returns-in-Packet : goal.returns-in-Packet
-returns-in-Packet c = let e : round_in (session_of c.args.s.now) ≡ or_else (packet_in (session_of c.args.s.now) c.loop-left.l) (round_from c.list_count-count.result (packet_in (session_of c.args.s.now)) (c.loop-left.l + 1) (c.loop-left.left - 1)) = sym c.loop-left.invariant.0 ∙ round_step c.list_count-count.result (packet_in (session_of c.args.s.now)) c.loop-left.l c.loop-left.left c.loop-left-test.true ∙ rw (mod-eq_of_lt (c.loop-left.invariant.4 c.loop-left-test.true)) in sym (ap (numbered_in c.args.s.now) e ∙ numbered_or c.args.s.now (packet_in (session_of c.args.s.now) c.loop-left.l) (round_from c.list_count-count.result (packet_in (session_of c.args.s.now)) (c.loop-left.l + 1) (c.loop-left.left - 1)) ∙ rw (← c.packet_in-turn.ensures, c.in-Packet.is))
+pub returns-then-is_some : goal.returns-then-is_some
+returns-then-is_some c =
+    let s = c.args.s.now in
+    let count = c.list_count-count.result in
+    let next = packet_in (session_of s) in
+    let rest = count - (c.loop.counter + 1) in
+    let e : round_in (session_of s) ≡ or_else (next c.loop.l) (round_from count next (c.loop.l + 1) rest) = sym c.loop.invariant.0 ∙ round_step count next c.loop.l (count - c.loop.counter) rest (c.loop.invariant.3 (omega arith)) (omega arith) in
+    c.packet_in-turn.ensures ∙ sym (ap (numbered_in s) e ∙ somebody s (next c.loop.l) (round_from count next (c.loop.l + 1) rest) (ap is_some (sym c.packet_in-turn.ensures) ∙ sym c.is_some.ensures ∙ c.if-is_some.true))
 
 pub returns : goal.returns
 unfolding round_from
-returns c = let e : c.loop-left.left ≡ 0 = omega arith in ap (numbered_in c.args.s.now) (rw e at c.loop-left.invariant.0)
+returns c = let e : c.list_count-count.result - c.loop.counter ≡ 0 = omega arith in ap (numbered_in c.args.s.now) (rw e at c.loop.invariant.0)

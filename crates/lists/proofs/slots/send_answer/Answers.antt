@@ -1,21 +1,9 @@
-use Rattle.std.proofs.Common.{◌≡◌, ℕ, ◌+◌, ◌-◌, List, get_or, take, drop, set, ap, ◌∙◌, arith, length-set}
+use Rattle.std.proofs.Common.{◌≡◌, ℕ, ◌+◌, ◌-◌, List, get_or, take, drop, set, ap, ◌∙◌, arith}
 use Rattle.line.specs.Writer.{write_of}
 use Rattle.state.specs.Layout.{ctr_at, answer_bytes_at}
 use Rattle.state.specs.State.{answer_of}
 use Rattle.lists.specs.Slot.{slotted_as, sent_by, answer_sent}
 use Rattle.lists.proofs.slots.send_answer.Goals as goal
-
-pub slice_bounds-write-end : goal.slice_bounds-write-end
-slice_bounds-write-end c = simp length-set (omega arith)
-
-pub bounds-s-81 : goal.bounds-s-81
-bounds-s-81 c = simp length-set (omega arith)
-
-pub bounds-s-9-2 : goal.bounds-s-9-2
-bounds-s-9-2 c = simp length-set (omega arith)
-
-pub bounds-s-11 : goal.bounds-s-11
-bounds-s-11 c = simp length-set (omega arith)
 
 pub returns : goal.returns
 unfolding sent_by answer_sent answer_of

@@ -1,19 +1,8 @@
-use Rattle.std.proofs.Common.{sym, refl, ◌∙◌, le-ltb, lt-ltb}
-use Rattle.state.proofs.Consistent.{consistent_size}
+use Rattle.std.proofs.Common.{refl}
 use Rattle.lists.specs.Slot.{slot_of}
+use Rattle.lists.proofs.Named.{other_size}
 use Rattle.lists.proofs.slots.slot.Goals as goal
 
-pub returns-then-not-is_consistent : goal.returns-then-not-is_consistent
+pub returns-in-None : goal.returns-in-None
 unfolding slot_of
-returns-then-not-is_consistent c = simp (sym c.is_consistent.ensures ∙ c.if-not-is_consistent.true) (record { result = refl; state = refl; bytes = refl })
-
-pub returns-then-out-lt-ROOM : goal.returns-then-out-lt-ROOM
-unfolding slot_of
-returns-then-out-lt-ROOM c = simp (sym c.is_consistent.ensures ∙ c.if-not-is_consistent.false, lt-ltb _ _ c.if-out-lt-ROOM.true) (record { result = refl; state = refl; bytes = refl })
-
-pub send-requires : goal.send-requires
-send-requires c = consistent_size c.args.state.now (sym c.is_consistent.ensures ∙ c.if-not-is_consistent.false)
-
-pub returns : goal.returns
-unfolding slot_of
-returns c = simp (sym c.is_consistent.ensures ∙ c.if-not-is_consistent.false, le-ltb _ _ c.if-out-lt-ROOM.false) c.send.ensures
+returns-in-None c = simp (other_size c.args.state.now c.in-None.ensures.cases) (record { result = refl; state = refl; bytes = refl })

@@ -5,4 +5,4 @@ use Rattle.state.proofs.Ranges.{start_suc}
 use Rattle.lists.proofs.spans.odts_in.Goals as goal
 
 pub returns : goal.returns
-returns c = (omega (arith, c.cut.ensures.0, c.requires.2, start_suc all_odts (odts_in c.args.s.now) c.args.l), c.cut.ensures.1)
+returns c = (omega (arith, c.cut.ensures.0, c.requires.1, start_suc all_odts (odts_in c.args.s.now) c.args.l), c.cut.ensures.1)

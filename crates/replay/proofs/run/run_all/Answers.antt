@@ -1,36 +1,22 @@
-use Rattle.std.proofs.Common.{◌≤◌, length, refl, ◌∙◌, arith}
-use Rattle.replay.proofs.Records.{held}
+-- A record that was found lies within the bytes, and so does where the next begins.
+use Rattle.std.proofs.Common.{sym, ◌∙◌, arith}
+use Rattle.replay.proofs.Records.{held_found}
 use Rattle.replay.proofs.run.run_all.Goals as goal
 
-pub record_at-found-requires : goal.record_at-found-requires
-record_at-found-requires c = tt
+pub run-requires : goal.run-requires
+run-requires c = (held_found c.args.bytes.now c.loop-found.at c.in-Ok.found (sym c.record_at.ensures ∙ c.in-Ok.is)).0
 
-pub next-next-requires : goal.next-next-requires
-next-next-requires c = rw c.record_at-found.ensures (omega (arith, (held c.args.bytes.now 0 (omega arith)).1))
+pub next-at-requires : goal.next-at-requires
+next-at-requires c =
+    let held = held_found c.args.bytes.now c.loop-found.at c.in-Ok.found (sym c.record_at.ensures ∙ c.in-Ok.is) in
+    omega (arith, held.2)
 
-pub loop-at-init : goal.loop-at-init
-loop-at-init c = (omega arith, omega arith, c.record_at-found.ensures, c.next-next.ensures, refl, omega arith)
+pub loop-found-smaller : goal.loop-found-smaller
+loop-found-smaller c =
+    let held = held_found c.args.bytes.now c.loop-found.at c.in-Ok.found (sym c.record_at.ensures ∙ c.in-Ok.is) in
+    omega (arith, held.1, held.2, c.next-at.ensures)
 
-pub run-filled-requires : goal.run-filled-requires
-run-filled-requires c = (rw c.loop-at.invariant.2 (held c.args.bytes.now c.loop-at.at c.loop-at.invariant.0).0, omega (arith, c.loop-at.invariant.1, c.loop-at.invariant.4), omega (arith, c.loop-at.invariant.4, c.requires))
-
-pub overflow_add-count : goal.overflow_add-count
-overflow_add-count c = omega (arith, c.loop-at.invariant.5, c.loop-at.invariant.0)
-
-pub record_at-found-requires-in-loop-at : goal.record_at-found-requires-in-loop-at
-record_at-found-requires-in-loop-at c = tt
-
-pub next-next-requires-in-loop-at : goal.next-next-requires-in-loop-at
-next-next-requires-in-loop-at c = let nb : c.loop-at.next ≤ length c.args.bytes.now = rw (c.loop-at.invariant.3, c.loop-at.invariant.2) (held c.args.bytes.now c.loop-at.at c.loop-at.invariant.0).1 in rw c.record_at-found-in-loop-at.ensures (omega (arith, (held c.args.bytes.now c.loop-at.next nb).1))
-
-pub loop-at-smaller : goal.loop-at-smaller
-loop-at-smaller c = let nb : c.loop-at.next ≤ length c.args.bytes.now = rw (c.loop-at.invariant.3, c.loop-at.invariant.2) (held c.args.bytes.now c.loop-at.at c.loop-at.invariant.0).1 in omega (arith, nb, c.loop-at-test.true)
-
-pub loop-at-preserved : goal.loop-at-preserved
-loop-at-preserved c = let nb : c.loop-at.next ≤ length c.args.bytes.now = rw (c.loop-at.invariant.3, c.loop-at.invariant.2) (held c.args.bytes.now c.loop-at.at c.loop-at.invariant.0).1 in (nb, omega (arith, c.run-filled.ensures, c.loop-at.invariant.4), c.record_at-found-in-loop-at.ensures, c.next-next-in-loop-at.ensures, c.run-filled.auto.output ∙ c.loop-at.invariant.4, omega (arith, c.loop-at.invariant.5, c.loop-at-test.true))
-
-pub shape_of-output : goal.shape_of-output
-shape_of-output c = c.loop-at.invariant.4
-
-pub returns : goal.returns
-returns c = (c.loop-at.invariant.0, c.loop-at.invariant.1)
+pub loop-found-preserved : goal.loop-found-preserved
+loop-found-preserved c =
+    let held = held_found c.args.bytes.now c.loop-found.at c.in-Ok.found (sym c.record_at.ensures ∙ c.in-Ok.is) in
+    (omega (arith, held.2, c.next-at.ensures), omega (arith, held.1, c.next-at.ensures))

@@ -1,9 +1,9 @@
-use Rattle.std.proofs.Common.{◌≡◌, ◌-◌, ◌≤◌, length}
-use Rattle.replay.specs.Record.{record_at, next_of}
+-- Each record that is run takes the place further, within the bytes, by a byte at least.
+use Rattle.std.proofs.Common.{◌-◌, ◌≤◌, length}
 use Rattle.replay.proofs.run.run_all.Given as goal
 
-abbrev pub invariant-loop-at : goal.invariant-loop-at
-invariant-loop-at l = (l.at ≤ length l.bytes) × (l.filled ≤ length l.initial.output) × (l.found ≡ record_at l.bytes l.at) × (l.next ≡ next_of l.found l.at) × (length l.output ≡ length l.initial.output) × (l.count ≤ l.at)
+abbrev pub invariant-loop-found : goal.invariant-loop-found
+invariant-loop-found l = (l.at ≤ length l.bytes) × (l.count ≤ l.at)
 
-abbrev pub decreases-loop-at : goal.decreases-loop-at
-decreases-loop-at l = length l.bytes - l.at
+abbrev pub decreases-loop-found : goal.decreases-loop-found
+decreases-loop-found l = length l.bytes - l.at

@@ -1,8 +1,7 @@
-use Rattle.report.proofs.Verdicts.{verdict_none, verdict_some}
+use Rattle.std.proofs.Common.{sym, ◌∙◌}
+use Rattle.std.proofs.lemmas.Bool.{eqb-false}
+use Rattle.report.proofs.Verdicts.{verdict_some}
 use Rattle.report.proofs.show.on_the_wire.Goals as goal
 
-pub returns-then-expected-eq0 : goal.returns-then-expected-eq0
-returns-then-expected-eq0 c = verdict_none _ _ c.if-expected-eq0.true
-
 pub returns : goal.returns
-returns c = verdict_some _ _ _ c.if-expected-eq0.false c.check.ensures
+returns c = verdict_some _ _ _ (eqb-false _ _ (sym c.is_empty.ensures ∙ c.if-is_empty.false)) c.check.ensures

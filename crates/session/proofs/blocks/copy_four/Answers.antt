@@ -1,6 +1,4 @@
-use mathlib.Core.Path.{sym}
-use native.Mathlib.Omega.{arith}
-use lib.ListN.{length-set}
+use Rattle.std.proofs.Common.{sym, arith, length-set}
 use Rattle.state.proofs.Copies.{copied_four}
 use Rattle.session.proofs.blocks.copy_four.Goals as goal
 

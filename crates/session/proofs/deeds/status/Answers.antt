@@ -1,5 +1,4 @@
-use mathlib.Core.Path.{◌∙◌}
-use borrow.Author.Tests.{eq-eqb}
+use Rattle.std.proofs.Common.{◌∙◌, eq-eqb}
 use Rattle.model.specs.Answers.{reply_in}
 use Rattle.model.specs.View.{session_of}
 use Rattle.session.specs.Perform.{effect}
@@ -8,4 +7,4 @@ use Rattle.session.proofs.deeds.status.Goals as goal
 
 pub returns : goal.returns
 unfolding effect reply_in session_of mask_of
-returns c = c.six.ensures ∙ rw (c.running_bit-running.ensures, c.any_runs.ensures, eq-eqb _ _ c.requires, c.mask-mask.ensures)
+returns c = c.put.ensures ∙ rw (c.running_bit-running.ensures, c.any_runs.ensures, eq-eqb _ _ c.told-s, c.mask-mask.ensures)

@@ -1,4 +1,4 @@
-use mathlib.Core.Path.{◌∙◌}
+use Rattle.std.proofs.Common.{◌∙◌}
 use Rattle.model.specs.Answers.{reply_in}
 use Rattle.model.specs.View.{session_of}
 use Rattle.session.specs.Perform.{effect}
@@ -7,4 +7,4 @@ use Rattle.session.proofs.deeds.unlock.Goals as goal
 
 pub returns : goal.returns
 unfolding effect reply_in session_of
-returns c = c.two.ensures ∙ rw (c.mask-mask.ensures, c.set_seed.ensures, c.unlock.ensures, unlocked_mask c.args.s.now c.args.resource c.requires)
+returns c = c.put.ensures ∙ rw (c.mask-mask.ensures, c.set_seed.ensures, c.unlock.ensures, unlocked_mask c.args.s.now c.args.resource c.told-s)

@@ -1,9 +1,10 @@
+use Rattle.std.proofs.Common.{ℕ, ◌≡◌, ap, ◌∙◌, replicate}
 use Rattle.state.specs.Layout.{size}
-use mathlib.Core.Path.{◌∙◌}
 use Rattle.session.specs.PowerUp.{powered}
-use Rattle.state.proofs.Sets.{cleared_all}
 use Rattle.session.proofs.power.write_all.Goals as goal
 
 pub returns : goal.returns
 unfolding powered
-returns c = c.set_generator.ensures ∙ rw (c.new.ensures, c.store32.ensures, c.clear.ensures, cleared_all c.args.s.now size c.requires)
+returns c =
+    let zeros : c.fill.new.self ≡ replicate size 0 = c.fill.ensures.after (λ (y : ℕ) e. e) ∙ ap (λ (n : ℕ). replicate n 0) c.told-s in
+    c.set_generator.ensures ∙ rw (c.new.ensures, c.store32.ensures, zeros)

@@ -1,5 +1,4 @@
-use native.Mathlib.Omega.{arith}
-use borrow.Author.Tests.{lt-ltb, le-ltb, eq-eqb, ne_eqb}
+use Rattle.std.proofs.Common.{arith, lt-ltb, le-ltb, eq-eqb, ne_eqb}
 use Rattle.line.specs.Message.{byte_form}
 use Rattle.line.proofs.Begun.{begun_ended, begun_right}
 use Rattle.session.specs.Quiet.{len_of}

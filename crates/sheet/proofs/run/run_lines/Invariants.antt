@@ -1,5 +1,4 @@
 -- The place stays within the sheet, and each line takes it further.
--- the line ends within the sheet, and so does its ending
 use Rattle.std.proofs.Common.{◌-◌, ◌≤◌, length}
 use Rattle.sheet.proofs.run.run_lines.Given as goal
 

@@ -1,12 +1,8 @@
 -- What is counted, and what is left to count, is what there is.
-use mathlib.Core.Path.{◌≡◌}
-use Prim.Native.Nat.{◌≤◌, ◌+◌, ◌-◌, ◌*◌}
+use Rattle.std.proofs.Common.{◌≡◌, ◌+◌, ◌-◌, ◌*◌}
 use Rattle.syntax.specs.Hex.{pairs_from}
 use Rattle.line.specs.Message.{room}
 use Rattle.syntax.proofs.hex.pairs.Given as goal
 
 abbrev pub invariant-loop-n : goal.invariant-loop-n
-invariant-loop-n l = (l.n ≤ room) × (l.n + pairs_from (room - l.n) l.text (l.at + 3 * l.n) ≡ pairs_from room l.text l.at)
-
-abbrev pub decreases-loop-n : goal.decreases-loop-n
-decreases-loop-n l = room - l.n
+invariant-loop-n l = l.n + pairs_from (room - l.n) l.text (l.at + 3 * l.n) ≡ pairs_from room l.text l.at

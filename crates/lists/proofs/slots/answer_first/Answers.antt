@@ -1,8 +1,0 @@
-use Rattle.std.proofs.Common.{not, ap, le-ltb, lt-ltb}
-use Rattle.lists.proofs.slots.answer_first.Goals as goal
-
-pub returns-then-answer_length-gt0 : goal.returns-then-answer_length-gt0
-returns-then-answer_length-gt0 c = simp (← c.answer_length.ensures.0, lt-ltb _ _ c.if-answer_length-gt0.true) (ap not c.flag.ensures)
-
-pub returns : goal.returns
-returns c = simp (← c.answer_length.ensures.0, le-ltb _ _ c.if-answer_length-gt0.false)

@@ -1,8 +1,0 @@
-use Rattle.std.proofs.Common.{eq-eqb, ne_eqb}
-use Rattle.lists.proofs.slots.first_after.Goals as goal
-
-pub returns-then-l-eq0 : goal.returns-then-l-eq0
-returns-then-l-eq0 c = rw (eq-eqb _ _ c.if-l-eq0.true)
-
-pub returns : goal.returns
-returns c = rw (ne_eqb _ _ c.if-l-eq0.false)

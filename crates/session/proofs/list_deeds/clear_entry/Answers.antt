@@ -1,8 +1,0 @@
-use Rattle.model.specs.Answers.{reply_in}
-use Rattle.model.specs.View.{session_of}
-use Rattle.session.specs.Perform.{effect}
-use Rattle.session.proofs.list_deeds.clear_entry.Goals as goal
-
-pub returns : goal.returns
-unfolding effect reply_in session_of
-returns c = c.write_entry.ensures

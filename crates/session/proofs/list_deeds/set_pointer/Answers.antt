@@ -1,9 +1,0 @@
-use mathlib.Core.Path.{◌∙◌}
-use Rattle.model.specs.Answers.{reply_in}
-use Rattle.model.specs.View.{session_of}
-use Rattle.session.specs.Perform.{effect}
-use Rattle.session.proofs.list_deeds.set_pointer.Goals as goal
-
-pub returns : goal.returns
-unfolding effect reply_in session_of
-returns c = c.ok.ensures ∙ rw c.set_pointer.ensures

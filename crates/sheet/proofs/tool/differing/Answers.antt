@@ -1,7 +1,0 @@
-use Rattle.sheet.proofs.tool.differing.Goals as goal
-
-pub returns-then-good : goal.returns-then-good
-returns-then-good c = rw c.if-good.true
-
-pub returns-else-good : goal.returns-else-good
-returns-else-good c = rw c.if-good.false c.one_more.ensures

@@ -1,9 +1,0 @@
--- The index stays within the frame.
-use Rattle.std.proofs.Common.{◌-◌, ◌≤◌}
-use Rattle.sheet.proofs.wire.send.Given as goal
-
-abbrev pub invariant-loop-i : goal.invariant-loop-i
-invariant-loop-i l = l.i ≤ l.end
-
-abbrev pub decreases-loop-i : goal.decreases-loop-i
-decreases-loop-i l = l.end - l.i

@@ -1,6 +1,0 @@
-use lib.Seq.{set_out}
-use Rattle.std.proofs.Common.{sym}
-use Rattle.state.proofs.bytes.put.Goals as goal
-
-pub returns-else-at-s : goal.returns-else-at-s
-returns-else-at-s c = sym (set_out c.args.s.now c.args.at c.args.b c.if-at-s.false)

@@ -1,9 +1,0 @@
-use Rattle.std.proofs.Common.{◌≡◌, ◌+◌, ◌-◌, ◌*◌, ◌≤◌, get_or}
-use Rattle.state.proofs.Ranges.{sum_to}
-use Rattle.state.proofs.pool.start_in.Given as goal
-
-abbrev pub invariant-loop-i : goal.invariant-loop-i
-invariant-loop-i l = (l.i ≤ l.end) × (l.sum ≡ sum_to (λ j. get_or l.s (l.at + j) 0) l.i) × (l.sum ≤ 255 * l.i)
-
-abbrev pub decreases-loop-i : goal.decreases-loop-i
-decreases-loop-i l = l.end - l.i
