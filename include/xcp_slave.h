@@ -22,8 +22,8 @@
  * Seed and key are a guard against mistakes. They are no security: who listens can compute the key.
  *
  * The longest call is xcp_event where it samples the whole pool, 512 bytes in 128 entries: on a
- * Cortex-M4 (-Os) it takes up to 7,747 instructions (lists of a few bytes, a sixth of that). The
- * last byte of BUILD_CHECKSUM, which reads 4,096 bytes of memory, takes up to 5,000; no other call
+ * Cortex-M4 (-Os) it takes up to 7,448 instructions (lists of a few bytes, a sixth of that). The
+ * last byte of BUILD_CHECKSUM, which reads 4,096 bytes of memory, takes up to 5,001; no other call
  * takes more than that. xcp_receive takes the time of all its bytes, of which only the last can end
  * a command: how many they are is the host's choice. Let the ring buffer hold what can arrive in
  * that time. Bytes lost there are damage on the line like any other: the message is dropped, as far

@@ -88,9 +88,14 @@ impl Gun {
         ensures cal { self.new.cal ≡ self.old.cal }
         ensures meas { self.new.meas ≡ self.old.meas }
     {
-        let mut out = [0; ROOM];
-        let size = self.slot(&mut out).ok().flatten().unwrap_or(0);
-        Bytes::front(out, size)
+        // It is written where it lies, and not copied out of a room of its own.
+        let mut frame = Bytes {
+            all: [0; ROOM],
+            count: 0,
+        };
+        let size = self.slot(&mut frame.all).ok().flatten().unwrap_or(0);
+        frame.count = size.min(ROOM);
+        frame
     }
 
     // Puts measured bytes into their memory from a place on. Bytes past its end have no place and are left out.

@@ -1,11 +1,11 @@
 -- A verdict rests on no byte behind a packet's end, and on nothing of a list that its command does not name. Assumes nothing.
-use Rattle.std.proofs.Common.{Some, None, ◌≡◌, refl, ap, ◌∙◌, Bool, true, false, cond, ℕ, ◌≤◌, arith, ltb-false, ltb}
+use Rattle.std.proofs.Common.{Some, None, ◌≡◌, refl, ap, ◌∙◌, Bool, true, false, cond, ℕ, ◌≤◌, arith, ltb-false, le-leb, eqb, ltb}
 use Rattle.words.specs.Command.{fewest, needs_of}
 use Rattle.words.specs.declared.Command.{Command}
 use Rattle.words.specs.declared.Command.TheVariants.{Unknown, Connect, Disconnect, GetStatus, Synch, GetSeed, Unlock, SetMta, Upload, ShortUpload, BuildChecksum, Download, ShortDownload, ClearDaqList, SetDaqPtr, WriteDaq, SetDaqListMode, StartStopDaqList, StartStopSynch, GetDaqProcessorInfo, GetDaqResolutionInfo, FreeDaq, AllocDaq, AllocOdt, AllocOdtEntry}
 use Rattle.words.specs.Values.{Needs, Seed}
 use Rattle.words.specs.declared.Resource.TheVariants.{Calibration, Lists}
-use Rattle.model.specs.Judge.{unlock_by, locked_by, judge_the, judge_by}
+use Rattle.model.specs.Judge.{unlock_by, start_stop_deed, synch_deed, alloc_entries_deed, locked_by, judge_the, judge_by}
 use Rattle.model.specs.Seen.{Packet, Seen}
 use Rattle.words.specs.declared.Reason.TheVariants.{TooShort, Locked}
 use Rattle.model.specs.declared.Deed.{Deed}
@@ -100,6 +100,20 @@ pub record Naming (v w : Seen) : Type 0 where
   pub odts : v.odts ≡ w.odts
   pub runs : v.runs ≡ w.runs
   pub fits : v.fits ≡ w.fits
+
+-- a start alone looks at the lists
+pub start_asks : (present : ℕ) (runs runs' fits fits' : Bool) (mode l : ℕ) → eqb mode 1 ≡ false → start_stop_deed present runs fits mode l ≡ start_stop_deed present runs' fits' mode l
+unfolding start_stop_deed
+start_asks present runs runs' fits fits' mode l e = rw e
+
+pub synch_asks : (ready ready' : Bool) (mode : ℕ) → eqb mode 1 ≡ false → synch_deed ready mode ≡ synch_deed ready' mode
+unfolding synch_deed
+synch_asks ready ready' mode e = rw e
+
+-- of a list without ODTs nothing more is asked, not even its number
+pub entries_ask : (all taken taken' : ℕ) (runs runs' : Bool) (l l' o n : ℕ) → alloc_entries_deed 0 0 all taken runs l o n ≡ alloc_entries_deed 0 0 all taken' runs' l' o n
+unfolding alloc_entries_deed
+entries_ask all taken taken' runs runs' l l' o n = rw (le-leb 0 o (omega arith))
 
 module _ (p : Packet) (v w : Seen) (s : Seeing v w) (nc nm : ℕ) where
   -- the list lies in a packet's bytes 2 and 3, the ODT in byte 4

@@ -1,5 +1,5 @@
 -- The round, list by list, over any number of lists and whatever each has. Assumes nothing.
-use Rattle.std.proofs.Common.{◌≡◌, ℕ, zero, suc, ◌+◌, ◌%◌, ◌<◌, Bool, true, false, cond, not, eqb, ltb, List, sym, refl, ap, ◌∙◌, ap₂, mod-lt, mod-eq_of_lt, add-one, arith, ltb-false, ltb-true, lt-ltb, ne_eqb, Some, None}
+use Rattle.std.proofs.Common.{◌≡◌, ℕ, zero, suc, ◌+◌, ◌-◌, ◌%◌, ◌<◌, Bool, true, false, cond, not, eqb, ltb, List, sym, refl, not-suc-le-zero, ap, ◌∙◌, ap₂, mod-lt, mod-eq_of_lt, add-one, arith, ltb-false, ltb-true, lt-ltb, ne_eqb, Some, None}
 use Rattle.std.proofs.Math.Nat.{add-mod_left}
 use Rattle.line.proofs.Laws.{cond_ind}
 use Rattle.model.specs.Model.{Session, Slave, runs, has_answer}
@@ -12,9 +12,16 @@ use Rattle.state.proofs.Allocated.{odt_next}
 use Rattle.model.specs.Turn.{Turn}
 use Rattle.model.specs.declared.Sender.TheVariants.{Answer, Packet}
 
-pub round_step : (L : ℕ) (next : ℕ → Turn) (l left n : ℕ) → l < L → left ≡ suc n → round_from L next l left ≡ or_else (next l) (round_from L next (l + 1) n)
+pub round_step : (L : ℕ) (next : ℕ → Turn) (l n : ℕ) → 0 < n → round_from L next l n ≡ or_else (next (l % L)) (round_from L next (l + 1) (n - 1))
 unfolding round_from
-round_step L next l left n there e = rw (e, mod-eq_of_lt there) refl
+round_step L next l zero h = absurd (not-suc-le-zero h)
+round_step L next l (suc n) h = let e : suc n - 1 ≡ n = omega arith in rw e
+
+-- the same from a list that there is
+pub step_there : (L : ℕ) (next : ℕ → Turn) (l left n : ℕ) → l < L → left ≡ suc n → round_from L next l left ≡ or_else (next l) (round_from L next (l + 1) n)
+step_there L next l left n there e =
+    let less : left - 1 ≡ n = omega arith in
+    round_step L next l left (omega arith) ∙ rw (less, mod-eq_of_lt there) refl
 
 -- after the last of L lists comes list 0
 round_on : (L : ℕ) (next : ℕ → Turn) (l n : ℕ) → round_from L next (L + l) n ≡ round_from L next l n

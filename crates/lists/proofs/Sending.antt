@@ -63,19 +63,18 @@ nobody s None e = refl
 nobody s (Some Answer) e = absurd (false_true (sym e))
 nobody s (Some (Packet l o)) e = absurd (false_true (sym e))
 
--- the first packet is that of the first of the list's ODTs that has one
+-- the first packet is that of the first of the list's ODTs that has one, counted within the list
 module _ (s : List ℕ) (l : ℕ) (there : l < list_count s) (whole : length s ≡ size) where
   pub first_numbered : (o n : ℕ) → o + n ≤ odt_count s l
-      → numbered_in s (first_packet l ((session_of s).list l) o n) ≡ option_map (Packet l) (find (λ k. ltb 0 (stored_length s k)) (range_with_len (first_odt s l + o) n))
+      → numbered_in s (first_packet l ((session_of s).list l) o n) ≡ option_map (λ i. Packet l (first_odt s l + i)) (find (λ i. ltb 0 (stored_length s (first_odt s l + i))) (range_with_len o n))
   unfolding first_packet
   first_numbered o zero h = refl
   first_numbered o (suc n) h =
-      let next : first_odt s l + o + 1 ≡ first_odt s l + (o + 1) = omega arith in
-      rw (packet_at_lem s l there o whole (omega arith), next)
+      rw (packet_at_lem s l there o whole (omega arith))
       (by (ltb 0 (stored_length s (first_odt s l + o))) _ _ (first_numbered (o + 1) n (omega arith)))
     where
-      by : (b : Bool) (t : Turn) (r : Option ℕ) → numbered_in s t ≡ option_map (Packet l) r
-          → numbered_in s (cond b (Some (Packet l o)) t) ≡ option_map (Packet l) (cond b (Some (first_odt s l + o)) r)
+      by : (b : Bool) (t : Turn) (r : Option ℕ) → numbered_in s t ≡ option_map (λ i. Packet l (first_odt s l + i)) r
+          → numbered_in s (cond b (Some (Packet l o)) t) ≡ option_map (λ i. Packet l (first_odt s l + i)) (cond b (Some o) r)
       by true t r e = refl
       by false t r e = e
 

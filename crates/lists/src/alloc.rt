@@ -111,7 +111,10 @@ fn make_entries(s: &mut [u8; layout::STATE], k: u16, n: u8)
 pub fn alloc_entries(s: &mut [u8], l: u8, odt: u8, n: u8)
     ensures { s.new ≡ (if is_state s.old then entries_allocated s.old (first_odt s.old l + odt) n else s.old) }
 {
-    if let Some(s) = s.as_mut_array() {
+    if s.len() != layout::STATE {
+        return;
+    }
+    if let Some((s, _rest)) = s.split_first_chunk_mut::<{ layout::STATE }>() {
         let k = pool::odts(s, l as u16).first + odt as u16;
         make_entries(s, k, n);
     }

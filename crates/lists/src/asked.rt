@@ -3,16 +3,27 @@ ghost use Rattle.std.specs.Prelude.{◌≡◌, ◌<◌, ◌≤◌, false, length
 ghost use Rattle.state.specs.Layout.{lists, all_odts, all_entries, size};
 ghost use Rattle.state.specs.Pool.{list_count};
 ghost use Rattle.model.specs.View.{session_of};
-ghost use Rattle.lists.specs.Lists.{is_list, runs_named, fits_named, any_runs, any_started, ready};
+ghost use Rattle.lists.specs.Lists.{is_state, is_list, runs_named, fits_named, any_runs, any_started, ready};
 
 use crate::{list, spans};
 use state::{layout, pool};
 
-// The state, if it has such a list.
-fn listed(s: &[u8], l: u16) -> Option<&[u8; layout::STATE]>
-    ensures { MatchOption result (is_list s.now l ≡ false) (λ t. (length s.now ≡ size) × (t.now ≡ s.now) × (l < list_count t.now) × (l < lists)) }
+// The state, if the bytes are one, and what is behind it, which is nothing. An Option of one reference would be returned as a pair, and
+// the module has a pair's second part where one processor would have it.
+fn whole(s: &[u8]) -> Option<(&[u8; layout::STATE], &[u8])>
+    ensures { MatchOption result (is_state s.now ≡ false) (λ p. (length s.now ≡ size) × (p.0.now ≡ s.now)) }
 {
-    let whole = s.as_array()?;
+    if s.len() != layout::STATE {
+        return None;
+    }
+    s.split_first_chunk()
+}
+
+// The same, if it has such a list.
+fn listed(s: &[u8], l: u16) -> Option<(&[u8; layout::STATE], &[u8])>
+    ensures { MatchOption result (is_list s.now l ≡ false) (λ p. (length s.now ≡ size) × (p.0.now ≡ s.now) × (l < list_count p.0.now) × (l < lists)) }
+{
+    let whole = whole(s)?;
     if pool::list_count(s) as u16 <= l {
         return None;
     }
@@ -23,7 +34,7 @@ pub fn runs(s: &[u8], l: u16) -> bool
     ensures { result ≡ runs_named s.now l }
 {
     match listed(s, l) {
-        Some(s) => list::runs(s, l as u8),
+        Some((s, _)) => list::runs(s, l as u8),
         None => false,
     }
 }
@@ -32,7 +43,7 @@ pub fn fits(s: &[u8], l: u16) -> bool
     ensures { result ≡ fits_named s.now l }
 {
     match listed(s, l) {
-        Some(s) => list::fit(s, l as u8, spans::span(s, l as u8)),
+        Some((s, _)) => list::fit(s, l as u8, spans::span(s, l as u8)),
         None => false,
     }
 }
@@ -41,19 +52,19 @@ pub fn fits(s: &[u8], l: u16) -> bool
 pub fn any_runs(s: &[u8]) -> bool
     ensures { result ≡ any_runs s.now }
 {
-    s.as_array().is_some_and(list::any_runs)
+    whole(s).is_some_and(|(s, _)| list::any_runs(s))
 }
 
 pub fn any_started(s: &[u8]) -> bool
     ensures { result ≡ any_started s.now }
 {
-    s.as_array().is_some_and(list::any_started)
+    whole(s).is_some_and(|(s, _)| list::any_started(s))
 }
 
 pub fn all_fit(s: &[u8]) -> bool
     ensures { result ≡ ready s.now }
 {
-    s.as_array().is_some_and(list::all_fit)
+    whole(s).is_some_and(|(s, _)| list::all_fit(s))
 }
 
 // How many ODTs a list has, and how many entries one of these.

@@ -122,7 +122,10 @@ fn start_each(s: &mut [u8; layout::STATE])
 pub fn start_selected(s: &mut [u8])
     ensures { s.new ≡ (if is_state s.old then start_selected s.old (list_count s.old) else s.old) }
 {
-    if let Some(s) = s.as_mut_array() {
+    if s.len() != layout::STATE {
+        return;
+    }
+    if let Some((s, _rest)) = s.split_first_chunk_mut::<{ layout::STATE }>() {
         start_each(s);
     }
 }
@@ -148,7 +151,10 @@ fn stop_each_selected(s: &mut [u8; layout::STATE])
 pub fn stop_selected(s: &mut [u8])
     ensures { s.new ≡ (if is_state s.old then stop_selected s.old (list_count s.old) else s.old) }
 {
-    if let Some(s) = s.as_mut_array() {
+    if s.len() != layout::STATE {
+        return;
+    }
+    if let Some((s, _rest)) = s.split_first_chunk_mut::<{ layout::STATE }>() {
         stop_each_selected(s);
     }
 }

@@ -175,26 +175,7 @@ fn happen(s: &mut [u8; layout::STATE], cal: &[u8], meas: &[u8], event: u8, clock
     Counted { sampled, missed }
 }
 
-// One event with its clock.
-fn event_in(
-    s: &mut [u8; layout::STATE],
-    cal: &[u8],
-    meas: &[u8],
-    number: u32,
-    clock: u16,
-) -> Result<Counted, EventRefusal>
-    ensures { Happens (event_of s.old cal.now meas.now number clock) result s.new }
-{
-    if !fields::is_consistent(s) {
-        return Err(EventRefusal::NoState);
-    }
-    if layout::EVENTS as u32 <= number {
-        return Err(EventRefusal::BadEvent);
-    }
-    Ok(happen(s, cal, meas, number as u8, clock))
-}
-
-// The same in a state of any size.
+// One event with its clock, in a state of any size.
 pub fn event(
     state: &mut [u8],
     cal: &[u8],
@@ -204,8 +185,14 @@ pub fn event(
 ) -> Result<Counted, EventRefusal>
     ensures { Happens (event_of state.old cal.now meas.now number clock) result state.new }
 {
-    match state.as_mut_array() {
-        Some(s) => event_in(s, cal, meas, number, clock),
-        None => Err(EventRefusal::NoState),
+    if !fields::is_consistent(state) {
+        return Err(EventRefusal::NoState);
     }
+    let Some((s, _rest)) = state.split_first_chunk_mut::<{ layout::STATE }>() else {
+        return Err(EventRefusal::NoState);
+    };
+    if layout::EVENTS as u32 <= number {
+        return Err(EventRefusal::BadEvent);
+    }
+    Ok(happen(s, cal, meas, number as u8, clock))
 }

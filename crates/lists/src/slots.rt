@@ -18,9 +18,9 @@ fn first_stored(s: &[u8; layout::STATE], l: u8, k: u16, n: u16) -> Option<Sender
     requires { (l < list_count s.now) × (k ≡ first_odt s.now l) × (n ≡ odt_count s.now l) × (k + n ≤ all_odts) }
     ensures { result ≡ numbered_in s.now (first_packet l ((session_of s.now).list l) 0 (odt_count s.now l)) }
 {
-    (k..k + n)
-        .find(|odt| 0 < list::stored_length(s, *odt))
-        .map(|odt| Sender::Packet(l, odt as u8))
+    (0..n)
+        .find(|o| 0 < list::stored_length(s, k + *o))
+        .map(|o| Sender::Packet(l, (k + o) as u8))
 }
 
 // A list's next packet, in a session that is open: one without ODTs has none, whether it was started or not.
@@ -61,6 +61,10 @@ fn round(s: &[u8; layout::STATE]) -> Option<Sender>
     ensures { result ≡ numbered_in s.now (round_in (session_of s.now)) }
 {
     let count = pool::list_count(s);
+    // Most slots of a session without lists end here.
+    if count == 0 {
+        return None;
+    }
     let mut l = pool::round(s);
     let mut k = spans::first_odt(s, l);
     for _ in 0..count {
@@ -173,25 +177,18 @@ fn send(s: &mut [u8; layout::STATE], out: &mut [u8]) -> Result<Option<usize>, Sl
     }
 }
 
-// One sending slot.
-fn slot_in(s: &mut [u8; layout::STATE], out: &mut [u8]) -> Result<Option<usize>, SlotRefusal>
-    ensures { Sends (slot_of s.old out.old) result s.new out.new }
+// One sending slot, in a state of any size.
+pub fn slot(state: &mut [u8], out: &mut [u8]) -> Result<Option<usize>, SlotRefusal>
+    ensures { Sends (slot_of state.old out.old) result state.new out.new }
 {
-    if !fields::is_consistent(s) {
+    if !fields::is_consistent(state) {
         return Err(SlotRefusal::NoState);
     }
+    let Some((s, _rest)) = state.split_first_chunk_mut::<{ layout::STATE }>() else {
+        return Err(SlotRefusal::NoState);
+    };
     if out.len() < layout::ROOM {
         return Err(SlotRefusal::NoRoom);
     }
     send(s, out)
-}
-
-// The same in a state of any size.
-pub fn slot(state: &mut [u8], out: &mut [u8]) -> Result<Option<usize>, SlotRefusal>
-    ensures { Sends (slot_of state.old out.old) result state.new out.new }
-{
-    match state.as_mut_array() {
-        Some(s) => slot_in(s, out),
-        None => Err(SlotRefusal::NoState),
-    }
 }

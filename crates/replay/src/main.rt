@@ -17,5 +17,5 @@ fn main(rt: HostRuntime) {
     let mut gun = Gun::new();
     // Done, as the state has its size.
     let _ = gun.power_up(START);
-    log::replay(&rt, &mut rt.stdin(), &mut gun);
+    log::replay(&mut rt.stdin(), &mut gun);
 }

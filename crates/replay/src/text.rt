@@ -8,7 +8,10 @@ fn put_byte(byte: u8, out: &mut [u8], at: usize)
     requires { at + 2 ≤ length out.old }
     ensures { out.new ≡ sets out.old at (pair_of byte) }
 {
-    out[at..at + 2].copy_from_slice(&digits::pair(byte));
+    // Stored one by one: as a slice they are one number of two bytes, and the loop over them takes a byte a turn.
+    let [high, low] = digits::pair(byte);
+    out[at] = high;
+    out[at + 1] = low;
 }
 
 // A space and two digits for each byte, and a line feed.

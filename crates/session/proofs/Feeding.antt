@@ -1,5 +1,5 @@
 -- What the line leaves in the state: the reader's place, its message buffer, and the packet in it. Assumes nothing.
-use Rattle.std.proofs.Common.{Err, ◌≡◌, refl, sym, ap, subst, ◌∙◌, ◌≢◌, false, List, ◌++◌, append-nil, ne_eqb, ℕ, ◌-◌, ◌≤◌, arith, length, set, take, drop, length-drop, take_all, drop-drop, length-take-le, drop-set-lt}
+use Rattle.std.proofs.Common.{Err, ◌≡◌, refl, sym, ap, subst, ◌∙◌, List, ◌++◌, append-nil, ℕ, ◌-◌, ◌≤◌, arith, length, set, take, drop, length-drop, take_all, drop-drop, length-take-le, drop-set-lt}
 use Rattle.std.proofs.Math.Seq.{drop-length, drop-append-add}
 use Rattle.std.proofs.lemmas.List.{drop-append-le, take-append-le}
 use Rattle.line.specs.Message.{longest}
@@ -15,7 +15,7 @@ use Rattle.line.proofs.After.{take_length}
 use Rattle.line.proofs.Sound.{good_where}
 use Rattle.state.specs.Layout.{place_at, count_at, message_at, packet_at, packet_most, size}
 use Rattle.state.specs.Bytes.{block}
-use Rattle.state.specs.State.{consistent, place_of, set_place, message_of, set_message}
+use Rattle.state.specs.State.{place_of, set_place, message_of, set_message}
 use Rattle.session.specs.Receive.{Receives, only, dropped_as, meant, read_on, fed_of, received_by}
 use Rattle.words.specs.Values.{Received}
 use Rattle.state.proofs.Sets.{block_length}
@@ -89,11 +89,6 @@ pub by_fault : (s cal meas : List ℕ) (f : Fed) (fault : Fault) (r : Received) 
     → Receives (received_by f s cal meas) r t cal
 by_fault s cal meas f fault r t e told st =
     by_outcome s cal meas f e (rw (fault_means fault f.message (read_on s f) cal meas) (record { result = told; state = st; memory = refl }))
-
--- bytes of another size are no state
-pub other_size : (s : List ℕ) → length s ≢ size → consistent s ≡ false
-unfolding consistent
-other_size s h = rw (ne_eqb (length s) size h) refl
 
 -- a whole slice that was lent, and what comes back
 pub whole : (s : List ℕ) → take (length s - 0) (drop 0 s) ≡ s

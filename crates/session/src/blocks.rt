@@ -23,7 +23,7 @@ fn copy_few(dst: &mut [u8], at: u32, src: &[u8], from: u32, n: u32)
     requires { (at + n ≤ length dst.old) × (from + n ≤ length src.now) }
     ensures { dst.new ≡ copied dst.old at src.now from n }
 {
-    for i in 0..n {
+    for i in (0..n).rev() {
         dst[at as usize + i as usize] = src[from as usize + i as usize];
     }
 }

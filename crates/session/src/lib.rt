@@ -28,7 +28,7 @@ mod slice;
 // The size of the state that each call is lent.
 pub const STATE_SIZE: usize = state::layout::STATE;
 
-// What is lent as the state, once its size is known.
+// What is lent as the state, once its size is known: taken as the front of two, since an Option of one reference is returned as a pair (asked.rt of lists).
 type State = [u8; STATE_SIZE];
 
 // What became of a slice: the answer to its last byte taken, and how many were.
@@ -55,7 +55,10 @@ pub fn state_size() -> usize
 pub fn power_up(state: &mut [u8], start: u32) -> Result<(), NoState>
     ensures { Powers (power_up_of state.old start) result state.new }
 {
-    let Some(s) = state.as_mut_array::<STATE_SIZE>() else {
+    if state.len() != STATE_SIZE {
+        return Err(NoState);
+    }
+    let Some((s, _rest)) = state.split_first_chunk_mut::<STATE_SIZE>() else {
         return Err(NoState);
     };
     power::write_all(s, start);
@@ -71,12 +74,12 @@ pub fn receive_byte(
 ) -> Result<Heard, NoState>
     ensures { Receives (receive_of state.old cal.old meas.now byte) result state.new cal.new }
 {
-    let Some(s) = state.as_mut_array::<STATE_SIZE>() else {
-        return Err(NoState);
-    };
-    if !is_consistent(s) {
+    if !is_consistent(state) {
         return Err(NoState);
     }
+    let Some((s, _rest)) = state.split_first_chunk_mut::<STATE_SIZE>() else {
+        return Err(NoState);
+    };
     if quiet::quiet(s, byte) {
         return Ok(Heard::Nothing);
     }
@@ -97,12 +100,12 @@ fn counted(n: usize) -> usize
 pub fn receive_bytes(state: &mut [u8], cal: &mut [u8], meas: &[u8], bytes: &[u8]) -> Took
     ensures { ReceivesBytes (receive_bytes_of state.old cal.old meas.now bytes.now) result state.new cal.new }
 {
-    let Some(s) = state.as_mut_array::<STATE_SIZE>() else {
-        return NONE_TAKEN;
-    };
-    if !is_consistent(s) {
+    if !is_consistent(state) {
         return NONE_TAKEN;
     }
+    let Some((s, _rest)) = state.split_first_chunk_mut::<STATE_SIZE>() else {
+        return NONE_TAKEN;
+    };
     let n = counted(bytes.len());
     slice::receive_all(s, cal, meas, &bytes[..n])
 }

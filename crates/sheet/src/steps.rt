@@ -6,7 +6,7 @@ ghost use Rattle.bench.specs.Stored.{stored_in};
 use crate::tool::Tool;
 use crate::wire;
 use bench::Gun;
-use line::MOST;
+use line::{LONGEST, MOST};
 use report::show;
 use state::bytes::{block, get, get16, get32};
 use state::seeds::key_for;
@@ -64,11 +64,12 @@ pub fn slice(bytes: &[u8], expected: &[u8], tool: &mut Tool, gun: &mut Gun) {
 // A slot: the packet that is to come, and the frame that it is to be in.
 pub fn slot(expected: &[u8], frame_expected: &[u8], tool: &mut Tool, gun: &mut Gun) {
     let frame = gun.take_frame();
-    let packet = wire::packet(frame.as_slice());
-    show::print_bytes(packet.as_slice());
-    tool.judge(show::check(packet.as_slice(), expected));
+    let mut message = [0; LONGEST];
+    let packet = wire::packet(frame.as_slice(), &mut message);
+    show::print_bytes(packet);
+    tool.judge(show::check(packet, expected));
     tool.judge(show::on_the_wire(frame.as_slice(), frame_expected));
-    tool.seed = get32(packet.as_slice(), 2);
+    tool.seed = get32(packet, 2);
 }
 
 // UNLOCK: the resource, and the key that the seed in the last answer is to give.

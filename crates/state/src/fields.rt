@@ -170,10 +170,13 @@ pub fn pointer(s: &[u8]) -> Pointer
     };
     let list = at / layout::ALL_ODTS;
     let odt = at % layout::ALL_ODTS;
+    // Asked before the counts are added up: where the list is gone, none is.
+    if pool::list_count(s) <= list {
+        return Pointer::Unset;
+    }
     let entry = get(s, layout::POINTER_ENTRY);
     let odts = pool::odts(s, list as u16);
-    let there = list < pool::list_count(s)
-        && (odt as u16) < odts.count
+    let there = (odt as u16) < odts.count
         && (entry as u16) < pool::entries(s, odts.first + odt as u16).count;
     if there {
         Pointer::At { list, odt, entry }
